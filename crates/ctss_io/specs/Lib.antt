@@ -1,0 +1,4 @@
+pub mod Outside
+pub mod Memory
+pub mod Standard
+pub mod Whole

@@ -1,0 +1,38 @@
+//! The program: the words of its command line, standard input and standard output, handed to the top call.
+#![tactic(auto)]
+
+use ctss_io::{NoMemory, StdSink, StdSource};
+use ctss_top::{ArgList, run_ctss};
+use std::io::ErrorKind;
+use std::process::ExitCode;
+use std::{env, io};
+
+/// The words behind the program's own name. Where one is no text there are none, which is refused.
+fn words(rt: &HostRuntime) -> Result<ArgList, NoMemory> {
+    let mut words = ArgList::new(rt.alloc());
+    match env::args(rt) {
+        Ok(all) => {
+            for word in all.skip(1) {
+                words.add(word.as_str())?;
+            }
+            Ok(words)
+        }
+        Err(fault) => {
+            if fault.kind() == ErrorKind::OutOfMemory {
+                Err(NoMemory)
+            } else {
+                Ok(words)
+            }
+        }
+    }
+}
+
+fn main(rt: HostRuntime) -> ExitCode {
+    let Ok(words) = words(&rt) else {
+        return ExitCode::from(8);
+    };
+    let mut source = StdSource::new(rt.reader());
+    let mut sink = StdSink::new(io::writer(&rt));
+    let outcome = run_ctss(rt.alloc(), &words, &mut source, &mut sink);
+    ExitCode::from(outcome.status)
+}

@@ -1,0 +1,83 @@
+-- What the answers of the top call mean.
+use Rattle.std.specs.Prelude.{◌≡◌, ◌≤◌, ◌<◌, ℕ, ◌+◌, Bool, true, false, nat_eq, nat_le, List, [], ◌∷◌, length, take, Option, Some, None, is_some}
+use Rattle.ctss_types.specs.declared.script.Script.{Script}
+use Rattle.ctss_types.specs.declared.history.Record.{Record}
+use Rattle.ctss_io.specs.Outside.{before, after, IsAtEnd}
+use Rattle.ctss_io.specs.Whole.{GrewByProperPrefix}
+use Rattle.text_model.specs.Words.{Mode, mode_of, words_refused, script_refused}
+use Rattle.text_model.specs.Reading.{script_of, max_bytes}
+use Rattle.text_model.specs.Report.{report_of}
+use Rattle.system_model.specs.Record.{record_of, EachIsAlone}
+use Rattle.ctss_top.specs.declared.outcome.Outcome.{Outcome}
+
+abbrev pub empty_record : Record
+empty_record = record { entries = []; transcripts = []; files = []; common = []; clock = 0 }
+
+abbrev pub bare : ℕ → ℕ → ℕ → Outcome
+bare status card cause = record { status = status; card = card; cause = cause; run = empty_record }
+
+-- The headline. These bytes came, they were all, and they spell a script. Its one record is the run, and its report
+-- has come to the sink. Each account's transcript and files are those of the user's machine alone.
+pub record Replayed (left rest held now : Option (List ℕ)) (result : Outcome) : Type 0 where
+  pub bytes : List ℕ
+  pub script : Script
+  pub came : left ≡ before bytes rest
+  pub whole : IsAtEnd rest
+  pub spelled : script_of bytes ≡ Some script
+  pub run : result.run ≡ record_of script
+  pub report : now ≡ after held (report_of script result.run false)
+  pub alone : EachIsAlone script result.run
+
+-- the cause of a refusal of a whole text: it is too long, or else no canonical script
+abbrev pub refusal_cause : List ℕ → ℕ
+refusal_cause bytes = elim (nat_le (length bytes) max_bytes) [ true ↦ 9 | false ↦ 8 ]
+
+-- these bytes came, they were all or too many, and they are no script
+pub record IsNoScript (left rest : Option (List ℕ)) (bytes : List ℕ) : Type 0 where
+  pub came : left ≡ before bytes rest
+  pub whole : length bytes ≤ max_bytes → IsAtEnd rest
+  pub none : script_of bytes ≡ None
+
+pub record ScriptIsRefused (left rest held now : Option (List ℕ)) (result : Outcome) : Type 0 where
+  pub bytes : List ℕ
+  pub read : IsNoScript left rest bytes
+  pub outcome : result ≡ bare 2 0 (refusal_cause bytes)
+  pub told : now ≡ after held (script_refused 0 (refusal_cause bytes))
+
+pub record WordsAreRefused (words : List (List ℕ)) (left rest held now : Option (List ℕ)) (result : Outcome) : Type 0 where
+  pub lawless : mode_of words ≡ None
+  pub unread : rest ≡ left
+  pub outcome : result ≡ bare 1 0 0
+  pub told : now ≡ after held words_refused
+
+-- a text that was to be written, and the record that goes with it
+pub data IsTextOf (words : List (List ℕ)) (left rest : Option (List ℕ)) (run : Record) (text : List ℕ) : Type 0 where
+  OfWords : mode_of words ≡ None → rest ≡ left → run ≡ empty_record → text ≡ words_refused → IsTextOf words left rest run text
+  OfRefusal : (bytes : List ℕ) → IsNoScript left rest bytes → run ≡ empty_record → text ≡ script_refused 0 (refusal_cause bytes) → IsTextOf words left rest run text
+  OfReport : (bytes : List ℕ) (script : Script) → left ≡ before bytes rest → IsAtEnd rest → script_of bytes ≡ Some script → run ≡ record_of script → text ≡ report_of script run false → IsTextOf words left rest run text
+
+abbrev pub cut_off : Outcome → Outcome
+cut_off o = record { status = 4; card = 0; cause = 0; run = o.run }
+
+-- the sink failed, and holds a part of the text only
+pub record IsCutOff (words : List (List ℕ)) (left rest held now : Option (List ℕ)) (result : Outcome) : Type 0 where
+  pub text : List ℕ
+  pub said : IsTextOf words left rest result.run text
+  pub part : GrewByProperPrefix held text now
+  pub card : result.card ≡ 0
+  pub cause : result.cause ≡ 0
+
+-- nothing was written
+pub record IsSilent (status : ℕ) (held now : Option (List ℕ)) (result : Outcome) : Type 0 where
+  pub outcome : result ≡ bare status 0 0
+  pub same : now ≡ held
+
+-- which statuses there can be where the bytes spell a script, or none
+abbrev pub statuses_for : Option Script → List ℕ
+statuses_for None = 2 ∷ 3 ∷ 4 ∷ 8 ∷ []
+statuses_for (Some script) = 0 ∷ 3 ∷ 4 ∷ 8 ∷ []
+
+-- which statuses there can be, for what the words ask and all bytes that are left
+abbrev pub statuses_of : Option Mode → Option Script → List ℕ
+statuses_of None said = 1 ∷ 4 ∷ []
+statuses_of (Some mode) said = statuses_for said

@@ -1,0 +1,4 @@
+pub mod Line
+pub mod Names
+pub mod Entries
+pub mod Words

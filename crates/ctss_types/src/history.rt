@@ -1,0 +1,137 @@
+//! What a run leaves: transcripts, entries, files.
+use crate::{CommonOp, FileList, FileLists, LineText, Reply, Sequence};
+use std::fmt;
+
+/// One thing on a user's transcript.
+#[derive(Clone, Copy, Debug, PartialEq, Eq)]
+pub enum Item {
+    In(LineText),
+    Out(LineText),
+    Quit,
+    Hang,
+}
+
+/// A transcript.
+pub type Items = Sequence<Item>;
+
+/// One transcript for each account.
+pub type Transcripts = Sequence<Items>;
+
+/// Why a service ended.
+#[derive(Clone, Copy, Debug, PartialEq, Eq)]
+pub enum Cause {
+    Time,
+    Wait,
+    Stop,
+    Size,
+    Preempt,
+    End,
+}
+
+impl fmt::Display for Cause {
+    ghost use Rattle.std.specs.Prelude.{Some};
+    ghost use Rattle.ctss_types.specs.Entries.{cause_text};
+
+    ghost output = { λ c. Some (cause_text c) };
+
+    fn fmt<W: fmt::Write>(&self, f: &mut fmt::Formatter<W>) -> fmt::Result {
+        f.write_str(match self {
+            Cause::Time => "TIME",
+            Cause::Wait => "WAIT",
+            Cause::Stop => "STOP",
+            Cause::Size => "SIZE",
+            Cause::Preempt => "PREEMPT",
+            Cause::End => "END",
+        })
+    }
+}
+
+/// As what an event was taken.
+#[derive(Clone, Copy, Debug, PartialEq, Eq)]
+pub enum EventKind {
+    Dial,
+    Line,
+    Quit,
+    Hang,
+    Spent,
+}
+
+impl fmt::Display for EventKind {
+    ghost use Rattle.std.specs.Prelude.{Some};
+    ghost use Rattle.ctss_types.specs.Entries.{kind_text};
+
+    ghost output = { λ k. Some (kind_text k) };
+
+    fn fmt<W: fmt::Write>(&self, f: &mut fmt::Formatter<W>) -> fmt::Result {
+        f.write_str(match self {
+            EventKind::Dial => "DIAL",
+            EventKind::Line => "LINE",
+            EventKind::Quit => "QUIT",
+            EventKind::Hang => "HANG",
+            EventKind::Spent => "SPENT",
+        })
+    }
+}
+
+/// An entry of the schedule. Ticks are those at which a thing began; `user` and `own` (own steps) are 0 where the
+/// console had no session; `ran` counts ticks.
+#[derive(Clone, Debug, PartialEq, Eq, Drop)]
+pub enum Entry {
+    Taken {
+        tick: u64,
+        console: u8,
+        kind: EventKind,
+        user: u8,
+        own: u64,
+    },
+    Login {
+        tick: u64,
+        console: u8,
+        user: u8,
+    },
+    Refused {
+        tick: u64,
+        console: u8,
+        cause: u8,
+    },
+    Idle {
+        from: u64,
+        until: u64,
+    },
+    Swap {
+        tick: u64,
+        user: u8,
+        dumped: u8,
+        read: u8,
+        fresh: u8,
+    },
+    Serve {
+        tick: u64,
+        user: u8,
+        level: u8,
+        ran: u64,
+        cause: Cause,
+    },
+    Clock {
+        answer: u64,
+        user: u8,
+    },
+    Common {
+        user: u8,
+        op: CommonOp,
+        reply: Reply,
+    },
+}
+
+/// The schedule.
+pub type Entries = Sequence<Entry>;
+
+/// What a run leaves: the schedule, a transcript and a list of files for each account, the common files, the clock.
+#[derive(Clone, Debug, PartialEq, Eq, Drop)]
+pub struct Record {
+    pub entries: Entries,
+    pub transcripts: Transcripts,
+    pub files: FileLists,
+    pub common: FileList,
+    pub clock: u64,
+}

@@ -1,0 +1,7 @@
+use Rattle.std.proofs.Common.{◌≡◌, ◌≤◌, ℕ}
+use Rattle.ctss_types.specs.declared.session.Waiting.{Waiting}
+use Rattle.level_queues.proofs.Counts.{first_known_if}
+use Rattle.level_queues.proofs.queues.Queues.first.Goals as goal
+
+pub returns-clause-known : goal.returns-clause-known
+returns-clause-known c = first_known_if c.self.inside.wq c.self.inside.quantum c.self.inside.rows c.first_in.result c.self.invariant c.first_in.ensures.value

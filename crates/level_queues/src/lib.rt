@@ -1,0 +1,11 @@
+//! The level queues: nine rows of users, of which the lowest that isn't empty is served from its head.
+#![tactic(auto)]
+
+mod queues;
+mod row;
+
+pub use queues::{Charge, Chosen, Queues};
+pub use row::level_of;
+
+#[cfg(test)]
+mod tests;

@@ -1,0 +1,159 @@
+ghost use Rattle.std.specs.Prelude.{◌≡◌, ◌<◌, ◌≤◌, ◌+◌, ◌*◌, ◌/◌, ◌^◌, ◌++◌, ◌∷◌, [], ℕ, false, map, length, IfSome, set, get_or};
+ghost use Rattle.std.specs.List.{list_any};
+ghost use Rattle.plan_model.specs.Levels.{is_user, is_in, without_user, one_less, first_of, head_of, greatest, level_of_words};
+ghost use Rattle.arrayvec.specs.ArrayVec.{array_vec_len};
+
+use arrayvec::ArrayVec;
+use ctss_types::Waiting;
+use std::marker::Model;
+
+/// A level's users, the next one first. 30 is the most that there are.
+#[derive(Drop)]
+pub(crate) struct Row {
+    items: ArrayVec<Waiting, 31>,
+}
+
+impl Model for Row {
+    ghost use Rattle.std.specs.Prelude.{List};
+    ghost use Rattle.ctss_types.specs.declared.session.Waiting.{Waiting};
+
+    ghost Value = { List Waiting };
+
+    ghost view = { λ r. r.items.items };
+}
+
+impl Row {
+    pub(crate) fn new() -> Row
+        ensures { result ≡ [] }
+    {
+        Row {
+            items: ArrayVec::new(),
+        }
+    }
+
+    pub(crate) fn add(&mut self, waiting: Waiting)
+        requires { length self.old < 31 }
+        ensures { self.new ≡ self.old ++ waiting ∷ [] }
+    {
+        self.items.push(waiting);
+    }
+
+    pub(crate) fn has(&self, user: u8) -> bool
+        ensures { result ≡ list_any (is_user user) self.now }
+    {
+        self.items
+            .as_slice()
+            .iter()
+            .any(|waiting| waiting.user == user)
+    }
+
+    pub(crate) fn drop_user(&mut self, user: u8)
+        ensures { self.new ≡ without_user user self.old }
+    {
+        self.items.retain(|waiting| waiting.user != user);
+    }
+
+    pub(crate) fn tick(&mut self, user: u8)
+        ensures { self.new ≡ map (one_less user) self.old }
+    {
+        tick_each(self.items.as_mut_slice(), user);
+    }
+
+    pub(crate) fn head(&self) -> Option<Waiting>
+        ensures { result ≡ head_of self.now }
+    {
+        self.items.as_slice().first().copied()
+    }
+}
+
+fn tick_one(waiting: &mut Waiting, user: u8)
+    ensures { waiting.new ≡ one_less user waiting.old }
+{
+    if waiting.user == user {
+        waiting.left = waiting.left.saturating_sub(1);
+    }
+}
+
+#[tactic(auto, using(crate::proofs::Counts::over_more))]
+fn tick_each(items: &mut [Waiting], user: u8)
+    ensures { items.new ≡ map (one_less user) items.old }
+{
+    for waiting in items.iter_mut() {
+        tick_one(waiting, user);
+    }
+}
+
+#[tactic(auto, using(crate::proofs::Counts::over_more))]
+pub(crate) fn drop_in_all(rows: &mut [Row], user: u8)
+    ensures { rows.new ≡ map (without_user user) rows.old }
+{
+    for row in rows.iter_mut() {
+        row.drop_user(user);
+    }
+}
+
+#[tactic(auto, using(crate::proofs::Counts::over_more))]
+pub(crate) fn tick_in_all(rows: &mut [Row], user: u8)
+    ensures { rows.new ≡ map (map (one_less user)) rows.old }
+{
+    for row in rows.iter_mut() {
+        row.tick(user);
+    }
+}
+
+pub(crate) fn has_in_any(rows: &[Row], user: u8) -> bool
+    ensures { result ≡ is_in user rows.now }
+{
+    for row in rows {
+        if row.has(user) {
+            return true;
+        }
+    }
+    false
+}
+
+pub(crate) fn first_in(rows: &[Row]) -> Option<(u8, Waiting)>
+    requires { length rows.now ≤ 9 }
+    ensures value { result ≡ first_of 0 rows.now }
+    ensures small { IfSome result (λ x. x.0 ≤ 8) }
+{
+    for level in 0..rows.len() {
+        if let Some(waiting) = rows[level].head() {
+            return Some((level as u8, waiting));
+        }
+    }
+    None
+}
+
+pub(crate) fn add_in(rows: &mut [Row], level: u8, waiting: Waiting)
+    requires within { level < length rows.old }
+    requires room { length (get_or rows.old level []) < 31 }
+    ensures { rows.new ≡ set rows.old level (get_or rows.old level [] ++ waiting ∷ []) }
+{
+    let row = &mut rows[level as usize];
+    row.add(waiting);
+}
+
+/// The greatest level of at most 8 whose power of two is no more.
+#[tactic(auto, using(crate::proofs::Greatest::steps))]
+fn greatest_of(n: u32) -> u8
+    ensures value { result ≡ greatest 8 n }
+    ensures small { result ≤ 8 }
+{
+    let mut level = 8;
+    'levels: while level > 0 && 1u32 << level > n {
+        level -= 1;
+    }
+    level
+}
+
+/// The level at which a program of so many blocks of 256 words enters, where a level counts `wq` words.
+#[tactic(auto, unfolding(plan_model::specs::Levels::level_of_words))]
+pub fn level_of(blocks: u8, wq: u32) -> u8
+    requires few { blocks ≤ 128 }
+    requires some { 1 ≤ wq }
+    ensures value { result ≡ level_of_words wq (256 * blocks) }
+    ensures small { result ≤ 8 }
+{
+    greatest_of(256 * blocks as u32 / wq + 1)
+}

@@ -1,0 +1,26 @@
+-- What the fields of a medium in memory stand for.
+use Rattle.std.specs.Prelude.{◌^◌, ◌<◌, length}
+use Rattle.std.specs.List.{All}
+use Rattle.medium.specs.Rows.{items_of, IsRow}
+use Rattle.medium.specs.Damages.{IsDamage}
+use Rattle.medium.specs.MediumState.{MediumState}
+use Rattle.medium.specs.declared.memory.MemoryMedium.TheInside.{Inside}
+
+-- the fields as a state
+abbrev pub medium_state : Inside → MediumState
+medium_state m = record {
+  rows = items_of m.rows.items;
+  words_each = m.log.words_each;
+  fails = m.fails.items;
+  damages = m.damages.items;
+  call_count = m.call_count;
+  read_count = m.read_count;
+  fault_count = m.fault_count;
+  calls = m.log.calls;
+}
+
+-- each record has its words, there are no more records than a u16 numbers, and the damages lie in a record
+pub record IsMedium (m : Inside) : Type 0 where
+  pub rows : All (λ row. IsRow m.log.words_each row) (items_of m.rows.items)
+  pub count : length m.rows.items < 2 ^ 16
+  pub damages : All (λ d. IsDamage m.log.words_each d) m.damages.items

@@ -1,0 +1,12 @@
+//! A medium of numbered records of words, as a drum or a disk is, and one in memory.
+#![tactic(auto)]
+
+mod log;
+mod medium;
+mod memory;
+
+pub use medium::{Failed, Medium};
+pub use memory::{Damage, MemoryMedium};
+
+#[cfg(test)]
+mod tests;

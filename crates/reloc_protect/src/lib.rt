@@ -1,0 +1,108 @@
+//! The relocation and protection registers through which a program reaches its blocks of core.
+#![tactic(auto)]
+
+ghost use Rattle.std.specs.Prelude.{◌≡◌, ◌+◌, ◌*◌, ◌/◌, ◌<◌, ◌≤◌, ◌↔◌, IsOk, IfOk};
+ghost use Rattle.reloc_protect.specs.Window.{IsLegal, HasBlock, relocated_address};
+
+use std::error::Error;
+use std::fmt;
+use std::marker::Model;
+
+const BLOCK_WORDS: u16 = 256;
+
+const CORE_WORDS: u16 = 32768;
+
+/// An address outside the program's blocks.
+#[derive(Clone, Copy, Debug, PartialEq, Eq)]
+pub struct Outside;
+
+impl fmt::Display for Outside {
+    ghost use Rattle.std.specs.Prelude.{codes, Some};
+
+    ghost output = { λ _. Some (codes "address outside the program") };
+
+    fn fmt<W: fmt::Write>(&self, f: &mut fmt::Formatter<W>) -> fmt::Result {
+        f.write_str("address outside the program")
+    }
+}
+
+impl Error for Outside {}
+
+/// The blocks of 256 words that a program may reach, in a core of 128 blocks: `blocks` of them, from
+/// block `base` on. In clauses it is the record of the two.
+#[derive(Clone, Copy, Debug, PartialEq, Eq)]
+pub struct Registers {
+    base: u8,
+    blocks: u8,
+}
+
+impl Model for Registers {
+    ghost use Rattle.std.specs.Prelude.{◌+◌, ◌≤◌};
+    ghost use Rattle.reloc_protect.specs.Window.{Window};
+
+    ghost Value = { Window };
+
+    ghost view = { λ r. record { base = r.base; blocks = r.blocks } };
+
+    ghost invariant = { λ r. r.base + r.blocks ≤ 128 };
+
+    ghost inverse = { λ w. record { base = w.base; blocks = w.blocks } };
+}
+
+impl Registers {
+    /// Registers that open `blocks` blocks from block `base` on.
+    pub fn new(base: u8, blocks: u8) -> Registers
+        requires { base + blocks ≤ 128 }
+        ensures { result ≡ record { base = base; blocks = blocks } }
+    {
+        Registers { base, blocks }
+    }
+
+    /// The word of core that stands for one of the program's addresses.
+    ///
+    /// The address is relocated first, round the end of core, and then its block is tested. No
+    /// address past the program's end comes round to one of its words in that way.
+    pub fn map(&self, address: u16) -> Result<u16, Outside>
+        requires { address < 32768 }
+        ensures legal { IsOk result ↔ IsLegal address self.now.blocks }
+        ensures block { IsOk result ↔ HasBlock self.now (relocated_address self.now address / 256) }
+        ensures value { IfOk result (λ at. at ≡ address + 256 * self.now.base) }
+    {
+        let at = (address + BLOCK_WORDS * u16::from(self.base)) % CORE_WORDS;
+        let block = at / BLOCK_WORDS;
+        let first = u16::from(self.base);
+        if first <= block && block < first + u16::from(self.blocks) {
+            Ok(at)
+        } else {
+            Err(Outside)
+        }
+    }
+}
+
+#[cfg(test)]
+mod tests {
+    use super::*;
+
+    #[test]
+    fn maps_addresses(rt: HostRuntime) {
+        let last = Registers::new(127, 1);
+        assert_eq!(rt; last.map(0), Ok(32512));
+        assert_eq!(rt; last.map(255), Ok(32767));
+        // Relocated, this address is word 0 of core.
+        assert_eq!(rt; last.map(256), Err(Outside));
+        assert_eq!(rt; last.map(32767), Err(Outside));
+
+        let middle = Registers::new(3, 2);
+        assert_eq!(rt; middle.map(0), Ok(768));
+        assert_eq!(rt; middle.map(511), Ok(1279));
+        assert_eq!(rt; middle.map(512), Err(Outside));
+
+        let whole = Registers::new(0, 128);
+        assert_eq!(rt; whole.map(32767), Ok(32767));
+
+        let none = Registers::new(128, 0);
+        assert_eq!(rt; none.map(0), Err(Outside));
+        assert!(rt; none != Registers::new(0, 0));
+        assert!(rt; middle == Registers::new(3, 2));
+    }
+}

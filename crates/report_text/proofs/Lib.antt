@@ -1,0 +1,3 @@
+pub mod FirstCard
+pub mod Right
+pub mod Lists

@@ -1,0 +1,2 @@
+pub mod LoginWords
+pub mod Starts

@@ -1,0 +1,410 @@
+//! Events: what each of them does at each console.
+ghost use Rattle.std.specs.Prelude.{◌≡◌, ◌<◌, ◌≤◌, [], length, option_to_list, OnOk, OnErr};
+ghost use Rattle.time_sharing.specs.System.{Off, On, Password, Session as Inside, Types};
+ghost use Rattle.plan_model.specs.Levels.{woken, command_blocks};
+ghost use Rattle.system_model.specs.Run.{taken, at_console};
+ghost use Rattle.system_model.specs.Cases.{quit_taken, hang_taken, spent_taken, line_taken, heard, login_taken, dial_taken, user_at};
+ghost use Rattle.system_model.specs.Sound.{Sound, HasSeat};
+ghost use Rattle.supervisor.specs.Seen.{seen};
+
+use crate::login::{asked, check};
+use crate::notes::{idle_note, leave_consoles, note, note_some, service_left, stop_note};
+use crate::state::Core;
+use ctss_types::{Console, Entry, Event, EventKind, LineText, NoMemory, Timed, UserNo};
+use level_queues::Queues;
+use user_session::Put;
+use word36::Word;
+
+/// A command waits: its user enters, unless it stands in the queues.
+#[tactic(auto, unfolding(plan_model::specs::Levels::woken))]
+fn wake(queues: &mut Queues, user: UserNo)
+    ensures { queues.new ≡ woken command_blocks user queues.old }
+{
+    if !queues.holds(user) {
+        queues.enter(user, 4);
+    }
+}
+
+impl Core {
+    /// An event that no session hears.
+    #[tactic(auto, unfolding(system_model::specs::Cases::heard))]
+    fn take_heard(
+        &mut self,
+        console: u8,
+        kind: EventKind,
+        now: Console,
+        more: Option<Entry>,
+    ) -> Result<(), NoMemory>
+        requires seat { 0 < console }
+        requires here { console ≤ length self.old.consoles.items }
+        ensures ok { OnOk result (seen self.new ≡ heard console kind now (option_to_list more) (seen self.old)) }
+        ensures err { OnErr result (seen self.new ≡ seen self.old) }
+    {
+        self.entries.reserve(3)?;
+        let _ = self.events.pop_front();
+        self.consoles[console as usize - 1] = now;
+        note_some(&mut self.entries, idle_note(self.idling, self.clock));
+        note(
+            &mut self.entries,
+            Entry::Taken {
+                tick: self.clock,
+                console,
+                kind,
+                user: 0,
+                own: 0,
+            },
+        );
+        note_some(&mut self.entries, more);
+        self.idling = None;
+        Ok(())
+    }
+
+    /// A session begins.
+    #[tactic(auto, unfolding(system_model::specs::Cases::login_taken))]
+    fn take_login(&mut self, console: u8, user: u8) -> Result<(), NoMemory>
+        requires some { 0 < user }
+        requires within { user ≤ length self.old.sessions.items }
+        requires seat { 0 < console }
+        requires here { console ≤ length self.old.consoles.items }
+        ensures ok { OnOk result (seen self.new ≡ login_taken console user (seen self.old)) }
+        ensures err { OnErr result (seen self.new ≡ seen self.old) }
+    {
+        self.entries.reserve(3)?;
+        let session = &mut self.sessions[user as usize - 1];
+        session.login()?;
+        let _ = self.events.pop_front();
+        self.consoles[console as usize - 1] = Console::Session(user);
+        note_some(&mut self.entries, idle_note(self.idling, self.clock));
+        note(
+            &mut self.entries,
+            Entry::Taken {
+                tick: self.clock,
+                console,
+                kind: EventKind::Line,
+                user: 0,
+                own: 0,
+            },
+        );
+        note(
+            &mut self.entries,
+            Entry::Login {
+                tick: self.clock,
+                console,
+                user,
+            },
+        );
+        self.idling = None;
+        Ok(())
+    }
+
+    /// A dial from a session.
+    #[tactic(auto, unfolding(system_model::specs::Cases::dial_taken))]
+    fn take_dial(&mut self, console: u8, user: u8) -> Result<(), NoMemory>
+        requires some { 0 < user }
+        requires within { user ≤ length self.old.sessions.items }
+        ensures ok { OnOk result (seen self.new ≡ dial_taken console user (seen self.old)) }
+        ensures err { OnErr result (seen self.new ≡ seen self.old) }
+    {
+        self.entries.reserve(2)?;
+        let session = &self.sessions[user as usize - 1];
+        let own = session.own();
+        let _ = self.events.pop_front();
+        note_some(&mut self.entries, idle_note(self.idling, self.clock));
+        note(
+            &mut self.entries,
+            Entry::Taken {
+                tick: self.clock,
+                console,
+                kind: EventKind::Dial,
+                user,
+                own,
+            },
+        );
+        self.idling = None;
+        Ok(())
+    }
+
+    /// A line that a session keeps.
+    #[tactic(auto, unfolding(system_model::specs::Cases::line_taken))]
+    fn take_line(&mut self, console: u8, user: u8, text: LineText) -> Result<(), NoMemory>
+        requires some { 0 < user }
+        requires within { user ≤ length self.old.sessions.items }
+        requires few { length self.old.sessions.items ≤ 30 }
+        requires room { (user_at user self.old.sessions.items).lines < 2048 }
+        ensures ok { OnOk result (seen self.new ≡ line_taken console user text (seen self.old)) }
+        ensures err { OnErr result (seen self.new ≡ seen self.old) }
+    {
+        self.entries.reserve(2)?;
+        let session = &mut self.sessions[user as usize - 1];
+        let own = session.own();
+        let _ = session.line(text);
+        wake(&mut self.queues, UserNo::of(user));
+        let _ = self.events.pop_front();
+        note_some(&mut self.entries, idle_note(self.idling, self.clock));
+        note(
+            &mut self.entries,
+            Entry::Taken {
+                tick: self.clock,
+                console,
+                kind: EventKind::Line,
+                user,
+                own,
+            },
+        );
+        self.idling = None;
+        Ok(())
+    }
+
+    /// A quit in a session.
+    #[tactic(auto, unfolding(system_model::specs::Cases::quit_taken))]
+    fn take_quit(&mut self, console: u8, user: u8) -> Result<(), NoMemory>
+        requires some { 0 < user }
+        requires within { user ≤ length self.old.sessions.items }
+        requires few { length self.old.sessions.items ≤ 30 }
+        ensures ok { OnOk result (seen self.new ≡ quit_taken console user (seen self.old)) }
+        ensures err { OnErr result (seen self.new ≡ seen self.old) }
+    {
+        self.entries.reserve(3)?;
+        let session = &mut self.sessions[user as usize - 1];
+        let own = session.own();
+        session.quit()?;
+        self.queues.drop_user(UserNo::of(user));
+        let _ = self.events.pop_front();
+        note_some(&mut self.entries, idle_note(self.idling, self.clock));
+        note_some(&mut self.entries, stop_note(self.service, user));
+        note(
+            &mut self.entries,
+            Entry::Taken {
+                tick: self.clock,
+                console,
+                kind: EventKind::Quit,
+                user,
+                own,
+            },
+        );
+        self.idling = None;
+        self.service = service_left(self.service, user);
+        Ok(())
+    }
+
+    /// A hang in a session.
+    #[tactic(auto, unfolding(system_model::specs::Cases::hang_taken))]
+    fn take_hang(&mut self, console: u8, user: u8) -> Result<(), NoMemory>
+        requires some { 0 < user }
+        requires within { user ≤ length self.old.sessions.items }
+        requires few { length self.old.sessions.items ≤ 30 }
+        requires seat { 0 < console }
+        requires here { console ≤ length self.old.consoles.items }
+        ensures ok { OnOk result (seen self.new ≡ hang_taken console user (seen self.old)) }
+        ensures err { OnErr result (seen self.new ≡ seen self.old) }
+    {
+        self.entries.reserve(3)?;
+        let session = &mut self.sessions[user as usize - 1];
+        let own = session.own();
+        session.hang()?;
+        self.queues.drop_user(UserNo::of(user));
+        let _ = self.events.pop_front();
+        leave_consoles(&mut self.consoles, user);
+        self.consoles[console as usize - 1] = Console::Off;
+        note_some(&mut self.entries, idle_note(self.idling, self.clock));
+        note_some(&mut self.entries, stop_note(self.service, user));
+        note(
+            &mut self.entries,
+            Entry::Taken {
+                tick: self.clock,
+                console,
+                kind: EventKind::Hang,
+                user,
+                own,
+            },
+        );
+        self.idling = None;
+        self.service = service_left(self.service, user);
+        Ok(())
+    }
+
+    /// A line too much in a session.
+    #[tactic(auto, unfolding(system_model::specs::Cases::spent_taken))]
+    fn take_spent(&mut self, console: u8, user: u8) -> Result<(), NoMemory>
+        requires some { 0 < user }
+        requires within { user ≤ length self.old.sessions.items }
+        requires few { length self.old.sessions.items ≤ 30 }
+        ensures ok { OnOk result (seen self.new ≡ spent_taken console user (seen self.old)) }
+        ensures err { OnErr result (seen self.new ≡ seen self.old) }
+    {
+        self.entries.reserve(3)?;
+        let session = &mut self.sessions[user as usize - 1];
+        let own = session.own();
+        session.spend()?;
+        self.queues.drop_user(UserNo::of(user));
+        let _ = self.events.pop_front();
+        leave_consoles(&mut self.consoles, user);
+        note_some(&mut self.entries, idle_note(self.idling, self.clock));
+        note_some(&mut self.entries, stop_note(self.service, user));
+        note(
+            &mut self.entries,
+            Entry::Taken {
+                tick: self.clock,
+                console,
+                kind: EventKind::Spent,
+                user,
+                own,
+            },
+        );
+        self.idling = None;
+        self.service = service_left(self.service, user);
+        Ok(())
+    }
+
+    #[tactic(auto, using(system_model::proofs::CaseLaws::off_laws))]
+    fn at_off(&mut self, console: u8, event: Event) -> Result<(), NoMemory>
+        requires seat { 0 < console }
+        requires here { console ≤ length self.old.consoles.items }
+        ensures ok { OnOk result (seen self.new ≡ at_console console Off event (seen self.old)) }
+        ensures err { OnErr result (seen self.new ≡ seen self.old) }
+    {
+        match event {
+            Event::Dial => self.take_heard(console, EventKind::Dial, Console::On, None),
+            Event::Line(_) => self.take_heard(console, EventKind::Line, Console::Off, None),
+            Event::Quit => self.take_heard(console, EventKind::Quit, Console::Off, None),
+            Event::Hang => self.take_heard(console, EventKind::Hang, Console::Off, None),
+        }
+    }
+
+    #[tactic(auto, using(system_model::proofs::CaseLaws::on_laws))]
+    fn at_on(&mut self, console: u8, event: Event) -> Result<(), NoMemory>
+        requires seat { 0 < console }
+        requires here { console ≤ length self.old.consoles.items }
+        ensures ok { OnOk result (seen self.new ≡ at_console console On event (seen self.old)) }
+        ensures err { OnErr result (seen self.new ≡ seen self.old) }
+    {
+        match event {
+            Event::Dial => self.take_heard(console, EventKind::Dial, Console::On, None),
+            Event::Line(line) => match asked(&line) {
+                None => self.take_heard(
+                    console,
+                    EventKind::Line,
+                    Console::On,
+                    Some(Entry::Refused {
+                        tick: self.clock,
+                        console,
+                        cause: 1,
+                    }),
+                ),
+                Some(name) => self.take_heard(
+                    console,
+                    EventKind::Line,
+                    Console::Password(name),
+                    None,
+                ),
+            },
+            Event::Quit => self.take_heard(console, EventKind::Quit, Console::On, None),
+            Event::Hang => self.take_heard(console, EventKind::Hang, Console::Off, None),
+        }
+    }
+
+    #[tactic(auto, using(system_model::proofs::CaseLaws::word_laws))]
+    fn at_word(&mut self, console: u8, name: Word, line: LineText) -> Result<(), NoMemory>
+        requires few { length self.old.sessions.items ≤ 30 }
+        requires accounts { length self.old.accounts.items ≤ length self.old.sessions.items }
+        requires seat { 0 < console }
+        requires here { console ≤ length self.old.consoles.items }
+        ensures ok { OnOk result (seen self.new ≡ at_console console (Password name) (Types line) (seen self.old)) }
+        ensures err { OnErr result (seen self.new ≡ seen self.old) }
+    {
+        let Some(user) = check(self.accounts.as_slice(), name, &line) else {
+            return self.take_heard(
+                console,
+                EventKind::Line,
+                Console::On,
+                Some(Entry::Refused {
+                    tick: self.clock,
+                    console,
+                    cause: 1,
+                }),
+            );
+        };
+        let session = &self.sessions[user as usize - 1];
+        if session.is_open() {
+            return self.take_heard(
+                console,
+                EventKind::Line,
+                Console::On,
+                Some(Entry::Refused {
+                    tick: self.clock,
+                    console,
+                    cause: 2,
+                }),
+            );
+        }
+        self.take_login(console, user)
+    }
+
+    #[tactic(auto, using(system_model::proofs::CaseLaws::asked_laws))]
+    fn at_password(&mut self, console: u8, name: Word, event: Event) -> Result<(), NoMemory>
+        requires few { length self.old.sessions.items ≤ 30 }
+        requires accounts { length self.old.accounts.items ≤ length self.old.sessions.items }
+        requires seat { 0 < console }
+        requires here { console ≤ length self.old.consoles.items }
+        ensures ok { OnOk result (seen self.new ≡ at_console console (Password name) event (seen self.old)) }
+        ensures err { OnErr result (seen self.new ≡ seen self.old) }
+    {
+        match event {
+            Event::Dial => self.take_heard(console, EventKind::Dial, Console::Password(name), None),
+            Event::Line(line) => self.at_word(console, name, line),
+            Event::Quit => self.take_heard(console, EventKind::Quit, Console::On, None),
+            Event::Hang => self.take_heard(console, EventKind::Hang, Console::Off, None),
+        }
+    }
+
+    #[tactic(auto, using(system_model::proofs::CaseLaws::in_laws))]
+    fn at_session(&mut self, console: u8, user: u8, event: Event) -> Result<(), NoMemory>
+        requires some { 0 < user }
+        requires within { user ≤ length self.old.sessions.items }
+        requires few { length self.old.sessions.items ≤ 30 }
+        requires seat { 0 < console }
+        requires here { console ≤ length self.old.consoles.items }
+        ensures ok { OnOk result (seen self.new ≡ at_console console (Inside user) event (seen self.old)) }
+        ensures err { OnErr result (seen self.new ≡ seen self.old) }
+    {
+        match event {
+            Event::Dial => self.take_dial(console, user),
+            Event::Line(text) => self.at_line(console, user, text),
+            Event::Quit => self.take_quit(console, user),
+            Event::Hang => self.take_hang(console, user),
+        }
+    }
+
+    #[tactic(auto, using(system_model::proofs::CaseLaws::in_laws))]
+    fn at_line(&mut self, console: u8, user: u8, text: LineText) -> Result<(), NoMemory>
+        requires some { 0 < user }
+        requires within { user ≤ length self.old.sessions.items }
+        requires few { length self.old.sessions.items ≤ 30 }
+        ensures ok { OnOk result (seen self.new ≡ at_console console (Inside user) (Types text) (seen self.old)) }
+        ensures err { OnErr result (seen self.new ≡ seen self.old) }
+    {
+        let session = &self.sessions[user as usize - 1];
+        if session.line_count() < 2048 {
+            self.take_line(console, user, text)
+        } else {
+            self.take_spent(console, user)
+        }
+    }
+
+    /// The event that is due.
+    #[tactic(auto, using(system_model::proofs::CaseLaws::taken_at))]
+    pub(crate) fn take_event(&mut self, e: Timed) -> Result<(), NoMemory>
+        requires sound { Sound (seen self.old) }
+        requires seat { HasSeat e (seen self.old) }
+        ensures ok { OnOk result (seen self.new ≡ taken e (seen self.old)) }
+        ensures err { OnErr result (seen self.new ≡ seen self.old) }
+    {
+        let console = e.console.number();
+        match self.consoles[console as usize - 1] {
+            Console::Off => self.at_off(console, e.event),
+            Console::On => self.at_on(console, e.event),
+            Console::Password(name) => self.at_password(console, name, e.event),
+            Console::Session(user) => self.at_session(console, user, e.event),
+        }
+    }
+}

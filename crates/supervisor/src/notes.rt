@@ -1,0 +1,170 @@
+//! The entries that a step writes, and small parts of the state.
+ghost use Rattle.std.specs.Prelude.{◌≡◌, ◌<◌, ◌≤◌, ◌+◌, ◌-◌, ◌^◌, ◌++◌, ◌∷◌, [], vec_len, vec_capacity, option_to_list};
+ghost use Rattle.time_sharing.specs.System.{without, out_of, cause_of as cause_from, clock_entry, service_entry, service_after as service_behind};
+ghost use Rattle.system_model.specs.Cases.{idle_notes, idle_start, stop_notes, not_served, end_notes};
+
+use ctss_types::{Cause, Console, Ending, Entry, Service};
+
+/// An entry more, where there is room.
+pub(crate) fn note(entries: &mut Vec<Entry>, entry: Entry)
+    requires { vec_len entries.old < vec_capacity entries.old }
+    ensures items { entries.new.items ≡ entries.old.items ++ entry ∷ [] }
+    ensures len { vec_len entries.new ≡ vec_len entries.old + 1 }
+    ensures capacity { vec_capacity entries.old ≤ vec_capacity entries.new }
+{
+    let _ = entries.push(entry);
+}
+
+/// An entry more, if there is one.
+pub(crate) fn note_some(entries: &mut Vec<Entry>, entry: Option<Entry>)
+    requires { vec_len entries.old < vec_capacity entries.old }
+    ensures items { entries.new.items ≡ entries.old.items ++ option_to_list entry }
+    ensures len { vec_len entries.new ≤ vec_len entries.old + 1 }
+    ensures capacity { vec_capacity entries.old ≤ vec_capacity entries.new }
+{
+    if let Some(entry) = entry {
+        note(entries, entry);
+    }
+}
+
+pub(crate) fn idle_note(idling: Option<u64>, now: u64) -> Option<Entry>
+    ensures { option_to_list result ≡ idle_notes idling now }
+{
+    match idling {
+        Some(from) => Some(Entry::Idle { from, until: now }),
+        None => None,
+    }
+}
+
+pub(crate) fn stop_note(service: Option<Service>, user: u8) -> Option<Entry>
+    ensures { option_to_list result ≡ stop_notes service user }
+{
+    match service {
+        Some(v) => {
+            if v.user == user {
+                Some(Entry::Serve {
+                    tick: v.tick,
+                    user: v.user,
+                    level: v.level,
+                    ran: v.ran,
+                    cause: Cause::Stop,
+                })
+            } else {
+                None
+            }
+        }
+        None => None,
+    }
+}
+
+pub(crate) fn end_note(service: Option<Service>) -> Option<Entry>
+    ensures { option_to_list result ≡ end_notes service }
+{
+    match service {
+        Some(v) => Some(Entry::Serve {
+            tick: v.tick,
+            user: v.user,
+            level: v.level,
+            ran: v.ran,
+            cause: Cause::End,
+        }),
+        None => None,
+    }
+}
+
+pub(crate) fn clock_note(asked: bool, now: u64, user: u8) -> Option<Entry>
+    ensures { option_to_list result ≡ clock_entry asked now user }
+{
+    if asked {
+        Some(Entry::Clock { answer: now, user })
+    } else {
+        None
+    }
+}
+
+pub(crate) fn serve_note(v: Service, cause: Option<Cause>) -> Option<Entry>
+    requires { v.ran < 2 ^ 64 - 1 }
+    ensures { option_to_list result ≡ service_entry v cause }
+{
+    match cause {
+        Some(cause) => Some(Entry::Serve {
+            tick: v.tick,
+            user: v.user,
+            level: v.level,
+            ran: v.ran + 1,
+            cause,
+        }),
+        None => None,
+    }
+}
+
+/// The open service, if it isn't the user's.
+pub(crate) fn service_left(service: Option<Service>, user: u8) -> Option<Service>
+    ensures { result ≡ not_served service user }
+{
+    match service {
+        Some(v) => { if v.user == user { None } else { Some(v) } }
+        None => None,
+    }
+}
+
+/// The service after a step of it, if it goes on.
+pub(crate) fn service_after(v: Service, cause: Option<Cause>) -> Option<Service>
+    requires { v.ran < 2 ^ 64 - 1 }
+    ensures { result ≡ service_behind v cause }
+{
+    match cause {
+        Some(_) => None,
+        None => Some(Service {
+            tick: v.tick,
+            user: v.user,
+            level: v.level,
+            ran: v.ran + 1,
+        }),
+    }
+}
+
+fn left_console(console: Console, user: u8) -> Console
+    ensures { result ≡ out_of user console }
+{
+    match console {
+        Console::Session(other) => {
+            if other == user {
+                Console::On
+            } else {
+                Console::Session(other)
+            }
+        }
+        other => other,
+    }
+}
+
+/// The user's session is over.
+pub(crate) fn leave_consoles(consoles: &mut Vec<Console>, user: u8)
+    ensures items { consoles.new.items ≡ without user consoles.old.items }
+    ensures len { vec_len consoles.new ≡ vec_len consoles.old }
+{
+    for i in 0..consoles.len() {
+        consoles[i] = left_console(consoles[i], user);
+    }
+}
+
+pub(crate) fn idle_from(idling: Option<u64>, now: u64) -> u64
+    ensures { result ≡ idle_start idling now }
+{
+    match idling {
+        Some(from) => from,
+        None => now,
+    }
+}
+
+/// Why a service ends behind a step, if it does.
+pub(crate) fn cause_of(ending: Ending, left: bool) -> Option<Cause>
+    ensures { result ≡ cause_from ending left }
+{
+    match ending {
+        Ending::Went => { if left { None } else { Some(Cause::Time) } }
+        Ending::Stopped | Ending::LoggedOut => Some(Cause::Stop),
+        Ending::Resized | Ending::Replaced => Some(Cause::Size),
+    }
+}

@@ -1,0 +1,83 @@
+-- In the record of every script each user is alone: the isolation of machines made of rows, at this product's rows.
+use Rattle.std.proofs.Common.{◌≡◌, ℕ, zero, suc, ◌+◌, ◌-◌, ◌<◌, ◌≤◌, List, [], ◌∷◌, length, map, get_or, refl, sym, ap, ◌∙◌, arith, subst}
+use Rattle.ctss_types.specs.declared.script.Script.{Script}
+use Rattle.ctss_types.specs.declared.script.Account.{Account}
+use Rattle.ctss_types.specs.declared.script.Timed.{Timed}
+use Rattle.ctss_types.specs.declared.file.FileBody.{FileBody}
+use Rattle.ctss_types.specs.declared.file.OwnedFile.{OwnedFile}
+use Rattle.ctss_types.specs.declared.history.Item.{Item}
+use Rattle.time_sharing.specs.Machine.{Machine}
+use Rattle.time_sharing.specs.Rows.{machine}
+use Rattle.time_sharing.specs.Private.{Alone}
+use Rattle.time_sharing.specs.Record as whole
+use Rattle.time_sharing.specs.System.{at}
+use Rattle.time_sharing.proofs.Theorem.{isolation}
+use Rattle.time_sharing.proofs.RowsLaws.{rows_laws}
+use Rattle.user_model.specs.Session.{user_rows, first_state, no_account, nobody}
+use Rattle.user_model.specs.User.{User}
+use Rattle.plan_model.specs.Levels.{empty_levels}
+use Rattle.system_model.specs.Round.{round}
+use Rattle.system_model.specs.Run.{Run, run_to, ended, measure}
+use Rattle.system_model.specs.Record.{files_of, users_from, start_of, record_of, first_of_user, alone_of, IsAloneIn, EachIsAlone, consoles}
+use Rattle.system_model.specs.Claims.{UsersAreAlone}
+use Rattle.system_model.proofs.CaseLaws.{at_user}
+
+mapped : {X : Type 0} (f : User → X) (users : List User) (k : ℕ) → get_or (map f users) k (f nobody) ≡ f (get_or users k nobody)
+mapped f [] k = refl
+mapped f (p ∷ users) zero = refl
+mapped f (p ∷ users) (suc k) = mapped f users k
+
+users_length : (u : ℕ) (accounts : List Account) (owned : List OwnedFile) → length (users_from u accounts owned) ≡ length accounts
+users_length u [] owned = refl
+users_length u (a ∷ accounts) owned = ap suc (users_length (suc u) accounts owned)
+
+user_is : (k u : ℕ) (accounts : List Account) (owned : List OwnedFile) → k < length accounts →
+    get_or (users_from u accounts owned) k nobody ≡ first_state (get_or accounts k no_account) (files_of (u + k) owned)
+user_is k u [] owned h = absurd (omega arith)
+user_is zero u (a ∷ accounts) owned h = let e : u ≡ u + 0 = omega arith in ap (λ (v : ℕ). first_state a (files_of v owned)) e
+user_is (suc k) u (a ∷ accounts) owned h =
+    let e : suc u + k ≡ u + suc k = omega arith in
+    user_is k (suc u) accounts owned (omega arith) ∙ ap (λ (v : ℕ). first_state (get_or accounts k no_account) (files_of v owned)) e
+
+-- the first state of a user of the script
+first_is : (script : Script) (u : ℕ) → 0 < u → u ≤ length script.accounts → at nobody (users_from 1 script.accounts script.files) u ≡ first_of_user script u
+first_is script u pos within =
+    let e : 1 + (u - 1) ≡ u = omega arith in
+    at_user nobody (users_from 1 script.accounts script.files) u pos
+    ∙ user_is (u - 1) 1 script.accounts script.files (omega arith)
+    ∙ ap (λ (v : ℕ). first_state (get_or script.accounts (u - 1) no_account) (files_of v script.files)) e
+
+pub users_are_alone : UsersAreAlone
+unfolding record_of run_to ended start_of measure
+users_are_alone script u pos within =
+    record {
+      transcript = seen (λ (p : User). p.transcript) refl ∙ sym (ap (λ (a : Alone User). a.state.transcript) came);
+      files = seen (λ (p : User). p.inner.files) refl ∙ sym (ap (λ (a : Alone User). a.state.inner.files) came);
+      clocks = ap (λ (a : Alone User). a.clocks) came;
+      replies = ap (λ (a : Alone User). a.replies) came;
+    }
+  where
+    M : Machine User
+    M = machine user_rows
+
+    firsts : List User
+    firsts = users_from 1 script.accounts script.files
+
+    r : Run
+    r = ended (run_to script.end (start_of script))
+
+    p : User
+    p = at nobody r.system.users u
+
+    inside : u ≤ length firsts
+    inside = omega (arith, users_length 1 script.accounts script.files)
+
+    come : whole.IsAlone M (at nobody firsts u) (Rattle.time_sharing.specs.Feeds.feed_of u script.events r.system.entries) p
+    come = isolation M (rows_laws user_rows) (round script.accounts) u pos firsts [] (empty_levels script.params.wq script.params.quantum) consoles script.end
+        (measure script.end (start_of script)) script.events inside (ap (λ (q : User). q.own) (first_is script u pos within))
+
+    came : alone_of script (record_of script) u ≡ record { state = p; clocks = []; replies = [] }
+    came = ap (λ (q : User). Rattle.time_sharing.specs.Private.alone M q (Rattle.time_sharing.specs.Feeds.feed_of u script.events r.system.entries)) (sym (first_is script u pos within)) ∙ come
+
+    seen : {X : Type 0} (f : User → List X) → f nobody ≡ [] → get_or (map f r.system.users) (u - 1) [] ≡ f p
+    seen {X = X} f none = ap (λ (d : List X). get_or (map f r.system.users) (u - 1) d) (sym none) ∙ mapped f r.system.users (u - 1) ∙ ap f (sym (at_user nobody r.system.users u pos))

@@ -1,0 +1,19 @@
+-- The worked rows by computing.
+use Rattle.std.proofs.Common.{refl}
+use Rattle.std.specs.Fmt.{digits}
+use Rattle.ctss_types.specs.Words.{name_of, text_of_name}
+use Rattle.plan_model.specs.Levels.{greatest, level_of_words, chosen, waits, entered, dropped, ticked, sunk, charged, woken}
+use Rattle.user_model.specs.Texts.{time_text, logged_in_text, logged_out_text, ready_text}
+use Rattle.user_model.specs.Commands.{command_of}
+use Rattle.system_model.specs.Round.{asked, check}
+use Rattle.system_model.specs.Run.{run_to, ended}
+use Rattle.system_model.specs.Record.{record_of, start_of}
+use Rattle.system_model.specs.Rows.{RowOfNobody, RowOfOneUser}
+
+pub row_of_nobody : RowOfNobody
+unfolding record_of run_to ended start_of chosen
+row_of_nobody = refl
+
+pub row_of_one_user : RowOfOneUser
+unfolding record_of run_to ended start_of name_of text_of_name greatest level_of_words chosen waits entered dropped ticked sunk charged woken asked check digits time_text logged_in_text logged_out_text ready_text command_of
+row_of_one_user = refl

@@ -1,0 +1,52 @@
+use Rattle.std.proofs.Common.{◌≡◌, ℕ, suc, ◌+◌, ◌<◌, ◌≤◌, ◌^◌, List, [], ◌∷◌, ◌++◌, Option, Some, None, ap, refl, sym, ◌∙◌, append_assoc, lt-ltb, le-ltb}
+use Rattle.ctss_types.specs.declared.script.Account.{Account}
+use Rattle.time_sharing.specs.Rows.{machine}
+use Rattle.time_sharing.specs.System as theory
+use Rattle.time_sharing.specs.System.{Timed, Service, Serve, AtEnd, Idle}
+use Rattle.time_sharing.specs.Record as whole
+use Rattle.time_sharing.proofs.RepeatLaws as laws
+use Rattle.time_sharing.proofs.Ending as ending
+use Rattle.user_model.specs.Session.{user_rows, nobody}
+use Rattle.system_model.specs.Round.{round}
+use Rattle.system_model.specs.Run.{Run, State, next, run_to, measure, AfterSteps}
+
+pub ends : (accounts : List Account) → whole.Ends (round accounts)
+ends accounts = record { loaded = λ q u p now. refl; same_choice = λ q u p now. refl }
+
+before : Run → ℕ → State → Rattle.std.specs.Prelude.Bool
+before r limit s = whole.before (machine user_rows) (round r.accounts) limit s
+
+pub measure_next : (limit : ℕ) (r : Run) → r.system.clock < limit → measure limit (next limit r) < measure limit r
+unfolding next measure
+measure_next limit r h = ending.falls (machine user_rows) (round r.accounts) (ends r.accounts) limit r.system (lt-ltb r.system.clock limit h)
+
+pub run_to_next : (limit : ℕ) (r : Run) → r.system.clock < limit → run_to limit (next limit r) ≡ run_to limit r
+unfolding next run_to measure
+run_to_next limit r h = λ i. record r {
+  system =
+      laws.whole-step (whole.before (machine user_rows) (round r.accounts) limit) (theory.next (machine user_rows) (round r.accounts) limit) (whole.measure (machine user_rows) (round r.accounts) limit) (ending.falls (machine user_rows) (round r.accounts) (ends r.accounts) limit) r.system (lt-ltb r.system.clock limit h) i;
+}
+
+pub run_to_done : (limit : ℕ) (r : Run) → limit ≤ r.system.clock → run_to limit r ≡ r
+unfolding run_to measure
+run_to_done limit r h = λ i. record r {
+  system =
+      laws.whole-done (whole.before (machine user_rows) (round r.accounts) limit) (theory.next (machine user_rows) (round r.accounts) limit) (whole.measure (machine user_rows) (round r.accounts) limit) (ending.falls (machine user_rows) (round r.accounts) (ends r.accounts) limit) r.system (le-ltb r.system.clock limit h) i;
+}
+
+pub after_next : (limit : ℕ) (old r : Run) → AfterSteps limit old r → r.system.clock < limit → AfterSteps limit old (next limit r)
+unfolding next AfterSteps
+after_next limit old r h up = (
+  suc h.0,
+  ap (next limit) h.1 ∙ (λ i. record old {
+    system = sym (laws.repeat-last (whole.before (machine user_rows) (round old.accounts) limit) (theory.next (machine user_rows) (round old.accounts) limit) (whole.measure (machine user_rows) (round old.accounts) limit) (ending.falls (machine user_rows) (round old.accounts) (ends old.accounts) limit) h.0 old.system
+        (ap (λ (q : Run). whole.before (machine user_rows) (round old.accounts) limit q.system) (sym h.1) ∙ lt-ltb r.system.clock limit up)) i;
+  }),
+)
+
+pub after_none : (limit : ℕ) (r : Run) → AfterSteps limit r r
+unfolding AfterSteps
+after_none limit r = (0, refl)
+
+-- what the loop of a run wants
+pub ruleset run_laws = (measure_next, run_to_next, run_to_done, after_next, after_none)

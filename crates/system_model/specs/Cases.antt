@@ -1,0 +1,153 @@
+-- Each case of a step, field by field.
+use Rattle.std.specs.Prelude.{ℕ, suc, ◌+◌, ◌-◌, Bool, true, false, if◌then◌else◌, nat_eq, List, [], ◌∷◌, ◌++◌, Option, Some, None, drop, set, get_or}
+use Rattle.time_sharing.specs.Machine.{Line, CutKind, Quit, Hang, Spent, Ending}
+use Rattle.time_sharing.specs.Rows.{machine}
+use Rattle.time_sharing.specs.System.{SystemState, Timed, Service, Console, Session, Entry, Taken, Login, Idle, Serve, EventKind, LineTaken, DialTaken, kind_of, Cause, Stop, Wait, AtEnd, without, Off, consoles_after, cause_of, service_after, service_entry, clock_entry, next_tick}
+use Rattle.user_model.specs.Session.{user_rows, nobody}
+use Rattle.user_model.specs.User.{User, typed, opened, cut, can_step, step, ending, asks_clock}
+use Rattle.plan_model.specs.Levels.{Levels, chosen, has_time, charged, dropped, woken, command_blocks}
+use Rattle.time_sharing.specs.System as theory
+use Rattle.system_model.specs.Round.{round}
+use Rattle.system_model.specs.Run.{Run, State}
+
+abbrev pub user_at : ℕ → List User → User
+user_at u users = get_or users (u - 1) nobody
+
+abbrev pub with_user : ℕ → User → List User → List User
+with_user u p users = set users (u - 1) p
+
+abbrev pub idle_notes : Option ℕ → ℕ → List Entry
+idle_notes None now = []
+idle_notes (Some from) now = Idle from now ∷ []
+
+-- from where idling began
+abbrev pub idle_start : Option ℕ → ℕ → ℕ
+idle_start None now = now
+idle_start (Some from) now = from
+
+abbrev pub stop_notes : Option Service → ℕ → List Entry
+stop_notes None u = []
+stop_notes (Some v) u = if nat_eq v.user u then Serve v.tick v.user v.level v.ran Stop ∷ [] else []
+
+abbrev pub not_served : Option Service → ℕ → Option Service
+not_served None u = None
+not_served (Some v) u = if nat_eq v.user u then None else Some v
+
+-- an event that no session hears
+unfoldable pub heard : ℕ → EventKind → Console → List Entry → Run → Run
+heard c kind now more r =
+    record r {
+      system = record r.system {
+        events = drop 1 r.system.events;
+        idling = None;
+        consoles = set r.system.consoles (c - 1) now;
+        entries = r.system.entries ++ (idle_notes r.system.idling r.system.clock ++ Taken r.system.clock c kind 0 0 ∷ more);
+      };
+    }
+
+-- a line in a session
+unfoldable pub line_taken : ℕ → ℕ → Line → Run → Run
+line_taken c u l r =
+    record r {
+      system = record r.system {
+        users = with_user u (typed l (user_at u r.system.users)) r.system.users;
+        plan = woken command_blocks u r.system.plan;
+        events = drop 1 r.system.events;
+        idling = None;
+        entries = r.system.entries ++ (idle_notes r.system.idling r.system.clock ++ Taken r.system.clock c LineTaken u (user_at u r.system.users).own ∷ []);
+      };
+    }
+
+-- a hang, or a line too much
+abbrev pub cut_taken : CutKind → ℕ → ℕ → List Console → Run → Run
+cut_taken kind c u consoles r =
+    record r {
+      system = record r.system {
+        users = with_user u (cut kind (user_at u r.system.users)) r.system.users;
+        plan = dropped u r.system.plan;
+        consoles = consoles;
+        events = drop 1 r.system.events;
+        idling = None;
+        service = not_served r.system.service u;
+        entries = r.system.entries ++ (idle_notes r.system.idling r.system.clock ++ (stop_notes r.system.service u ++ Taken r.system.clock c (kind_of kind) u (user_at u r.system.users).own ∷ []));
+      };
+    }
+
+unfoldable pub hang_taken : ℕ → ℕ → Run → Run
+hang_taken c u r = cut_taken Hang c u (set (without u r.system.consoles) (c - 1) Off) r
+
+unfoldable pub spent_taken : ℕ → ℕ → Run → Run
+spent_taken c u r = cut_taken Spent c u (without u r.system.consoles) r
+
+-- a quit in a session
+unfoldable pub quit_taken : ℕ → ℕ → Run → Run
+quit_taken c u r = cut_taken Quit c u r.system.consoles r
+
+-- a session begins
+unfoldable pub login_taken : ℕ → ℕ → Run → Run
+login_taken c u r =
+    record r {
+      system = record r.system {
+        users = with_user u (opened (user_at u r.system.users)) r.system.users;
+        events = drop 1 r.system.events;
+        idling = None;
+        consoles = set r.system.consoles (c - 1) (Session u);
+        entries = r.system.entries ++ (idle_notes r.system.idling r.system.clock ++ Taken r.system.clock c LineTaken 0 0 ∷ Login r.system.clock c u ∷ []);
+      };
+    }
+
+-- a dial from a session
+unfoldable pub dial_taken : ℕ → ℕ → Run → Run
+dial_taken c u r =
+    record r {
+      system = record r.system {
+        events = drop 1 r.system.events;
+        idling = None;
+        entries = r.system.entries ++ (idle_notes r.system.idling r.system.clock ++ Taken r.system.clock c DialTaken u (user_at u r.system.users).own ∷ []);
+      };
+    }
+
+unfoldable pub idled : ℕ → Run → Run
+idled limit r = record r { system = record r.system { clock = next_tick limit r.system.events; idling = Some (idle_start r.system.idling r.system.clock) } }
+
+-- a service ends with no step
+unfoldable pub served : Cause → Service → Run → Run
+served cause v r = record r { system = record r.system { service = None; entries = r.system.entries ++ Serve v.tick v.user v.level v.ran cause ∷ [] } }
+
+-- a user step that ends a service by this cause, if any
+abbrev pub stepped_by : Option Cause → Service → Run → Run
+stepped_by cause v r =
+    let p = user_at v.user r.system.users in
+    record r {
+      system = record r.system {
+        users = with_user v.user (step r.system.clock p) r.system.users;
+        plan = theory.plan_after (machine user_rows) (round r.accounts) (charged v.user r.system.plan) v.user cause (step r.system.clock p) (suc r.system.clock);
+        consoles = consoles_after (ending r.system.clock p) v.user r.system.consoles;
+        clock = suc r.system.clock;
+        service = service_after v cause;
+        entries = r.system.entries ++ (clock_entry (asks_clock p) r.system.clock v.user ++ service_entry v cause);
+      };
+    }
+
+unfoldable pub stepped : Service → Run → Run
+stepped v r = stepped_by (cause_of (ending r.system.clock (user_at v.user r.system.users)) (has_time r.system.plan)) v r
+
+-- a chosen user that can't step
+unfoldable pub waited : Service → Run → Run
+waited v r =
+    record r {
+      system = record r.system {
+        plan = dropped v.user (charged v.user r.system.plan);
+        clock = suc r.system.clock;
+        service = None;
+        entries = r.system.entries ++ Serve v.tick v.user v.level (suc v.ran) Wait ∷ [];
+      };
+    }
+
+abbrev pub end_notes : Option Service → List Entry
+end_notes None = []
+end_notes (Some v) = Serve v.tick v.user v.level v.ran AtEnd ∷ []
+
+-- the end of a record
+unfoldable pub closed : Run → Run
+closed r = record r { system = record r.system { service = None; idling = None; entries = r.system.entries ++ (end_notes r.system.service ++ idle_notes r.system.idling r.system.clock) } }

@@ -1,0 +1,7 @@
+pub mod Round
+pub mod Run
+pub mod Cases
+pub mod Sound
+pub mod Record
+pub mod Claims
+pub mod Rows

@@ -1,0 +1,44 @@
+-- Two worked rows: a script without users, and one user that logs in, gives a password and logs out.
+use Rattle.std.specs.Prelude.{◌≡◌, List, [], ◌∷◌, codes}
+use Rattle.ctss_types.specs.Words.{name_of}
+use Rattle.ctss_types.specs.declared.script.Script.{Script}
+use Rattle.ctss_types.specs.declared.script.Params.{Params}
+use Rattle.ctss_types.specs.declared.script.Account.{Account}
+use Rattle.ctss_types.specs.declared.script.Timed.{Timed}
+use Rattle.ctss_types.specs.declared.script.Event.TheVariants as event
+use Rattle.ctss_types.specs.declared.history.Record.{Record}
+use Rattle.ctss_types.specs.declared.history.Item.TheVariants as item
+use Rattle.ctss_types.specs.declared.history.EventKind.TheVariants as kind
+use Rattle.ctss_types.specs.declared.history.Cause.TheVariants as cause
+use Rattle.ctss_types.specs.declared.history.Entry.TheVariants.{Taken, Login, Idle, Serve, Clock}
+use Rattle.system_model.specs.Record.{record_of}
+
+abbrev pub empty_script : Script
+empty_script =
+    record { params = record { wq = 1024; quantum = 100; swap = 10; drum = 0; disk = 0; common = 0 }; accounts = []; files = []; events = []; end = 0 }
+
+abbrev pub RowOfNobody : Type 0
+RowOfNobody = record_of empty_script ≡ record { entries = []; transcripts = []; files = []; common = []; clock = 0 }
+
+abbrev pub one_user : Script
+one_user =
+    record {
+      params = record { wq = 1024; quantum = 100; swap = 10; drum = 8; disk = 20; common = 5 };
+      accounts = record { name = name_of (codes "ALFA"); password = name_of (codes "SESAME"); blocks = 8; tracks = 10 } ∷ [];
+      files = [];
+      events = record { tick = 0; console = 1; event = event.Dial } ∷ record { tick = 0; console = 1; event = event.Line (codes "LOGIN ALFA") }
+          ∷ record { tick = 0; console = 1; event = event.Line (codes "SESAME") } ∷ record { tick = 20; console = 1; event = event.Line (codes "LOGOUT") } ∷ [];
+      end = 100;
+    }
+
+abbrev pub RowOfOneUser : Type 0
+RowOfOneUser =
+    record_of one_user ≡
+    record {
+      entries = Taken 0 1 kind.Dial 0 0 ∷ Taken 0 1 kind.Line 0 0 ∷ Taken 0 1 kind.Line 0 0 ∷ Login 0 1 1 ∷ Idle 0 20
+          ∷ Taken 20 1 kind.Line 1 0 ∷ Clock 20 1 ∷ Serve 20 1 1 1 cause.Stop ∷ Idle 21 100 ∷ [];
+      transcripts = (item.Out (codes "ALFA LOGGED IN") ∷ item.In (codes "LOGOUT") ∷ item.Out (codes "W 0000.0") ∷ item.Out (codes "ALFA LOGGED OUT") ∷ []) ∷ [];
+      files = [] ∷ [];
+      common = [];
+      clock = 100;
+    }

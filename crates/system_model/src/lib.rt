@@ -1,0 +1,45 @@
+//! The machine of all users as this product has it: what is round the users, the run of a script and its record.
+//!
+//! The definitions stand in `specs/`: `Round` (queues, logins), `Run` (a step and a run, closed, as contracts cite
+//! them), `Cases` (each case of a step field by field), `Sound` (what is true of each state), `Record` (the record of
+//! a script, and each user alone), `Rows` (worked rows). The functions here do nothing: each carries a law.
+#![tactic(auto)]
+
+ghost use Rattle.system_model.specs.Claims.{UsersAreAlone, StepsEnd, RunsInParts, LateEventsWait};
+ghost use Rattle.system_model.specs.Rows.{RowOfNobody, RowOfOneUser};
+
+/// In the record of every script each user's transcript and files are those of the user's machine alone.
+#[tactic(auto, using(crate::proofs::AloneLaws::users_are_alone))]
+pub fn users_are_alone()
+    ensures { UsersAreAlone }
+{}
+
+/// Each step below a limit comes nearer to it, so each run ends.
+#[tactic(auto, using(crate::proofs::PartLaws::steps_end))]
+pub fn steps_end()
+    ensures { StepsEnd }
+{}
+
+/// A run in parts is the whole run.
+#[tactic(auto, using(crate::proofs::PartLaws::runs_in_parts))]
+pub fn runs_in_parts()
+    ensures { RunsInParts }
+{}
+
+/// Events that come late change nothing before them.
+#[tactic(auto, using(crate::proofs::PartLaws::late_events_wait))]
+pub fn late_events_wait()
+    ensures { LateEventsWait }
+{}
+
+/// The record of a script without users.
+#[tactic(auto, using(crate::proofs::RowsComputed::row_of_nobody))]
+pub fn row_of_nobody()
+    ensures { RowOfNobody }
+{}
+
+/// The record of a user that logs in, gives a password and logs out.
+#[tactic(auto, using(crate::proofs::RowsComputed::row_of_one_user))]
+pub fn row_of_one_user()
+    ensures { RowOfOneUser }
+{}

@@ -1,0 +1,5 @@
+pub mod Parts
+pub mod Canonical
+pub mod Reading
+pub mod Report
+pub mod Words

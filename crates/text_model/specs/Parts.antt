@@ -1,0 +1,23 @@
+-- Parts of lines.
+use Rattle.std.specs.Prelude.{ℕ, ◌-◌, List, [], ◌∷◌, ◌++◌, length, replicate}
+use Rattle.std.specs.Fmt.{decimal}
+use Rattle.ctss_types.specs.Words.{text_of_name}
+
+-- a line is ended by LF
+abbrev pub line : List ℕ → List ℕ
+line text = text ++ 10 ∷ []
+
+-- a part behind a blank
+abbrev pub blank : List ℕ → List ℕ
+blank text = 32 ∷ text
+
+abbrev pub number : ℕ → List ℕ
+number n = blank (decimal n)
+
+-- a name as it is written, behind a blank
+abbrev pub name : ℕ → List ℕ
+name word = blank (text_of_name word)
+
+-- a text right in 7 places
+abbrev pub right : List ℕ → List ℕ
+right text = replicate (7 - length text) 32 ++ text

@@ -1,0 +1,102 @@
+-- The report of a script's record.
+use Rattle.std.specs.Prelude.{ℕ, suc, ◌-◌, Bool, if◌then◌else◌, List, [], ◌∷◌, ◌++◌, codes, get_or, length}
+use Rattle.std.specs.List.{flat_map}
+use Rattle.std.specs.Fmt.{decimal}
+use Rattle.bcd48.specs.Words.{characters_of}
+use Rattle.ctss_types.specs.Entries.{cause_text, kind_text}
+use Rattle.ctss_types.specs.declared.script.Script.{Script}
+use Rattle.ctss_types.specs.declared.script.Account.{Account}
+use Rattle.ctss_types.specs.declared.file.FileBody.{FileBody}
+use Rattle.ctss_types.specs.declared.file.CommonOp.{CommonOp}
+use Rattle.ctss_types.specs.declared.file.CommonOp.TheVariants as op
+use Rattle.ctss_types.specs.declared.file.Reply.{Reply}
+use Rattle.ctss_types.specs.declared.file.Reply.TheVariants as reply
+use Rattle.ctss_types.specs.declared.file.Refusal.{Refusal}
+use Rattle.ctss_types.specs.declared.file.Refusal.TheVariants as refusal
+use Rattle.ctss_types.specs.declared.history.Record.{Record}
+use Rattle.ctss_types.specs.declared.history.Item.{Item}
+use Rattle.ctss_types.specs.declared.history.Item.TheVariants as item
+use Rattle.ctss_types.specs.declared.history.Entry.{Entry}
+use Rattle.ctss_types.specs.declared.history.Entry.TheVariants.{Taken, Login, Refused, Idle, Swap, Serve, Clock, Common}
+use Rattle.text_model.specs.Canonical.{word_cards}
+use Rattle.text_model.specs.Parts.{line, blank, number, name, right}
+
+-- a letter and a text, the letter alone where the text is empty
+abbrev pub labelled : ℕ → List ℕ → List ℕ
+labelled letter [] = letter ∷ []
+labelled letter (c ∷ cs) = letter ∷ 32 ∷ c ∷ cs
+
+abbrev pub item_text : Item → List ℕ
+item_text (item.In text) = line (labelled 73 text)
+item_text (item.Out text) = line (labelled 79 text)
+item_text item.Quit = line (codes "Q")
+item_text item.Hang = line (codes "H")
+
+-- the names in 6 places each, the mode, the number of words in 7 places
+abbrev pub file_line : FileBody → List ℕ
+file_line f =
+    line (characters_of f.name.first ++ (blank (characters_of f.name.second) ++ (number f.mode ++ blank (right (decimal (length f.words))))))
+
+-- a file, and in a dump its words behind it
+abbrev pub file_text : Bool → FileBody → List ℕ
+file_text dump f = file_line f ++ (if dump then word_cards f.words else [])
+
+-- one account: what it saw and its files
+abbrev pub account_text : Bool → ℕ → Account → List Item → List FileBody → List ℕ
+account_text dump n a items files =
+    line (codes "USER" ++ (number n ++ name a.name))
+    ++ (flat_map item_text items
+    ++ (line (codes "FILES" ++ (number n ++ name a.name))
+    ++ flat_map (file_text dump) files))
+
+-- the accounts, numbered from n on
+abbrev pub accounts_text : Bool → ℕ → List Account → Record → List ℕ
+accounts_text dump n [] rec = []
+accounts_text dump n (a ∷ accounts) rec =
+    account_text dump n a (get_or rec.transcripts (n - 1) []) (get_or rec.files (n - 1) []) ++ accounts_text dump (suc n) accounts rec
+
+abbrev pub op_text : CommonOp → List ℕ
+op_text (op.Stat name) = codes "STAT"
+op_text (op.Read name place count) = codes "READ"
+op_text (op.Write name place words) = codes "WRITE"
+op_text (op.Delete name) = codes "DELETE"
+op_text (op.Put name words) = codes "PUT"
+op_text (op.Get name) = codes "GET"
+
+abbrev pub refusal_number : Refusal → ℕ
+refusal_number refusal.NoFile = 1
+refusal_number refusal.ReadOnly = 2
+refusal_number refusal.Quota = 3
+refusal_number refusal.NameUsed = 4
+refusal_number refusal.PastEnd = 5
+refusal_number refusal.BadMode = 6
+refusal_number refusal.BadCount = 7
+
+-- 0, or the number of the refusal
+abbrev pub reply_number : Reply → ℕ
+reply_number reply.Done = 0
+reply_number (reply.Size n) = 0
+reply_number (reply.Words ws) = 0
+reply_number (reply.Refused r) = refusal_number r
+
+abbrev pub entry_text : Entry → List ℕ
+entry_text (Taken tick console kind user own) =
+    line (codes "TAKEN" ++ (number tick ++ (number console ++ (blank (kind_text kind) ++ (number user ++ number own)))))
+entry_text (Login tick console user) = line (codes "LOGIN" ++ (number tick ++ (number console ++ number user)))
+entry_text (Refused tick console cause) = line (codes "REFUSED" ++ (number tick ++ (number console ++ number cause)))
+entry_text (Idle from until) = line (codes "IDLE" ++ (number from ++ number until))
+entry_text (Swap tick user dumped read fresh) =
+    line (codes "SWAP" ++ (number tick ++ (number user ++ (number dumped ++ (number read ++ number fresh)))))
+entry_text (Serve tick user level ran cause) =
+    line (codes "SERVE" ++ (number tick ++ (number user ++ (number level ++ (number ran ++ blank (cause_text cause))))))
+entry_text (Clock answer user) = line (codes "CLOCK" ++ (number answer ++ number user))
+entry_text (Common user op reply) = line (codes "SHARED" ++ (number user ++ (blank (op_text op) ++ number (reply_number reply))))
+
+unfoldable pub report_of : Script → Record → Bool → List ℕ
+report_of script rec dump =
+    accounts_text dump 1 script.accounts rec
+    ++ (line (codes "COMMON")
+    ++ (flat_map (file_text dump) rec.common
+    ++ (line (codes "SCHEDULE")
+    ++ (flat_map entry_text rec.entries
+    ++ line (codes "END" ++ number rec.clock)))))

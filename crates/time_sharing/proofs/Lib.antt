@@ -1,0 +1,15 @@
+pub mod Alone
+pub mod Runs
+pub mod Isolation
+pub mod Tables
+pub mod Steps
+pub mod Theorem
+pub mod RepeatLaws
+pub mod Ending
+pub mod RowsLaws
+pub mod ClaimsProved
+pub mod CommonsLaws
+pub mod Limits
+pub mod Late
+pub mod Lockstep
+pub mod TextsLaws

@@ -1,0 +1,11 @@
+pub mod Machine
+pub mod Rows
+pub mod Private
+pub mod Reach
+pub mod System
+pub mod Feeds
+pub mod Repeat
+pub mod Record
+pub mod Claims
+pub mod Commons
+pub mod Texts

@@ -1,0 +1,63 @@
+-- Whole runs, and what isolation says of them.
+use Rattle.std.specs.Prelude.{◌≡◌, ℕ, ◌+◌, ◌*◌, ◌-◌, ◌≤◌, Bool, true, false, nat_lt, List, [], ◌∷◌, ◌++◌, Option, Some, None, length, replicate}
+use Rattle.time_sharing.specs.Machine.{Machine}
+use Rattle.time_sharing.specs.Private.{alone, Feed}
+use Rattle.time_sharing.specs.System.{SystemState, World, Timed, Service, Off, state_of, next, ended}
+use Rattle.time_sharing.specs.Repeat.{repeat}
+
+module _ {S P F : Type 0} (m : Machine S) (w : World S P F) where
+  abbrev pub is_open : Option Service → ℕ
+  is_open None = 0
+  is_open (Some v) = 1
+
+  abbrev pub as_number : Bool → ℕ
+  as_number false = 0
+  as_number true = 1
+
+  -- whether the chosen user has to be loaded
+  abbrev pub must_load_of : Option ℕ → SystemState S P F → Bool
+  must_load_of None s = false
+  must_load_of (Some u) s = w.must_load s.plan u (state_of m w s u)
+
+  -- the most steps until the clock is at the limit: events, services and loads at one tick, and the ticks
+  abbrev pub at_once : SystemState S P F → ℕ
+  at_once s = 4 * length s.events + (2 * is_open s.service + as_number (must_load_of (w.choose s.plan) s))
+
+  abbrev pub measure : ℕ → SystemState S P F → ℕ
+  measure limit s = (limit - s.clock) * (4 * length s.events + 4) + at_once s
+
+  abbrev pub before : ℕ → SystemState S P F → Bool
+  before limit s = nat_lt s.clock limit
+
+  -- at most n steps
+  abbrev pub iterate : ℕ → ℕ → SystemState S P F → SystemState S P F
+  iterate limit n s = repeat (before limit) (next m w limit) n s
+
+  -- Next, repeated while the clock is below the limit
+  abbrev pub run_to : ℕ → SystemState S P F → SystemState S P F
+  run_to limit s = iterate limit (measure limit s) s
+
+  abbrev pub start : List S → F → P → ℕ → List Timed → SystemState S P F
+  start firsts files plan consoles events =
+      record { users = firsts; files = files; plan = plan; consoles = replicate consoles Off; clock = 0; events = events; service = None; idling = None; entries = [] }
+
+  abbrev pub record_of : ℕ → SystemState S P F → SystemState S P F
+  record_of limit s = ended m w (run_to limit s)
+
+-- alone, over the feed, the machine reaches this state and takes every answer
+abbrev pub IsAlone : {S : Type 0} (m : Machine S) → S → Feed → S → Type 0
+IsAlone m first feed p = alone m first feed ≡ record { state = p; clocks = []; replies = [] }
+
+-- what a world owes, so that each run ends: a load is done once
+pub record Ends {State Plan Files : Type 0} (w : World State Plan Files) : Type 0 where
+  pub loaded : (plan : Plan) (u : ℕ) (p : State) (now : ℕ) → w.must_load (w.load plan u p now) u p ≡ false
+  pub same_choice : (plan : Plan) (u : ℕ) (p : State) (now : ℕ) → w.choose (w.load plan u p now) ≡ w.choose plan
+
+-- more events behind those that are left
+abbrev pub given : {S P F : Type 0} → List Timed → SystemState S P F → SystemState S P F
+given es s = record s { events = s.events ++ es }
+
+-- no event is due before the limit
+abbrev pub AreLate : ℕ → List Timed → Type 0
+AreLate limit [] = Unit {0}
+AreLate limit (e ∷ es) = (limit ≤ e.tick) × AreLate limit es

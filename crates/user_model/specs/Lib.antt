@@ -1,0 +1,5 @@
+pub mod Inner
+pub mod Texts
+pub mod Commands
+pub mod Session
+pub mod User

@@ -1,0 +1,24 @@
+-- The lines that a user's steps write.
+use Rattle.std.specs.Prelude.{ℕ, ◌+◌, ◌/◌, ◌%◌, List, [], ◌∷◌, ◌++◌, codes}
+use Rattle.std.specs.Fmt.{decimal}
+use Rattle.time_sharing.specs.Machine.{Line}
+use Rattle.ctss_types.specs.Words.{text_of_name}
+
+-- the last digit of a number
+abbrev pub digit : ℕ → ℕ
+digit n = 48 + n % 10
+
+-- W hhmm.t: a tick is a thousandth of a tenth of a minute, and hours go round at 24
+unfoldable pub time_text : ℕ → Line
+time_text t =
+    codes "W " ++ digit (t / 600000 % 24 / 10) ∷ digit (t / 600000 % 24) ∷ digit (t / 10000 % 60 / 10) ∷ digit (t / 10000 % 60) ∷ 46 ∷ digit (t / 1000) ∷ []
+
+-- R n: so many own steps since the command
+unfoldable pub ready_text : ℕ → Line
+ready_text n = codes "R " ++ decimal n
+
+unfoldable pub logged_in_text : ℕ → Line
+logged_in_text name = text_of_name name ++ codes " LOGGED IN"
+
+unfoldable pub logged_out_text : ℕ → Line
+logged_out_text name = text_of_name name ++ codes " LOGGED OUT"

@@ -43,6 +43,14 @@ impl Bank {
         Ok(Bank { words })
     }
 
+    /// How many words there are: 32768, which a caller then knows of the list.
+    pub fn word_count(&self) -> usize
+        ensures value { result ≡ 32768 }
+        ensures len { result ≡ length self.now }
+    {
+        self.words.len()
+    }
+
     /// The word at an address.
     pub fn load(&self, at: u16) -> u64
         requires { at < 32768 }

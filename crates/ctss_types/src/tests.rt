@@ -1,4 +1,7 @@
-use crate::{ConsoleNo, LineFault, LineText, Sequence, UserNo};
+use crate::{
+    Cause, ConsoleNo, EventKind, FileName, LineFault, LineText, Refusal, RunFault, Sequence,
+    StepFault, UserNo, first_word, name_text, name_word,
+};
 use std::test::Fail;
 use word36::Word;
 
@@ -30,5 +33,50 @@ fn sequences_compare_by_their_items(rt: HostRuntime) -> Result<(), Fail> {
     words.push(Word::signed(false, 0))?;
     assert!(rt; copy != words);
     assert_eq!(rt; words.len(), 2);
+    Ok(())
+}
+
+#[test]
+fn words_and_names(rt: HostRuntime) -> Result<(), Fail> {
+    let (first, rest) = first_word(b"  LOGIN ALFA ");
+    assert_eq!(rt; first, b"LOGIN".as_slice());
+    let (second, rest) = first_word(rest);
+    assert_eq!(rt; second, b"ALFA".as_slice());
+    let (none, _) = first_word(rest);
+    assert!(rt; none.is_empty());
+
+    let hello = name_word(b"HELLO");
+    assert_eq!(rt; hello.bits(), 0o302543434660);
+    assert_eq!(rt; name_text(hello).as_str(), "HELLO");
+    assert_eq!(rt; name_text(name_word(b"")).as_str(), "");
+    let name = FileName::new(hello, name_word(b"MAD"));
+    assert_eq!(rt; name_text(name.second).as_str(), "MAD");
+    assert_eq!(rt; LineText::joined(b"R ", b"1").as_str(), "R 1");
+    Ok(())
+}
+
+#[test]
+fn faults_and_kinds_have_their_texts(rt: HostRuntime) -> Result<(), Fail> {
+    let alloc = rt.alloc();
+    for (text, want) in [
+        (
+            format!(in alloc; "{}", LineFault::TooLong)?,
+            "a line has at most 84 characters",
+        ),
+        (
+            format!(in alloc; "{}", LineFault::NotBcd)?,
+            "a character is outside the 48",
+        ),
+        (format!(in alloc; "{}", RunFault::Drum)?, "the drum failed"),
+        (format!(in alloc; "{}", StepFault::Disk)?, "the disk failed"),
+        (format!(in alloc; "{}", Refusal::PastEnd)?, "PAST END"),
+        (format!(in alloc; "{}", Cause::Preempt)?, "PREEMPT"),
+        (format!(in alloc; "{}", EventKind::Spent)?, "SPENT"),
+        (format!(in alloc; "{}", UserNo::of(30))?, "30"),
+    ] {
+        assert_eq!(rt; text.as_str(), want);
+    }
+    assert_eq!(rt; Refusal::NoFile as u8, 1);
+    assert_eq!(rt; Refusal::BadCount as u8, 7);
     Ok(())
 }

@@ -1,12 +1,16 @@
 -- Each pair of a user and a block below its quota has a place of its own.
 use Rattle.std.specs.Prelude.{sum}
-use Rattle.std.proofs.Common.{◌≡◌, ◌≢◌, ℕ, zero, suc, ◌+◌, ◌<◌, ◌≤◌, List, [], ◌∷◌, length, take, refl, arith}
+use Rattle.std.proofs.Common.{◌≡◌, ◌≢◌, ℕ, zero, suc, ◌+◌, ◌<◌, ◌≤◌, List, [], ◌∷◌, length, take, refl, arith, ◌∙◌}
 use Rattle.std.proofs.lemmas.List.Sums.{sum_by-cons}
 use Rattle.drum_slots.specs.Keys.{quota_of, key}
 
 -- the sum of a list with one more at its front
 head_sum : (q : ℕ) (qs : List ℕ) → sum (q ∷ qs) ≡ q + sum qs
 head_sum q qs = sum_by-cons (λ (n : ℕ). n) q qs
+
+-- a quota of 0 at the front counts for nothing
+pub sum-cons_zero : (qs : List ℕ) → sum (0 ∷ qs) ≡ sum qs
+sum-cons_zero qs = head_sum 0 qs ∙ omega arith
 
 -- the place of a block below its quota is a place of the table
 pub key_below : (qs : List ℕ) (u b : ℕ) → b < quota_of qs u → key qs u b < sum qs

@@ -1,19 +1,21 @@
 //! Which record of a drum keeps which block.
-ghost use Rattle.std.specs.Prelude.{◌≡◌, ◌≢◌, ◌<◌, ◌≤◌, ◌^◌, ◌↔◌, ℕ, length, vec_len, sum, true, false, None, Some, replicate, slice_set, slice_index_or, IfOk, IsTrue, IsSome};
+ghost use Rattle.std.specs.Prelude.{◌≡◌, ◌≢◌, ◌<◌, ◌≤◌, ◌^◌, ◌↔◌, ℕ, ◌∷◌, length, vec_len, sum, true, false, None, Some, replicate, slice_set, slice_index_or, IfOk, IsTrue, IsSome};
 ghost use Rattle.drum_slots.specs.Keys.{key, quota_of};
 ghost use Rattle.drum_slots.specs.Slots.{IsSlots, slot_of, first_free, count_kept};
 
+use ctss_types::UserNo;
 use faults::NoMemory;
 use std::alloc::Global;
 
 /// The record of each block that is kept, and which records are free. Records are numbered from 0.
 ///
-/// Users are numbered from 0 too. Each has a quota, and a place for each block below it: the places
-/// of user 0 come first, then those of user 1, and so on. A block has a record of its own, or none.
+/// Each user has a quota, and a place for each block below it: the places of user 1 come first, then
+/// those of user 2, and so on. A block has a record of its own, or none.
 #[derive(Drop)]
 pub struct Slots {
     slots: Vec<Option<u16>>,
     free: Vec<bool>,
+    // By user number, so that of number 0, which is nobody's, is 0.
     quotas: Vec<u8>,
     ghost sound: { IsSlots slots.items free.items },
     ghost size: { vec_len free < 2 ^ 16 },
@@ -21,18 +23,19 @@ pub struct Slots {
 }
 
 impl Slots {
-    /// Slots for users with these quotas in so many records. No block is kept.
+    /// Slots for users 1, 2, 3 and on with these quotas, in blocks, in so many records. No block is
+    /// kept.
     pub fn new(alloc: Global, records: u16, quotas: &[u8]) -> Result<Slots, NoMemory>
         requires { sum quotas.now ≤ records }
         ensures slots { IfOk result (λ s. s.slots.items ≡ replicate (sum quotas.now) None) }
         ensures none { IfOk result (λ s. (k : ℕ) → slot_of s.slots.items k ≡ None) }
         ensures free { IfOk result (λ s. s.free.items ≡ replicate records true) }
-        ensures quotas { IfOk result (λ s. s.quotas.items ≡ quotas.now) }
+        ensures quotas { IfOk result (λ s. s.quotas.items ≡ 0 ∷ quotas.now) }
     {
         let places = total(quotas);
         let slots = vec![in alloc; None; places]?;
         let free = vec![in alloc; true; records as usize]?;
-        let quotas = quotas.to_vec(alloc)?;
+        let quotas = by_number(alloc, quotas)?;
         Ok(Slots {
             slots,
             free,
@@ -41,20 +44,20 @@ impl Slots {
     }
 
     /// How many blocks a user may have.
-    fn quota(&self, user: u8) -> u8
+    fn quota(&self, user: UserNo) -> u8
         requires { user < length self.now.quotas.items }
         ensures { result ≡ quota_of self.now.quotas.items user }
     {
-        self.quotas[user as usize]
+        self.quotas[user.number() as usize]
     }
 
     /// The place of a user's block.
-    pub(crate) fn key(&self, user: u8, block: u8) -> u16
+    pub(crate) fn key(&self, user: UserNo, block: u8) -> u16
         requires { block < quota_of self.now.quotas.items user }
         ensures value { result ≡ key self.now.quotas.items user block }
         ensures inside { result < length self.now.slots.items }
     {
-        let start = total(&self.quotas[..user as usize]);
+        let start = total(&self.quotas[..user.number() as usize]);
         (start + block as usize) as u16
     }
 
@@ -118,7 +121,7 @@ impl Slots {
     }
 
     /// Keeps a user's blocks from this one on no more.
-    pub(crate) fn free_from(&mut self, user: u8, block: u8)
+    pub(crate) fn free_from(&mut self, user: UserNo, block: u8)
         requires { user < length self.old.quotas.items }
         ensures gone { (b : ℕ) → block ≤ b → b < quota_of self.old.quotas.items user
             → slot_of self.new.slots.items (key self.old.quotas.items user b) ≡ None }
@@ -134,6 +137,15 @@ impl Slots {
             self.free_at(place);
         }
     }
+}
+
+/// The quotas of users 1, 2, 3 and on by user number.
+fn by_number(alloc: Global, quotas: &[u8]) -> Result<Vec<u8>, NoMemory>
+    ensures { IfOk result (λ v. v.items ≡ 0 ∷ quotas.now) }
+{
+    let mut numbered = vec![in alloc; 0u8]?;
+    numbered.extend_from_slice(quotas)?;
+    Ok(numbered)
 }
 
 /// The place of the first `true`, or the length.

@@ -1,5 +1,5 @@
 //! Blocks of users, kept on a drum that is handed in.
-ghost use Rattle.std.specs.Prelude.{◌≡◌, ◌≢◌, ◌<◌, ◌≤◌, ◌↔◌, ℕ, length, sum, None, Some, replicate, slice_set, is_err, IfOk, OnOk, OnErr, IsTrue, IsSome, true, false};
+ghost use Rattle.std.specs.Prelude.{◌≡◌, ◌≢◌, ◌<◌, ◌≤◌, ◌↔◌, ℕ, ◌∷◌, length, sum, None, Some, replicate, slice_set, is_err, IfOk, OnOk, OnErr, IsTrue, IsSome, true, false};
 ghost use Rattle.faults.specs.Faults.{Rose};
 ghost use Rattle.medium.specs.Medium.{AreWords, read_call, write_call, with_call};
 ghost use Rattle.drum_slots.specs.Kept.{with_copy, HasCopy, ChangesCopy, Serves};
@@ -7,6 +7,7 @@ ghost use Rattle.drum_slots.specs.Slots.{slot_of};
 ghost use Rattle.drum_slots.specs.Table.{slots_of, free_of, records_of, next_of, quota_in, place_of, record_of, copies_in};
 
 use crate::slots::Slots;
+use ctss_types::UserNo;
 use faults::NoMemory;
 use medium::{Failed, Medium};
 use std::alloc::Global;
@@ -37,9 +38,8 @@ impl From<Failed> for DrumFault {
 
 /// Copies of users' blocks of 256 words, each in a record of the drum.
 ///
-/// A user's number is the place of its quota in the list that the slots were made with, and the
-/// numbers of its blocks lie below that quota. Where the drum tells its records, a block comes back
-/// as it was put.
+/// The numbers of a user's blocks lie below its quota; a user for whom the slots were made with no
+/// quota has no block. Where the drum tells its records, a block comes back as it was put.
 #[derive(Drop)]
 pub struct SlotTable<'a, D: Medium> {
     drum: &'a mut D,
@@ -47,8 +47,8 @@ pub struct SlotTable<'a, D: Medium> {
 }
 
 impl<'a, D: Medium> SlotTable<'a, D> {
-    /// A table over the first `records` records of a drum, for users with these quotas. No block is
-    /// kept, and no call of the drum is made.
+    /// A table over the first `records` records of a drum, for users 1, 2, 3
+    /// and on with these quotas, in blocks. No block is kept, and no call of the drum is made.
     ///
     /// After an error the clauses say nothing of the drum. Where that matters, make `Slots` first
     /// and then the table with `over`.
@@ -66,7 +66,7 @@ impl<'a, D: Medium> SlotTable<'a, D> {
         ensures slots { IfOk result (λ t. slots_of t.slots ≡ replicate (sum quotas.now) None) }
         ensures none { IfOk result (λ t. (k : ℕ) → slot_of (slots_of t.slots) k ≡ None) }
         ensures free { IfOk result (λ t. free_of t.slots ≡ replicate records true) }
-        ensures quotas { IfOk result (λ t. t.slots.quotas.items ≡ quotas.now) }
+        ensures quotas { IfOk result (λ t. t.slots.quotas.items ≡ 0 ∷ quotas.now) }
     {
         let slots = Slots::new(alloc, records, quotas)?;
         Ok(SlotTable::over(drum, slots))
@@ -92,7 +92,7 @@ impl<'a, D: Medium> SlotTable<'a, D> {
     }
 
     /// Whether a user's block is kept.
-    pub fn has(&self, user: u8, block: u8) -> bool
+    pub fn has(&self, user: UserNo, block: u8) -> bool
         requires { block < quota_in self.now.slots user }
         ensures { IsTrue result ↔ IsSome (record_of self.now.slots user block) }
     {
@@ -102,7 +102,7 @@ impl<'a, D: Medium> SlotTable<'a, D> {
 
     /// Writes a copy of a user's block into the least free record, and keeps it. After a fault
     /// nothing is kept.
-    pub fn put_block(&mut self, user: u8, block: u8, from: &[u64]) -> Result<(), DrumFault>
+    pub fn put_block(&mut self, user: UserNo, block: u8, from: &[u64]) -> Result<(), DrumFault>
         requires inside { block < quota_in self.old.slots user }
         requires empty { record_of self.old.slots user block ≡ None }
         requires whole { length from.now ≡ 256 }
@@ -146,7 +146,7 @@ impl<'a, D: Medium> SlotTable<'a, D> {
 
     /// Reads the copy of a user's block, and keeps it no more. After a fault it is kept as before,
     /// but its words are unknown.
-    pub fn get_block(&mut self, user: u8, block: u8, into: &mut [u64]) -> Result<(), DrumFault>
+    pub fn get_block(&mut self, user: UserNo, block: u8, into: &mut [u64]) -> Result<(), DrumFault>
         requires inside { block < quota_in self.old.slots user }
         requires kept { IsSome (record_of self.old.slots user block) }
         requires whole { length into.old ≡ 256 }
@@ -195,7 +195,7 @@ impl<'a, D: Medium> SlotTable<'a, D> {
     }
 
     /// Keeps a user's blocks from this one on no more. No call of the drum is made.
-    pub fn free_from(&mut self, user: u8, block: u8)
+    pub fn free_from(&mut self, user: UserNo, block: u8)
         requires { user < length self.old.slots.quotas.items }
         ensures same { self.new.drum.ghost_name ≡ self.old.drum.ghost_name }
         ensures now { self.new.drum.now ≡ self.old.drum.now }

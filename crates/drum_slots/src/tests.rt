@@ -4,18 +4,19 @@ ghost use Rattle.drum_slots.specs.Kept.{Serves};
 ghost use Rattle.drum_slots.specs.Table.{quota_in, records_of};
 
 use super::*;
+use ctss_types::UserNo;
 use medium::{Medium, MemoryMedium};
 use std::process::Abort;
 use std::test::Fail;
 
-// User 0 has no block, user 1 two and user 2 one.
-const QUOTAS: [u8; 3] = [0, 2, 1];
+// User 1 may have two blocks and user 2 one.
+const QUOTAS: [u8; 2] = [2, 1];
 
 /// Puts a block whose words are all the same, and which is not kept yet.
 fn put<D: Medium>(
     rt: &impl Abort,
     table: &mut SlotTable<'_, D>,
-    user: u8,
+    user: UserNo,
     block: u8,
     word: u64,
 ) -> Result<(), DrumFault>
@@ -37,7 +38,7 @@ fn put<D: Medium>(
 fn get<D: Medium>(
     rt: &impl Abort,
     table: &mut SlotTable<'_, D>,
-    user: u8,
+    user: UserNo,
     block: u8,
     into: &mut [u64],
 ) -> Result<(), DrumFault>
@@ -61,19 +62,19 @@ fn get<D: Medium>(
 fn gives_back_what_was_put(rt: HostRuntime) -> Result<(), Fail> {
     let mut drum = MemoryMedium::new(rt.alloc(), 4, 256, &[], &[], 0)?;
     let mut table = SlotTable::new(rt.alloc(), &mut drum, 3, &QUOTAS)?;
-    assert_eq!(rt; put(&rt, &mut table, 1, 1, 7), Ok(()));
-    assert!(rt; !table.has(1, 0));
-    assert!(rt; table.has(1, 1));
-    assert_eq!(rt; put(&rt, &mut table, 2, 0, 8), Ok(()));
+    assert_eq!(rt; put(&rt, &mut table, UserNo::of(1), 1, 7), Ok(()));
+    assert!(rt; !table.has(UserNo::of(1), 0));
+    assert!(rt; table.has(UserNo::of(1), 1));
+    assert_eq!(rt; put(&rt, &mut table, UserNo::of(2), 0, 8), Ok(()));
 
     let mut words = [0; 256];
-    assert_eq!(rt; get(&rt, &mut table, 1, 1, &mut words), Ok(()));
+    assert_eq!(rt; get(&rt, &mut table, UserNo::of(1), 1, &mut words), Ok(()));
     assert!(rt; words == [7; 256]);
-    assert!(rt; !table.has(1, 1));
-    assert!(rt; table.has(2, 0));
+    assert!(rt; !table.has(UserNo::of(1), 1));
+    assert!(rt; table.has(UserNo::of(2), 0));
 
     // Record 0 is free again, so it takes the next block.
-    assert_eq!(rt; put(&rt, &mut table, 1, 0, 9), Ok(()));
+    assert_eq!(rt; put(&rt, &mut table, UserNo::of(1), 0, 9), Ok(()));
     let drum = table.back();
     assert_eq!(rt; drum.read(0, &mut words), Ok(()));
     assert!(rt; words == [9; 256]);
@@ -87,15 +88,15 @@ fn frees_the_blocks_from_one_on(rt: HostRuntime) -> Result<(), Fail> {
     let mut drum = MemoryMedium::new(rt.alloc(), 3, 256, &[], &[], 0)?;
     let slots = Slots::new(rt.alloc(), 3, &QUOTAS)?;
     let mut table = SlotTable::over(&mut drum, slots);
-    assert_eq!(rt; put(&rt, &mut table, 1, 0, 1), Ok(()));
-    assert_eq!(rt; put(&rt, &mut table, 1, 1, 2), Ok(()));
-    assert_eq!(rt; put(&rt, &mut table, 2, 0, 3), Ok(()));
-    table.free_from(1, 1);
-    assert!(rt; table.has(1, 0));
-    assert!(rt; !table.has(1, 1));
-    assert!(rt; table.has(2, 0));
-    table.free_from(1, 0);
-    assert!(rt; !table.has(1, 0));
+    assert_eq!(rt; put(&rt, &mut table, UserNo::of(1), 0, 1), Ok(()));
+    assert_eq!(rt; put(&rt, &mut table, UserNo::of(1), 1, 2), Ok(()));
+    assert_eq!(rt; put(&rt, &mut table, UserNo::of(2), 0, 3), Ok(()));
+    table.free_from(UserNo::of(1), 1);
+    assert!(rt; table.has(UserNo::of(1), 0));
+    assert!(rt; !table.has(UserNo::of(1), 1));
+    assert!(rt; table.has(UserNo::of(2), 0));
+    table.free_from(UserNo::of(1), 0);
+    assert!(rt; !table.has(UserNo::of(1), 0));
     Ok(())
 }
 
@@ -103,15 +104,18 @@ fn frees_the_blocks_from_one_on(rt: HostRuntime) -> Result<(), Fail> {
 fn keeps_the_same_blocks_after_a_fault(rt: HostRuntime) -> Result<(), Fail> {
     let mut drum = MemoryMedium::new(rt.alloc(), 3, 256, &[1, 3], &[], 0)?;
     let mut table = SlotTable::new(rt.alloc(), &mut drum, 3, &QUOTAS)?;
-    assert_eq!(rt; put(&rt, &mut table, 1, 0, 1), Err(DrumFault));
-    assert!(rt; !table.has(1, 0));
-    assert_eq!(rt; put(&rt, &mut table, 1, 0, 1), Ok(()));
+    assert_eq!(rt; put(&rt, &mut table, UserNo::of(1), 0, 1), Err(DrumFault));
+    assert!(rt; !table.has(UserNo::of(1), 0));
+    assert_eq!(rt; put(&rt, &mut table, UserNo::of(1), 0, 1), Ok(()));
 
     let mut words = [0; 256];
-    assert_eq!(rt; get(&rt, &mut table, 1, 0, &mut words), Err(DrumFault));
-    assert!(rt; table.has(1, 0));
-    assert_eq!(rt; get(&rt, &mut table, 1, 0, &mut words), Ok(()));
+    assert_eq!(rt;
+        get(&rt, &mut table, UserNo::of(1), 0, &mut words),
+        Err(DrumFault)
+    );
+    assert!(rt; table.has(UserNo::of(1), 0));
+    assert_eq!(rt; get(&rt, &mut table, UserNo::of(1), 0, &mut words), Ok(()));
     assert!(rt; words == [1; 256]);
-    assert!(rt; !table.has(1, 0));
+    assert!(rt; !table.has(UserNo::of(1), 0));
     Ok(())
 }

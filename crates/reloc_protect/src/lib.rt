@@ -85,6 +85,17 @@ mod tests {
 
     #[test]
     fn maps_addresses(rt: HostRuntime) {
+        let first = Registers::new(0, 2);
+        assert_eq!(rt; first.map(0), Ok(0));
+        assert_eq!(rt; first.map(511), Ok(511));
+        assert_eq!(rt; first.map(512), Err(Outside));
+        assert_eq!(rt; first.map(32767), Err(Outside));
+
+        let tenth = Registers::new(10, 2);
+        assert_eq!(rt; tenth.map(0), Ok(2560));
+        assert_eq!(rt; tenth.map(511), Ok(3071));
+        assert_eq!(rt; tenth.map(512), Err(Outside));
+
         let last = Registers::new(127, 1);
         assert_eq!(rt; last.map(0), Ok(32512));
         assert_eq!(rt; last.map(255), Ok(32767));

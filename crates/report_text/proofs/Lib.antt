@@ -1,3 +1,2 @@
-pub mod FirstCard
 pub mod Right
 pub mod Lists

@@ -5,11 +5,11 @@ ghost use Rattle.bcd48.specs.Words.{characters_of};
 ghost use Rattle.text_model.specs.Parts.{line, blank, number, right};
 ghost use Rattle.text_model.specs.Report.{file_line, file_text};
 
-use crate::cards::add_cards;
 use bcd48::text6;
 use ctss_types::{FileBody, FileName, LineText};
 use std::alloc::AllocError;
 use std::fmt::Write;
+use word_cards::add_word_cards;
 use word36::Word;
 
 /// The six characters of a word, the blanks behind a name included.
@@ -67,7 +67,7 @@ fn add_file(out: &mut String, file: &FileBody, dump: bool) -> Result<(), AllocEr
 {
     add_file_line(out, file)?;
     if dump {
-        add_cards(out, file.words.as_slice())?;
+        add_word_cards(out, file.words.as_slice())?;
     }
     Ok(())
 }

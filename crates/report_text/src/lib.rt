@@ -5,7 +5,6 @@ ghost use Rattle.std.specs.Prelude.{◌≡◌, IfOk};
 ghost use Rattle.text_model.specs.Report.{report_of};
 
 mod account;
-mod cards;
 mod entry;
 mod file;
 

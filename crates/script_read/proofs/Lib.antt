@@ -1,3 +1,2 @@
 pub mod Digits
 pub mod FirstLine
-pub mod FirstCard

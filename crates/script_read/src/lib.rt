@@ -7,7 +7,6 @@ mod fault;
 mod field;
 mod read;
 mod text;
-mod word_cards;
 
 pub use fault::ScriptFault;
 pub use read::read_script;

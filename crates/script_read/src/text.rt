@@ -2,13 +2,13 @@ ghost use Rattle.std.specs.Prelude.{◌≡◌, ◌++◌, IfOk, OnOk, string_byte
 ghost use Rattle.std.specs.List.{flat_map};
 ghost use Rattle.text_model.specs.Canonical.{param_card, user_card, user_cards, file_cards, typed_text, event_text, event_card, script_text_of};
 
-use crate::word_cards::add_word_cards;
 use ctss_types::{
     Account, Bytes, Event, LineText, NoMemory, OwnedFile, Params, Script, Sequence, Timed,
     name_text,
 };
 use std::alloc::{AllocError, Global};
 use std::fmt::Write;
+use word_cards::add_word_cards;
 
 /// Adds the PARAM card.
 fn add_params(out: &mut String, params: Params) -> Result<(), AllocError>

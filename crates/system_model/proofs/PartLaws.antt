@@ -1,5 +1,5 @@
 -- Runs in parts, and events that come late.
-use Rattle.std.proofs.Common.{◌≡◌, ℕ, ◌≤◌, List}
+use Rattle.std.proofs.Common.{◌≡◌, ℕ, ◌≤◌, List, refl}
 use Rattle.time_sharing.specs.Rows.{machine}
 use Rattle.time_sharing.proofs.Limits.{run_in_parts}
 use Rattle.time_sharing.proofs.Late.{run_then_given}
@@ -15,7 +15,8 @@ runs_in_parts j k r le = λ i. record r { system = run_in_parts (machine user_ro
 
 pub late_events_wait : LateEventsWait
 unfolding run_to measure
-late_events_wait events j k r le late = λ i. record r { system = run_then_given (machine user_rows) (round r.accounts) events (ends r.accounts) j k r.system le late i }
+late_events_wait events j k r le late =
+    ((λ i. record r { system = run_then_given (machine user_rows) (round r.accounts) events (ends r.accounts) j k r.system le late i }), refl)
 
 pub steps_end : StepsEnd
 steps_end = measure_next

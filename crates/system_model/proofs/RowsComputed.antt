@@ -8,7 +8,7 @@ use Rattle.user_model.specs.Commands.{command_of}
 use Rattle.system_model.specs.Round.{asked, check}
 use Rattle.system_model.specs.Run.{run_to, ended}
 use Rattle.system_model.specs.Record.{record_of, start_of}
-use Rattle.system_model.specs.Rows.{RowOfNobody, RowOfOneUser}
+use Rattle.system_model.specs.Rows.{RowOfNobody, RowOfOneUser, RowOfLateUser}
 
 pub row_of_nobody : RowOfNobody
 unfolding record_of run_to ended start_of chosen
@@ -17,3 +17,7 @@ row_of_nobody = refl
 pub row_of_one_user : RowOfOneUser
 unfolding record_of run_to ended start_of name_of text_of_name greatest level_of_words chosen waits entered dropped ticked sunk charged woken asked check digits time_text logged_in_text logged_out_text ready_text command_of
 row_of_one_user = refl
+
+pub row_of_late_user : RowOfLateUser
+unfolding record_of run_to ended start_of name_of text_of_name greatest level_of_words chosen waits entered dropped ticked sunk charged woken asked check digits time_text logged_in_text logged_out_text ready_text command_of
+row_of_late_user = refl

@@ -1,5 +1,5 @@
 -- What the public functions of this crate claim.
-use Rattle.std.specs.Prelude.{◌≡◌, ℕ, ◌≤◌, ◌<◌, List}
+use Rattle.std.specs.Prelude.{◌≡◌, ℕ, ◌≤◌, ◌<◌, List, ◌++◌}
 use Rattle.ctss_types.specs.declared.script.Script.{Script}
 use Rattle.ctss_types.specs.declared.script.Timed.{Timed}
 use Rattle.time_sharing.specs.Record.{AreLate}
@@ -18,6 +18,8 @@ StepsEnd = (limit : ℕ) (r : Run) → r.system.clock < limit → measure limit 
 abbrev pub RunsInParts : Type 0
 RunsInParts = (j k : ℕ) (r : Run) → j ≤ k → run_to k (run_to j r) ≡ run_to k r
 
--- events at a limit or later may be given after the run to that limit
+-- Events at a limit or later may be given after the run to that limit. To give events puts them behind those left.
 abbrev pub LateEventsWait : Type 0
-LateEventsWait = (events : List Timed) (j k : ℕ) (r : Run) → j ≤ k → AreLate j events → run_to k (given_all events (run_to j r)) ≡ run_to k (given_all events r)
+LateEventsWait =
+    (events : List Timed) (j k : ℕ) (r : Run) → j ≤ k → AreLate j events →
+    (run_to k (given_all events (run_to j r)) ≡ run_to k (given_all events r)) × ((given_all events r).system.events ≡ r.system.events ++ events)

@@ -1,5 +1,6 @@
--- Two worked rows: a script without users, and one user that logs in, gives a password and logs out.
-use Rattle.std.specs.Prelude.{◌≡◌, List, [], ◌∷◌, codes}
+-- Worked rows: a script without users; one user that logs in, gives a password and logs out; and one that is refused
+-- three times, types a command with a word too much after a day, and hangs up.
+use Rattle.std.specs.Prelude.{◌≡◌, ℕ, List, [], ◌∷◌, codes}
 use Rattle.ctss_types.specs.Words.{name_of}
 use Rattle.ctss_types.specs.declared.script.Script.{Script}
 use Rattle.ctss_types.specs.declared.script.Params.{Params}
@@ -10,7 +11,9 @@ use Rattle.ctss_types.specs.declared.history.Record.{Record}
 use Rattle.ctss_types.specs.declared.history.Item.TheVariants as item
 use Rattle.ctss_types.specs.declared.history.EventKind.TheVariants as kind
 use Rattle.ctss_types.specs.declared.history.Cause.TheVariants as cause
-use Rattle.ctss_types.specs.declared.history.Entry.TheVariants.{Taken, Login, Idle, Serve, Clock}
+use Rattle.ctss_types.specs.declared.history.Entry.TheVariants.{Taken, Login, Refused, Idle, Serve, Clock}
+use Rattle.ctss_types.specs.declared.file.FileBody.{FileBody}
+use Rattle.ctss_types.specs.declared.file.OwnedFile.{OwnedFile}
 use Rattle.system_model.specs.Record.{record_of}
 
 abbrev pub empty_script : Script
@@ -41,4 +44,37 @@ RowOfOneUser =
       files = [] ∷ [];
       common = [];
       clock = 100;
+    }
+
+abbrev pub line_at : ℕ → List ℕ → Timed
+line_at tick text = record { tick = tick; console = 1; event = event.Line text }
+
+abbrev pub file_of_mode : ℕ → FileBody
+file_of_mode mode = record { name = record { first = name_of (codes "NOTES"); second = name_of (codes "TEXT") }; mode = mode; words = mode ∷ [] }
+
+abbrev pub late_user : Script
+late_user =
+    record {
+      params = record { wq = 1024; quantum = 100; swap = 10; drum = 8; disk = 20; common = 5 };
+      accounts = record { name = name_of (codes "ALFA"); password = name_of (codes "SESAME"); blocks = 8; tracks = 10 } ∷ [];
+      files = record { owner = 1; body = file_of_mode 0 } ∷ record { owner = 2; body = file_of_mode 2 } ∷ record { owner = 1; body = file_of_mode 1 } ∷ [];
+      events = record { tick = 0; console = 1; event = event.Dial } ∷ line_at 0 (codes "LOGIN ALFA BETA") ∷ line_at 0 (codes "LOGIN ALFA") ∷ line_at 0 (codes "SESAME NOW")
+          ∷ line_at 0 (codes "LOGIN ALFA") ∷ line_at 0 (codes "OPEN") ∷ line_at 0 (codes "LOGIN ALFA") ∷ line_at 0 (codes "SESAME")
+          ∷ line_at 15023000 (codes "LOGOUT NOW") ∷ record { tick = 15050000; console = 1; event = event.Hang } ∷ [];
+      end = 15100000;
+    }
+
+abbrev pub RowOfLateUser : Type 0
+RowOfLateUser =
+    record_of late_user ≡
+    record {
+      entries = Taken 0 1 kind.Dial 0 0 ∷ Taken 0 1 kind.Line 0 0 ∷ Refused 0 1 1 ∷ Taken 0 1 kind.Line 0 0 ∷ Taken 0 1 kind.Line 0 0 ∷ Refused 0 1 1
+          ∷ Taken 0 1 kind.Line 0 0 ∷ Taken 0 1 kind.Line 0 0 ∷ Refused 0 1 1 ∷ Taken 0 1 kind.Line 0 0 ∷ Taken 0 1 kind.Line 0 0 ∷ Login 0 1 1
+          ∷ Idle 0 15023000 ∷ Taken 15023000 1 kind.Line 1 0 ∷ Clock 15023000 1 ∷ Serve 15023000 1 1 1 cause.Stop ∷ Idle 15023001 15050000
+          ∷ Taken 15050000 1 kind.Hang 1 1 ∷ Idle 15050000 15100000 ∷ [];
+      transcripts = (item.Out (codes "ALFA LOGGED IN") ∷ item.In (codes "LOGOUT NOW") ∷ item.Out (codes "W 0102.3") ∷ item.Out (codes "BAD ARGUMENTS")
+          ∷ item.Out (codes "R 1") ∷ item.Hang ∷ []) ∷ [];
+      files = (file_of_mode 1 ∷ []) ∷ [];
+      common = [];
+      clock = 15100000;
     }

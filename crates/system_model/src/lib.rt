@@ -6,7 +6,7 @@
 #![tactic(auto)]
 
 ghost use Rattle.system_model.specs.Claims.{UsersAreAlone, StepsEnd, RunsInParts, LateEventsWait};
-ghost use Rattle.system_model.specs.Rows.{RowOfNobody, RowOfOneUser};
+ghost use Rattle.system_model.specs.Rows.{RowOfNobody, RowOfOneUser, RowOfLateUser};
 
 /// In the record of every script each user's transcript and files are those of the user's machine alone.
 #[tactic(auto, using(crate::proofs::AloneLaws::users_are_alone))]
@@ -42,4 +42,10 @@ pub fn row_of_nobody()
 #[tactic(auto, using(crate::proofs::RowsComputed::row_of_one_user))]
 pub fn row_of_one_user()
     ensures { RowOfOneUser }
+{}
+
+/// The record of a user that is refused three times, types a command with a word too much after a day, and hangs up.
+#[tactic(auto, using(crate::proofs::RowsComputed::row_of_late_user))]
+pub fn row_of_late_user()
+    ensures { RowOfLateUser }
 {}

@@ -3,3 +3,4 @@ pub mod Canonical
 pub mod Reading
 pub mod Report
 pub mod Words
+pub mod Rows

@@ -1,12 +1,31 @@
 //! Texts: the script of bytes, a script's one canonical text, the report, the words of the command line.
 //!
-//! The definitions stand in `specs/`: `Canonical`, `Reading`, `Report`, `Words`. The function here does nothing: it
-//! carries a law.
+//! The definitions stand in `specs/`: `Canonical`, `Reading`, `Report`, `Words`, and worked rows in `Rows`. The functions
+//! here do nothing: each carries a law.
 #![tactic(auto)]
 
 ghost use Rattle.text_model.specs.Reading.{ScriptsAreInRange};
+ghost use Rattle.text_model.specs.Rows.{RowOfScript, RowOfRefusals, RowOfReport};
 
 /// Every script that is read has its numbers in range, and no first files yet.
 pub fn scripts_are_in_range()
     ensures { ScriptsAreInRange }
+{}
+
+/// A script's cards, written and read.
+#[tactic(auto, using(crate::proofs::RowsComputed::row_of_script))]
+pub fn row_of_script()
+    ensures { RowOfScript }
+{}
+
+/// Texts that are no script.
+#[tactic(auto, using(crate::proofs::RowsComputed::row_of_refusals))]
+pub fn row_of_refusals()
+    ensures { RowOfRefusals }
+{}
+
+/// The report of a record.
+#[tactic(auto, using(crate::proofs::RowsComputed::row_of_report))]
+pub fn row_of_report()
+    ensures { RowOfReport }
 {}

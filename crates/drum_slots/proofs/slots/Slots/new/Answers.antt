@@ -1,7 +1,8 @@
 use Rattle.std.specs.Prelude.{None, true, replicate, sum}
-use Rattle.std.proofs.Common.{◌≡◌, arith}
+use Rattle.std.proofs.Common.{◌≡◌, ◌∷◌, ◌∙◌, sym, arith}
 use Rattle.std.proofs.lemmas.Grind.{common_steps}
 use Rattle.std.proofs.lemmas.List.{length-replicate}
+use Rattle.drum_slots.proofs.Keys.{sum-cons_zero}
 use Rattle.drum_slots.proofs.Slotted.{sound_new}
 use Rattle.drum_slots.proofs.slots.Slots.new.Goals as goal
 
@@ -14,5 +15,5 @@ invariant_of-result-clause-sound c =
 pub invariant_of-result-clause-places : goal.invariant_of-result-clause-places
 invariant_of-result-clause-places c =
     let slots : c.in_ok-slots.slots.items ≡ replicate (sum c.args.quotas.now) None = grind (arith, common_steps) in
-    let quotas : c.in_ok-quotas.quotas.items ≡ c.args.quotas.now = grind (arith, common_steps) in
-    rw (slots, quotas) (length-replicate (sum c.args.quotas.now) None)
+    let quotas : c.in_ok-quotas.quotas.items ≡ 0 ∷ c.args.quotas.now = grind (arith, common_steps) in
+    rw (slots, quotas) (length-replicate (sum c.args.quotas.now) None ∙ sym (sum-cons_zero c.args.quotas.now))

@@ -1,0 +1,13 @@
+//! The registers of a program, and the port through which it reaches its core.
+#![tactic(auto)]
+
+mod index;
+mod port;
+mod regs;
+
+pub use index::IndexRegisters;
+pub use port::{MemoryPort, Outside};
+pub use regs::{OpEnd, Regs};
+
+#[cfg(test)]
+mod tests;

@@ -1,0 +1,182 @@
+//! One step of the machine.
+#![tactic(auto)]
+
+ghost use Rattle.std.specs.Prelude.{◌≡◌, ◌<◌, ◌^◌, IfOk};
+ghost use Rattle.opcode_table.specs.Table.{class_of, kind_of};
+ghost use Rattle.opcode_table.specs.Words.{HasFields};
+ghost use Rattle.machine_model.specs.Machine.{table, executed, once, done, row, is_xec, place_of, place_in, indexed};
+ghost use Rattle.machine_model.specs.Results.{ended};
+ghost use Rattle.cpu_step.specs.Results.{outcome, stepped_by, Stays};
+
+use cpu_regs::{MemoryPort, OpEnd, Regs};
+use opcode_table::{Class, Instr, Kind, class, decode, kind};
+use word36::Word;
+
+/// How a step ended.
+///
+/// Where it went on or halted, registers and core are those behind the instruction. Every other answer leaves both as
+/// they were, the instruction counter too.
+#[derive(Clone, Copy, Debug, PartialEq, Eq)]
+pub enum Stepped {
+    Went,
+    /// A supervisor entry, with the word that names it.
+    Entry(Word),
+    Halt,
+    /// A word that is no instruction, or an XEC of an XEC.
+    Illegal,
+    /// The address that is outside the core.
+    Outside(u16),
+}
+
+/// Does one step: fetches the word at the instruction counter, decodes it, and does it. An XEC and the instruction that
+/// it names are one step.
+#[inline]
+pub fn step<M: MemoryPort>(regs: &mut Regs, core: &mut M) -> Stepped
+    requires { regs.old.ic < 2 ^ 15 }
+    ensures table { outcome result regs.new (M.words core.new) ≡ table regs.old (M.words core.old) }
+    ensures stays { Stays result regs.old regs.new (M.words core.old) (M.words core.new) }
+    ensures ic { regs.new.ic < 2 ^ 15 }
+{
+    let Ok(word) = core.load(regs.ic) else {
+        return Stepped::Outside(regs.ic);
+    };
+    let Some(i) = decode(word) else {
+        return Stepped::Illegal;
+    };
+    execute(regs, core, &i)
+}
+
+/// Does an instruction.
+#[inline(always)]
+#[tactic(auto, using(crate::proofs::Xec::executed_at))]
+fn execute<M: MemoryPort>(regs: &mut Regs, core: &mut M, i: &Instr) -> Stepped
+    requires fields { HasFields i.now }
+    requires ic { regs.old.ic < 2 ^ 15 }
+    ensures executed { outcome result regs.new (M.words core.new) ≡ executed i.now regs.old (M.words core.old) }
+    ensures stays { Stays result regs.old regs.new (M.words core.old) (M.words core.new) }
+    ensures ic { regs.new.ic < 2 ^ 15 }
+{
+    if !is_xec(kind(i.op)) {
+        return perform(regs, core, i);
+    }
+    let y = match place(regs, core, i) {
+        Ok(y) => y,
+        Err(address) => return Stepped::Outside(address),
+    };
+    let Ok(word) = core.load(y) else {
+        return Stepped::Outside(y);
+    };
+    perform_word(regs, core, word)
+}
+
+/// Does the instruction that an XEC names.
+#[cold]
+#[inline(never)]
+fn perform_word<M: MemoryPort>(regs: &mut Regs, core: &mut M, word: Word) -> Stepped
+    requires { regs.old.ic < 2 ^ 15 }
+    ensures once { outcome result regs.new (M.words core.new) ≡ once word regs.old (M.words core.old) }
+    ensures stays { Stays result regs.old regs.new (M.words core.old) (M.words core.new) }
+    ensures ic { regs.new.ic < 2 ^ 15 }
+{
+    let Some(i) = decode(word) else {
+        return Stepped::Illegal;
+    };
+    if is_xec(kind(i.op)) {
+        return Stepped::Illegal;
+    }
+    perform(regs, core, &i)
+}
+
+/// Does an instruction that is no XEC.
+#[inline(always)]
+fn perform<M: MemoryPort>(regs: &mut Regs, core: &mut M, i: &Instr) -> Stepped
+    requires fields { HasFields i.now }
+    requires ic { regs.old.ic < 2 ^ 15 }
+    ensures done { outcome result regs.new (M.words core.new) ≡ done i.now regs.old (M.words core.old) }
+    ensures stays { Stays result regs.old regs.new (M.words core.old) (M.words core.new) }
+    ensures ic { regs.new.ic < 2 ^ 15 }
+{
+    let y = match place(regs, core, i) {
+        Ok(y) => y,
+        Err(address) => return Stepped::Outside(address),
+    };
+    perform_at(regs, core, i, y)
+}
+
+/// Does an instruction that is no XEC at its place.
+#[inline(always)]
+fn perform_at<M: MemoryPort>(regs: &mut Regs, core: &mut M, i: &Instr, y: u16) -> Stepped
+    requires fields { HasFields i.now }
+    requires y { y < 2 ^ 15 }
+    requires ic { regs.old.ic < 2 ^ 15 }
+    ensures row { outcome result regs.new (M.words core.new) ≡ row (kind_of i.now.op) i.now regs.old (M.words core.old) y }
+    ensures stays { Stays result regs.old regs.new (M.words core.old) (M.words core.new) }
+    ensures ic { regs.new.ic < 2 ^ 15 }
+{
+    match kind(i.op) {
+        Kind::Fixed => as_step(ops_fixed::apply(regs, core, i, y)),
+        Kind::Logic => as_step(ops_logic::apply(regs, core, i, y)),
+        Kind::Index => as_step(ops_index::apply(regs, core, i, y)),
+        Kind::Tia => match core.load(y) {
+            Ok(word) => Stepped::Entry(word),
+            Err(_) => Stepped::Outside(y),
+        },
+        Kind::Xec => Stepped::Illegal,
+    }
+}
+
+/// As what a step ends that an operation ended.
+#[inline(always)]
+fn as_step(end: OpEnd) -> Stepped
+    ensures { result ≡ stepped_by end }
+{
+    match end {
+        OpEnd::Went => Stepped::Went,
+        OpEnd::Halt => Stepped::Halt,
+        OpEnd::Outside(address) => Stepped::Outside(address),
+    }
+}
+
+#[inline(always)]
+fn is_xec(kind: Kind) -> bool
+    ensures { result ≡ is_xec kind }
+{
+    match kind {
+        Kind::Xec => true,
+        Kind::Fixed | Kind::Logic | Kind::Index | Kind::Tia => false,
+    }
+}
+
+/// The address less an index number, round the end of core.
+#[inline(always)]
+fn indexed(address: u16, x: u16) -> u16
+    requires address { address < 2 ^ 15 }
+    requires x { x < 2 ^ 15 }
+    ensures value { result ≡ indexed address x }
+    ensures below { result < 2 ^ 15 }
+{
+    (address + 0o100000 - x) & 0o77777
+}
+
+/// The place that an instruction works at, or the address outside.
+#[inline(always)]
+fn place<M: MemoryPort>(regs: &Regs, core: &M, i: &Instr) -> Result<u16, u16>
+    requires { HasFields i.now }
+    ensures place { result ≡ place_of (class_of i.now.op) i.now regs.now (M.words core.now) }
+    ensures below { IfOk result (λ y. y < 2 ^ 15) }
+{
+    match class(i.op) {
+        Class::Addressed => {
+            let y = indexed(i.address, regs.xr(i.tag));
+            if !i.flag {
+                return Ok(y);
+            }
+            let Ok(word) = core.load(y) else {
+                return Err(y);
+            };
+            Ok(indexed(word.address(), regs.xr(word.tag())))
+        }
+        Class::Direct => Ok(indexed(i.address, regs.xr(i.tag))),
+        Class::Tagged | Class::Prefixed | Class::Group => Ok(i.address),
+    }
+}

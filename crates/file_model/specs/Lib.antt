@@ -1,0 +1,3 @@
+pub mod Files
+pub mod Commons
+pub mod Rows

@@ -1,0 +1,11 @@
+pub mod AsWas
+pub mod Calls
+pub mod Counted
+pub mod Counts
+pub mod Images
+pub mod Loaded
+pub mod Moves
+pub mod Ports
+pub mod Resize
+pub mod Residents
+pub mod Words

@@ -1,0 +1,194 @@
+-- A user that gives up blocks from one on: what an image keeps, and every user's own core.
+use Rattle.std.specs.Prelude.{Option, None, Some, slice_index_or, slice_set, map, replicate, ◌-◌}
+use Rattle.std.proofs.Common.{◌≡◌, ◌≢◌, ◌⊎◌, inl, inr, ℕ, zero, suc, ◌+◌, ◌<◌, ◌≤◌, List, [], ◌∷◌, ◌++◌, length, take, refl, sym, ◌∙◌, ap, subst, arith, get_or-set_same, get_or-set_other, length-set, length-append, append_assoc, add-one}
+use Rattle.std.proofs.Math.ListN.{get_or-map}
+use Rattle.std.proofs.lemmas.Bool.{cases_eq}
+use Rattle.std.proofs.lemmas.List.{append-nil, take_all, take_more, replicate_more, get_or_push, get_or_append_left}
+use Rattle.drum_slots.specs.Keys.{quota_of, key}
+use Rattle.drum_slots.specs.Slots.{slot_of}
+use Rattle.drum_slots.specs.Kept.{copies, words_of}
+use Rattle.drum_slots.proofs.Keys.{key_other_block, key_other_user}
+use Rattle.image_map.specs.Blocks.{first}
+use Rattle.image_map.specs.Images.{size_of, or_blank, copy_of, view, image_over, IsImage, resized}
+use Rattle.plan_model.specs.Loads.{owner_of}
+use Rattle.core_bank.specs.Bank.{blank}
+use Rattle.image_map.proofs.Moves.{eq_yes, eq_no, first_same}
+
+-- a user gives up its blocks and copies from block m on
+pub record GivesUp (owners owners' : List ℕ) (slots slots' : List (Option ℕ)) (quotas : List ℕ) (x m : ℕ) : Type 0 where
+  pub len : length owners' ≡ length owners
+  pub owner_gone : (b : ℕ) → m ≤ b → owner_of owners b ≡ x → owner_of owners' b ≡ 0
+  pub owner_others : (b : ℕ) → owner_of owners b ≢ x → owner_of owners' b ≡ owner_of owners b
+  pub owner_below : (b : ℕ) → b < m → owner_of owners' b ≡ owner_of owners b
+  pub slot_gone : (b : ℕ) → m ≤ b → b < quota_of quotas x → slot_of slots' (key quotas x b) ≡ None
+  pub slot_others : (k : ℕ) → ((b : ℕ) → m ≤ b → b < quota_of quotas x → k ≢ key quotas x b) → slot_of slots' k ≡ slot_of slots k
+
+below_or : (b m : ℕ) → (b < m) ⊎ (m ≤ b)
+below_or b m = grind arith
+
+-- an owner was the owner before
+pub was : (owners owners' : List ℕ) (slots slots' : List (Option ℕ)) (quotas : List ℕ) (x m b u : ℕ) → GivesUp owners owners' slots slots' quotas x m → 1 ≤ u
+    → owner_of owners' b ≡ u → owner_of owners b ≡ u
+was owners owners' slots slots' quotas x m b u g some is = elim (cases_eq (owner_of owners b) x) [
+  | inl mine ↦ elim (below_or b m) [
+    | inl under ↦ sym (g.owner_below b under) ∙ is
+    | inr over ↦ let none = g.owner_gone b over mine in absurd (omega arith)
+  ]
+  | inr other ↦ sym (g.owner_others b other) ∙ is
+]
+
+-- a copy that is not given up lies where it lay
+pub stays : (owners owners' : List ℕ) (slots slots' : List (Option ℕ)) (quotas : List ℕ) (x m b u : ℕ) → GivesUp owners owners' slots slots' quotas x m
+    → b < quota_of quotas u → (u ≢ x) ⊎ (b < m) → slot_of slots' (key quotas u b) ≡ slot_of slots (key quotas u b)
+stays owners owners' slots slots' quotas x m b u g fits either = g.slot_others (key quotas u b) (λ c over mine. elim either [
+  | inl them ↦ key_other_user quotas u x b c fits mine them
+  | inr under ↦ let other : b ≢ c = λ e. absurd (omega arith) in key_other_block quotas u x b c fits mine other
+])
+
+size_mine : (sizes : List ℕ) (x m : ℕ) → x < length sizes → size_of (slice_set sizes x m) x ≡ m
+size_mine sizes x m within = get_or-set_same sizes x m 0 within
+
+size_other : (sizes : List ℕ) (x m u : ℕ) → u ≢ x → size_of (slice_set sizes x m) u ≡ size_of sizes u
+size_other sizes x m u other = get_or-set_other sizes x u m 0 other
+
+pub sound_resize : (owners owners' : List ℕ) (slots slots' : List (Option ℕ)) (quotas sizes : List ℕ) (x m : ℕ)
+    → IsImage owners slots quotas sizes → GivesUp owners owners' slots slots' quotas x m → x < length sizes → m ≤ quota_of quotas x
+    → IsImage owners' slots' quotas (slice_set sizes x m)
+sound_resize owners owners' slots slots' quotas sizes x m i g within fits_m = record {
+  blocks = g.len ∙ i.blocks;
+  users = length-set sizes x m ∙ i.users;
+  limit = i.limit;
+  few = i.few;
+  fits = λ u. elim (cases_eq u x) [
+    | inl me ↦ let e : size_of (slice_set sizes x m) u ≡ m = ap (λ (n : ℕ). size_of (slice_set sizes x m) n) me ∙ size_mine sizes x m within in
+        let f : quota_of quotas u ≡ quota_of quotas x = ap (λ (n : ℕ). quota_of quotas n) me in omega arith
+    | inr them ↦ omega (arith, size_other sizes x m u them, i.fits u)
+  ];
+  owned = λ u b some is. elim (cases_eq u x) [
+    | inl me ↦
+        let e : size_of (slice_set sizes x m) u ≡ m = ap (λ (n : ℕ). size_of (slice_set sizes x m) n) me ∙ size_mine sizes x m within in
+        let before = was owners owners' slots slots' quotas x m b u g some is in
+        elim (below_or b m) [
+          | inl under ↦ omega arith
+          | inr over ↦ let none = g.owner_gone b over (before ∙ me) in absurd (omega arith)
+        ]
+    | inr them ↦ omega (arith, size_other sizes x m u them, i.owned u b some (was owners owners' slots slots' quotas x m b u g some is))
+  ];
+  kept = λ u b r fits is. elim (cases_eq u x) [
+    | inl me ↦
+        let e : size_of (slice_set sizes x m) u ≡ m = ap (λ (n : ℕ). size_of (slice_set sizes x m) n) me ∙ size_mine sizes x m within in
+        elim (below_or b m) [
+          | inl under ↦ omega arith
+          | inr over ↦
+              let f : b < quota_of quotas x = subst (λ (n : ℕ). b < quota_of quotas n) me fits in
+              let none = (λ j. slot_of slots' (key quotas (me j) b)) ∙ g.slot_gone b over f in
+              let no : None ≡ Some r = sym none ∙ is in absurd (cc)
+        ]
+    | inr them ↦ omega (arith, size_other sizes x m u them, i.kept u b r fits (sym (stays owners owners' slots slots' quotas x m b u g fits (inl them)) ∙ is))
+  ];
+  apart = λ u b some is.
+      let before = was owners owners' slots slots' quotas x m b u g some is in
+      let size = i.owned u b some before in
+      let fits : b < quota_of quotas u = omega (arith, i.fits u) in
+      elim (cases_eq u x) [
+        | inl me ↦ elim (below_or b m) [
+          | inl under ↦ stays owners owners' slots slots' quotas x m b u g fits (inr under) ∙ i.apart u b some before
+          | inr over ↦
+              let f : b < quota_of quotas x = subst (λ (n : ℕ). b < quota_of quotas n) me fits in
+              (λ j. slot_of slots' (key quotas (me j) b)) ∙ g.slot_gone b over f
+        ]
+        | inr them ↦ stays owners owners' slots slots' quotas x m b u g fits (inl them) ∙ i.apart u b some before
+      ];
+}
+
+-- the words of a copy, where records are told
+copy_at : (rows : List (List ℕ)) (slots : List (Option ℕ)) (k : ℕ) → copy_of (map (words_of rows) slots) k ≡ words_of rows (slot_of slots k)
+copy_at rows slots k = get_or-map (words_of rows) slots k None
+
+view_stays : (owners owners' : List ℕ) (slots slots' : List (Option ℕ)) (quotas : List ℕ) (x m : ℕ) (blocks : ℕ → List ℕ) (rows : List (List ℕ)) (u b : ℕ)
+    → GivesUp owners owners' slots slots' quotas x m → 1 ≤ u → b < quota_of quotas u → (u ≢ x) ⊎ (b < m)
+    → view blocks owners' (map (words_of rows) slots') quotas u b ≡ view blocks owners (map (words_of rows) slots) quotas u b
+view_stays owners owners' slots slots' quotas x m blocks rows u b g some fits either =
+    let slot = stays owners owners' slots slots' quotas x m b u g fits either in
+    let copy : copy_of (map (words_of rows) slots') (key quotas u b) ≡ copy_of (map (words_of rows) slots) (key quotas u b) =
+    copy_at rows slots' (key quotas u b) ∙ ap (words_of rows) slot ∙ sym (copy_at rows slots (key quotas u b)) in
+    elim (cases_eq (owner_of owners b) u) [
+      | inl mine ↦
+          let now : owner_of owners' b ≡ u = elim either [
+            | inl them ↦ let other : owner_of owners b ≢ x = λ e. them (sym mine ∙ e) in g.owner_others b other ∙ mine
+            | inr under ↦ g.owner_below b under ∙ mine
+          ] in
+          rw (eq_yes _ _ now, eq_yes _ _ mine) refl
+      | inr other ↦
+          let now : owner_of owners' b ≢ u = λ e. other (was owners owners' slots slots' quotas x m b u g some e) in
+          rw (eq_no _ _ now, eq_no _ _ other) (ap or_blank copy)
+    ]
+
+-- others' cores stay
+pub core_stays : (owners owners' : List ℕ) (slots slots' : List (Option ℕ)) (quotas sizes : List ℕ) (x m : ℕ) (blocks : ℕ → List ℕ) (rows : Option (List (List ℕ))) (u : ℕ)
+    → GivesUp owners owners' slots slots' quotas x m → IsImage owners slots quotas sizes → 1 ≤ u → u ≢ x
+    → image_over blocks owners' (copies rows slots') quotas (size_of (slice_set sizes x m) u) u ≡ image_over blocks owners (copies rows slots) quotas (size_of sizes u) u
+core_stays owners owners' slots slots' quotas sizes x m blocks None u g i some them = refl
+core_stays owners owners' slots slots' quotas sizes x m blocks (Some rows) u g i some them =
+    ap (λ (n : ℕ). image_over blocks owners' (copies (Some rows) slots') quotas n u) (size_other sizes x m u them)
+    ∙ ap (λ (l : List (List ℕ)). Some l) (first_same (size_of sizes u) _ _ (λ b below.
+    view_stays owners owners' slots slots' quotas x m blocks rows u b g some (omega (arith, i.fits u)) (inl them)))
+
+length_first : (n : ℕ) (f : ℕ → List ℕ) → length (first n f) ≡ n
+length_first zero f = refl
+length_first (suc n) f = length-append (first n f) (f n ∷ []) ∙ omega (arith, length_first n f)
+
+pub get_first : (n : ℕ) (f : ℕ → List ℕ) (b : ℕ) → b < n → slice_index_or (first n f) b [] ≡ f b
+get_first zero f b below = absurd (omega arith)
+get_first (suc n) f b below = elim (cases_eq b n) [
+  | inl same ↦ get_or_push (first n f) (f n) [] b (length_first n f ∙ sym same) ∙ ap f (sym same)
+  | inr other ↦ get_or_append_left (first n f) (f n ∷ []) [] b (omega (arith, length_first n f)) ∙ get_first n f b (omega arith)
+]
+
+pub first_resize : (n m : ℕ) (f g : ℕ → List ℕ) → ((b : ℕ) → b < m → b < n → g b ≡ f b) → ((b : ℕ) → b < m → n ≤ b → g b ≡ blank)
+    → first m g ≡ take m (first n f) ++ replicate (m - n) blank
+first_resize n zero f g same fresh = let e : 0 - n ≡ 0 = omega arith in rw e refl
+first_resize n (suc m) f g same fresh =
+    let rest = first_resize n m f g (λ b under inside. same b (omega arith) inside) (λ b under over. fresh b (omega arith) over) in
+    let len = length_first n f in
+    elim (below_or m n) [
+      | inl inside ↦
+          let none : m - n ≡ 0 = omega arith in
+          let none2 : suc m - n ≡ 0 = omega arith in
+          let more : take (m + 1) (first n f) ≡ take m (first n f) ++ slice_index_or (first n f) m [] ∷ [] = take_more (first n f) m [] (omega arith) in
+          let last : g m ≡ slice_index_or (first n f) m [] = same m (omega arith) inside ∙ sym (get_first n f m inside) in
+          ap (λ (l : List (List ℕ)). l ++ g m ∷ []) (rest ∙ ap (λ (k : ℕ). take m (first n f) ++ replicate k blank) none ∙ append-nil (take m (first n f)))
+          ∙ ap (λ (w : List ℕ). take m (first n f) ++ w ∷ []) last
+          ∙ sym more ∙ ap (λ (k : ℕ). take k (first n f)) (add-one m)
+          ∙ sym (append-nil (take (suc m) (first n f))) ∙ ap (λ (k : ℕ). take (suc m) (first n f) ++ replicate k blank) (sym none2)
+      | inr over ↦
+          let step : suc m - n ≡ m - n + 1 = omega arith in
+          let one : take m (first n f) ≡ first n f = take_all m (first n f) (omega arith) in
+          let two : take (suc m) (first n f) ≡ first n f = take_all (suc m) (first n f) (omega arith) in
+          ap (λ (l : List (List ℕ)). l ++ g m ∷ []) rest
+          ∙ ap (λ (w : List ℕ). (take m (first n f) ++ replicate (m - n) blank) ++ w ∷ []) (fresh m (omega arith) over)
+          ∙ append_assoc (take m (first n f)) (replicate (m - n) blank) (blank ∷ [])
+          ∙ ap (λ (l : List (List ℕ)). take m (first n f) ++ l) (replicate_more (m - n) blank)
+          ∙ (λ j. (one ∙ sym two) j ++ replicate (sym step j) blank)
+    ]
+
+none_from : (o : Option ℕ) → ((r : ℕ) → o ≡ Some r → ⊥) → o ≡ None
+none_from None never = refl
+none_from (Some r) never = absurd (never r refl)
+
+-- the user's own core is cut, or extended by plus zeros
+pub core_resized : (owners owners' : List ℕ) (slots slots' : List (Option ℕ)) (quotas sizes : List ℕ) (x m : ℕ) (blocks : ℕ → List ℕ) (rows : Option (List (List ℕ)))
+    → GivesUp owners owners' slots slots' quotas x m → IsImage owners slots quotas sizes → 1 ≤ x → x < length sizes → m ≤ quota_of quotas x
+    → image_over blocks owners' (copies rows slots') quotas (size_of (slice_set sizes x m) x) x
+    ≡ resized (size_of sizes x) m (image_over blocks owners (copies rows slots) quotas (size_of sizes x) x)
+core_resized owners owners' slots slots' quotas sizes x m blocks None g i some within fits = refl
+core_resized owners owners' slots slots' quotas sizes x m blocks (Some rows) g i some within fits =
+    ap (λ (n : ℕ). image_over blocks owners' (copies (Some rows) slots') quotas n x) (size_mine sizes x m within)
+    ∙ ap (λ (l : List (List ℕ)). Some l) (first_resize (size_of sizes x) m _ _
+    (λ b under inside. view_stays owners owners' slots slots' quotas x m blocks rows x b g some (omega arith) (inr under))
+    (λ b under over.
+    let mine : b < quota_of quotas x = omega arith in
+    let none : slot_of slots (key quotas x b) ≡ None = none_from _ (λ r is. let k = i.kept x b r mine is in absurd (omega arith)) in
+    let gone = stays owners owners' slots slots' quotas x m b x g mine (inr under) ∙ none in
+    let other : owner_of owners' b ≢ x = λ e. let k = i.owned x b some (was owners owners' slots slots' quotas x m b x g some e) in absurd (omega arith) in
+    rw (eq_no _ _ other) (ap or_blank (copy_at rows slots' (key quotas x b) ∙ ap (words_of rows) gone))))

@@ -1,0 +1,54 @@
+use Rattle.std.specs.Prelude.{None, slice_set}
+use Rattle.std.proofs.Common.{◌≡◌, ◌≢◌, ℕ, ◌<◌, ◌≤◌, List, ◌++◌, length, take, drop, ◌∙◌, ap, arith, get_or-set_same, get_or-set_other}
+use Rattle.std.proofs.lemmas.List.{take_at}
+use Rattle.drum_slots.specs.Keys.{quota_of, key}
+use Rattle.drum_slots.specs.Kept.{copies}
+use Rattle.drum_slots.proofs.Keys.{key_below}
+use Rattle.image_map.proofs.Moves.{sound_moves}
+use Rattle.image_map.proofs.Images.{core_moves, moves_take, take_view, read_words}
+use Rattle.core_bank.specs.Bank.{block_at}
+use Rattle.image_map.proofs.image.Image.fetch_block.Goals as goal
+
+pub invariant_of-tables-2 : goal.invariant_of-tables-2
+invariant_of-tables-2 g c =
+    let s = c.args.self.now.tables.sound in
+    let quotas = c.args.self.now.tables.kept.slots.quotas.items in
+    let owners = c.args.self.now.tables.owners in
+    let slots = c.args.self.now.tables.kept.slots.slots.items in
+    let sizes = c.args.self.now.tables.sizes.items in
+    let some : 1 ≤ c.args.user = omega (arith, c.number.ensures.range.0, c.number.ensures.value) in
+    let fits : c.args.block < quota_of quotas c.args.user = omega (arith, s.fits c.args.user) in
+    let below : c.args.block < length owners = omega (arith, s.blocks, s.limit c.args.user) in
+    let place : key quotas c.args.user c.args.block < length slots = omega (arith, key_below quotas c.args.user c.args.block fits, c.args.self.now.tables.kept.slots.places) in
+    let m = moves_take owners slots (slice_set slots (key quotas c.args.user c.args.block) None) quotas c.args.user c.args.block below c.requires.owned
+    (λ k other. get_or-set_other slots (key quotas c.args.user c.args.block) k None None other)
+    (get_or-set_same slots (key quotas c.args.user c.args.block) None None place) in
+    let kept = sound_moves _ _ _ _ quotas sizes c.args.user c.args.block s m some c.requires.inside in
+    record { sound = rw (c.set.ensures, c.number.ensures.value, c.in_ok-read_block.ensures.slot, c.read_block.ensures.quotas) kept }
+
+pub returns-clause-images : goal.returns-clause-images
+returns-clause-images g c =
+    let s = c.args.self.now.tables.sound in
+    let quotas = c.args.self.now.tables.kept.slots.quotas.items in
+    let owners = c.args.self.now.tables.owners in
+    let slots = c.args.self.now.tables.kept.slots.slots.items in
+    let sizes = c.args.self.now.tables.sizes.items in
+    let old = c.args.self.now.bank in
+    let new = c.read_block.new.words in
+    let some : 1 ≤ c.args.user = omega (arith, c.number.ensures.range.0, c.number.ensures.value) in
+    let fits : c.args.block < quota_of quotas c.args.user = omega (arith, s.fits c.args.user) in
+    let below : c.args.block < length owners = omega (arith, s.blocks, s.limit c.args.user) in
+    let place : key quotas c.args.user c.args.block < length slots = omega (arith, key_below quotas c.args.user c.args.block fits, c.args.self.now.tables.kept.slots.places) in
+    let m = moves_take owners slots (slice_set slots (key quotas c.args.user c.args.block) None) quotas c.args.user c.args.block below c.requires.owned
+    (λ k other. get_or-set_other slots (key quotas c.args.user c.args.block) k None None other)
+    (get_or-set_same slots (key quotas c.args.user c.args.block) None None place) in
+    let rows = g.D.Medium.rows c.args.self.now.tables.kept.drum.now in
+    let bank : take (length old) (new ++ drop (length new) old) ≡ new
+    = take_at new (drop (length new) old) (length old) (c.read_block.ensures.len ∙ ap (λ (l : List ℕ). length l) c.words_mut.ensures.value) in
+    let stay : (k : ℕ) → k ≢ c.args.block → block_at new k ≡ block_at old k = λ k other. c.read_block.ensures.others k other ∙ ap (λ (l : List ℕ). block_at l k) c.words_mut.ensures.value in
+    let all = core_moves owners (slice_set owners c.args.block c.args.user) slots (slice_set slots (key quotas c.args.user c.args.block) None) (block_at old) (block_at new) quotas sizes
+    (copies rows slots) (copies (g.D.Medium.rows c.read_block.new.table.drum.now) c.read_block.new.table.slots.slots.items) c.args.user c.args.block None
+    c.in_ok-read_block.ensures.ok s m stay c.requires.inside
+    (take_view owners (block_at old) (block_at new) quotas c.args.user c.args.block (copies rows slots) None some below c.requires.owned
+    (read_words (copies rows slots) (key quotas c.args.user c.args.block) (block_at new c.args.block) c.in_ok-read_block.ensures.given)) in
+    rw (bank, c.set.ensures, c.number.ensures.value, c.read_block.ensures.quotas) all

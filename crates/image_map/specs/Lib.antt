@@ -1,0 +1,4 @@
+pub mod Blocks
+pub mod Images
+pub mod Loads
+pub mod Places

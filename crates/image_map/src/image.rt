@@ -1,0 +1,592 @@
+//! What each user has in core and on the drum.
+ghost use Rattle.std.specs.Prelude.{◌≡◌, ◌≢◌, ◌<◌, ◌≤◌, ◌+◌, ◌↔◌, ℕ, [], ◌∷◌, length, sum, true, false, None, Some, slice_set, replicate, is_err, IfOk, OnOk, OnErr, IsSome, IsTrue};
+ghost use Rattle.std.specs.List.{All};
+ghost use Rattle.faults.specs.Faults.{Rose};
+ghost use Rattle.medium.specs.Medium.{read_call, write_call, with_call};
+ghost use Rattle.core_bank.specs.Bank.{AreWords, block_at};
+ghost use Rattle.drum_slots.specs.Kept.{Serves};
+ghost use Rattle.drum_slots.specs.Keys.{quota_of};
+ghost use Rattle.drum_slots.specs.Slots.{slot_of};
+ghost use Rattle.drum_slots.specs.Table.{slots_of, records_of, next_of, quota_in, record_of};
+ghost use Rattle.plan_model.specs.Loads.{owner_of, count_below, is_dumped, is_read, is_fresh, is_loaded, loaded, given_up};
+ghost use Rattle.image_map.specs.Images.{size_of, image_in, resized, IsResident, IsImage};
+ghost use Rattle.image_map.specs.Loads.{held_of, dumped, taken, load_one, load_to, calls_one, calls_to, with_calls, count_writes, count_reads, FailedIn};
+ghost use Rattle.image_map.specs.Places.{places_of};
+
+use crate::port::Port;
+use crate::transfer::read_block;
+use core_bank::Bank;
+use ctss_types::UserNo;
+use drum_slots::{DrumFault, SlotTable, Slots};
+use faults::NoMemory;
+use medium::Medium;
+use onion_swap::{Owners, Plan};
+use std::alloc::Global;
+
+/// Size 0 for number 0, which is nobody's, and for so many users.
+pub fn no_sizes(alloc: Global, users: usize) -> Result<Vec<u8>, NoMemory>
+    requires { users ≤ 30 }
+    ensures { IfOk result (λ v. v.items ≡ replicate (users + 1) 0) }
+{
+    Ok(vec![in alloc; 0u8; users + 1]?)
+}
+
+/// The images of up to 30 users over a core and a drum that is handed in.
+///
+/// A user's image is a list of blocks of 256 words, as many as its size, which is at most its quota.
+/// Each block lies in core, at the place of its number, where the user owns it; else in a record of
+/// the drum; and else it is plus zeros. Where the drum tells its records, clauses name the image by
+/// `image_in`. After a drum fault nothing but `failed`, `size`, `resident` and `back` may be asked.
+#[derive(Drop)]
+pub struct Image<'a, D: Medium> {
+    tables: Tables<'a, D>,
+    bank: Bank,
+    failed: bool,
+}
+
+/// Where each block of each user is.
+#[derive(Drop)]
+struct Tables<'a, D: Medium> {
+    kept: SlotTable<'a, D>,
+    owners: Owners,
+    // By user number, so that of number 0, which is nobody's, is 0.
+    sizes: Vec<u8>,
+    ghost sound: { IsImage owners kept.slots.slots.items kept.slots.quotas.items sizes.items },
+}
+
+impl<'a, D: Medium> Image<'a, D> {
+    /// Images of users 1, 2, 3 and on with these quotas, in blocks, over the first `records` records
+    /// of a drum. All sizes are 0, and no call of the drum is made.
+    ///
+    /// After an error the clauses say nothing of the drum. Where that matters, make the parts first
+    /// and then the images with `over`.
+    pub fn new(
+        alloc: Global,
+        drum: &'a mut D,
+        records: u16,
+        quotas: &[u8],
+    ) -> Result<Image<'a, D>, NoMemory>
+        requires few { length quotas.now ≤ 30 }
+        requires limit { All (λ quota. quota ≤ 128) quotas.now }
+        requires fits { sum quotas.now ≤ records }
+        requires serves { Serves (D.rows drum.old) (D.record_count drum.old)
+            (D.words_each drum.old) records }
+        ensures same { IfOk result (λ i. i.tables.kept.drum.ghost_name ≡ drum.entry.ghost_name) }
+        ensures now { IfOk result (λ i. i.tables.kept.drum.now ≡ drum.old) }
+        ensures serves { IfOk result (λ i. Serves (D.rows i.tables.kept.drum.now)
+            (D.record_count i.tables.kept.drum.now)
+            (D.words_each i.tables.kept.drum.now) (records_of i.tables.kept.slots)) }
+        ensures quotas { IfOk result (λ i. i.tables.kept.slots.quotas.items ≡ 0 ∷ quotas.now) }
+        ensures sizes { IfOk result (λ i. i.tables.sizes.items ≡ replicate (length quotas.now + 1) 0) }
+        ensures words { IfOk result (λ i. AreWords i.bank) }
+        ensures owners { IfOk result (λ i. i.tables.owners ≡ replicate 128 0) }
+        ensures none { IfOk result (λ i. (k : ℕ) → slot_of (slots_of i.tables.kept.slots) k ≡ None) }
+        ensures works { IfOk result (λ i. i.failed ≡ false) }
+    {
+        let sizes = no_sizes(alloc, quotas.len())?;
+        let bank = Bank::new(alloc)?;
+        let slots = Slots::new(alloc, records, quotas)?;
+        Ok(Image::over(drum, slots, bank, sizes))
+    }
+
+    /// Images over parts that were made before: slots that keep nothing, any core, and sizes 0.
+    pub fn over(drum: &'a mut D, slots: Slots, bank: Bank, sizes: Vec<u8>) -> Image<'a, D>
+        requires none { (k : ℕ) → slot_of (slots_of slots) k ≡ None }
+        requires few { length slots.quotas.items ≤ 31 }
+        requires limit { (u : ℕ) → quota_in slots u ≤ 128 }
+        requires sizes { sizes.items ≡ replicate (length slots.quotas.items) 0 }
+        ensures same { result.tables.kept.drum.ghost_name ≡ drum.entry.ghost_name }
+        ensures now { result.tables.kept.drum.now ≡ drum.old }
+        ensures slots { result.tables.kept.slots ≡ slots }
+        ensures bank { result.bank ≡ bank }
+        ensures sizes { result.tables.sizes ≡ sizes }
+        ensures owners { result.tables.owners ≡ replicate 128 0 }
+        ensures works { result.failed ≡ false }
+    {
+        let tables = Tables {
+            kept: SlotTable::over(drum, slots),
+            owners: Owners::new(),
+            sizes,
+        };
+        Image {
+            tables,
+            bank,
+            failed: false,
+        }
+    }
+
+    /// Ends the images and gives the drum back.
+    pub fn back(self) -> &'a mut D
+        ensures same { result.ghost_name ≡ self.entry.tables.kept.drum.ghost_name }
+        ensures now { result.now ≡ self.entry.tables.kept.drum.now }
+    {
+        let Image {
+            tables,
+            bank,
+            failed: _,
+        } = self;
+        let Tables {
+            kept,
+            owners,
+            sizes,
+        } = tables;
+        drop(bank);
+        drop(owners);
+        drop(sizes);
+        kept.back()
+    }
+
+    /// Whether a load has failed.
+    pub fn failed(&self) -> bool
+        ensures { result ≡ self.now.failed }
+    {
+        self.failed
+    }
+
+    /// How many blocks a user has.
+    pub fn size(&self, user: UserNo) -> u8
+        requires { user < length self.now.tables.sizes.items }
+        ensures value { result ≡ size_of self.now.tables.sizes.items user }
+        ensures quota { result ≤ quota_in self.now.tables.kept.slots user }
+        ensures most { result ≤ 128 }
+    {
+        self.tables.sizes[user.number() as usize]
+    }
+
+    /// Whether all of a user's blocks are in core.
+    pub fn resident(&self, user: UserNo) -> bool
+        requires { user < length self.now.tables.sizes.items }
+        ensures owns { IsTrue result
+            ↔ IsResident self.now.tables.owners (size_of self.now.tables.sizes.items user) user }
+        ensures value { result ≡ is_loaded (places_of self.now.tables.owners self.now.tables.kept.slots) user
+            (size_of self.now.tables.sizes.items user) }
+    {
+        'looking: for b in 0..self.tables.sizes[user.number() as usize] {
+            if self.tables.owners.owner(b) != user.number() {
+                return false;
+            }
+        }
+        true
+    }
+}
+
+impl<'a, D: Medium> Image<'a, D> {
+    ghost use Rattle.std.specs.Borrow.{sem, Lends};
+    ghost use mir.Syntax.{named};
+    ghost use Rattle.core_bank.specs.contracts.Bank.{the_row as bank_row};
+    ghost use Rattle.image_map.specs.contracts.image.Image.{the_row as image_row};
+
+    /// Lends the core, so that a program can work in it.
+    pub fn bank_mut(&mut self) -> &mut Bank
+        ensures* lends { sem 𝓛 (Lends
+            (image_row (record { mir = named 1; lft = [] }) D.row D.Medium) bank_row
+            self.entry result (λ bank. record self.old { bank = bank })) }
+        ensures now { result.now ≡ self.old.bank }
+    {
+        &mut self.bank
+    }
+
+    /// A port to the blocks of a user that is resident.
+    ///
+    /// While it lives the other fields stay, but a caller learns nothing of what was stored. Where
+    /// that matters hand `bank_mut` to a function that makes the port with `Port::over`.
+    pub fn port(&mut self, user: UserNo) -> Port<'_>
+        requires user { user < length self.old.tables.sizes.items }
+        requires resident { IsResident self.old.tables.owners
+            (size_of self.old.tables.sizes.items user) user }
+        requires words { AreWords self.old.bank }
+        ensures* lends { sem 𝓛 (Lends
+            (image_row (record { mir = named 1; lft = [] }) D.row D.Medium) bank_row
+            self.entry result.bank (λ bank. record self.old { bank = bank })) }
+        ensures now { result.bank.now ≡ self.old.bank }
+        ensures blocks { result.blocks ≡ size_of self.old.tables.sizes.items user }
+    {
+        let blocks = self.size(user);
+        Port::over(&mut self.bank, blocks)
+    }
+}
+
+impl<'a, D: Medium> Image<'a, D> {
+    /// Writes a block to the drum, which its owner has no more in core then.
+    fn dump_block(&mut self, owner: UserNo, block: u8) -> Result<(), DrumFault>
+        requires some { 1 ≤ owner }
+        requires block { block < 128 }
+        requires owned { owner_of self.old.tables.owners block ≡ owner }
+        requires words { AreWords self.old.bank }
+        requires serves { Serves (D.rows self.old.tables.kept.drum.now)
+            (D.record_count self.old.tables.kept.drum.now)
+            (D.words_each self.old.tables.kept.drum.now) (records_of self.old.tables.kept.slots) }
+
+        ensures same { self.new.tables.kept.drum.ghost_name ≡ self.old.tables.kept.drum.ghost_name }
+        ensures serves { Serves (D.rows self.new.tables.kept.drum.now)
+            (D.record_count self.new.tables.kept.drum.now)
+            (D.words_each self.new.tables.kept.drum.now) (records_of self.new.tables.kept.slots) }
+        ensures quotas { self.new.tables.kept.slots.quotas ≡ self.old.tables.kept.slots.quotas }
+        ensures sizes { self.new.tables.sizes ≡ self.old.tables.sizes }
+        ensures works { self.new.failed ≡ self.old.failed }
+        ensures bank { self.new.bank ≡ self.old.bank }
+
+        ensures held { OnOk result (held_of self.new.tables.owners self.new.tables.kept.slots
+            ≡ dumped self.old.tables.kept.slots.quotas.items
+            (held_of self.old.tables.owners self.old.tables.kept.slots) owner block) }
+        ensures images { OnOk result ((u : ℕ) → 1 ≤ u
+            → image_in self.new.bank (D.rows self.new.tables.kept.drum.now) self.new.tables.owners
+            self.new.tables.kept.slots self.new.tables.sizes.items u
+            ≡ image_in self.old.bank (D.rows self.old.tables.kept.drum.now) self.old.tables.owners
+            self.old.tables.kept.slots self.old.tables.sizes.items u) }
+
+        // One write, at the least free record.
+        ensures calls { D.calls self.new.tables.kept.drum.now
+            ≡ with_call (D.calls self.old.tables.kept.drum.now)
+            (write_call (next_of self.old.tables.kept.slots) (is_err result)) }
+        ensures kept { D.faults self.old.tables.kept.drum.now ≤ D.faults self.new.tables.kept.drum.now }
+        ensures cause { OnErr result
+            (Rose (D.faults self.old.tables.kept.drum.now) (D.faults self.new.tables.kept.drum.now)) }
+    {
+        let tables = &mut self.tables;
+        tables.kept.put_block(owner, block, self.bank.block(block))?;
+        tables.owners.set(block, 0);
+        Ok(())
+    }
+
+    /// Reads the copy of a user's block into core.
+    fn fetch_block(&mut self, user: UserNo, block: u8) -> Result<(), DrumFault>
+        requires inside { block < size_of self.old.tables.sizes.items user }
+        requires owned { owner_of self.old.tables.owners block ≡ 0 }
+        requires kept { IsSome (record_of self.old.tables.kept.slots user block) }
+        requires words { AreWords self.old.bank }
+        requires serves { Serves (D.rows self.old.tables.kept.drum.now)
+            (D.record_count self.old.tables.kept.drum.now)
+            (D.words_each self.old.tables.kept.drum.now) (records_of self.old.tables.kept.slots) }
+
+        ensures same { self.new.tables.kept.drum.ghost_name ≡ self.old.tables.kept.drum.ghost_name }
+        ensures serves { Serves (D.rows self.new.tables.kept.drum.now)
+            (D.record_count self.new.tables.kept.drum.now)
+            (D.words_each self.new.tables.kept.drum.now) (records_of self.new.tables.kept.slots) }
+        ensures quotas { self.new.tables.kept.slots.quotas ≡ self.old.tables.kept.slots.quotas }
+        ensures sizes { self.new.tables.sizes ≡ self.old.tables.sizes }
+        ensures works { self.new.failed ≡ self.old.failed }
+        ensures words { AreWords self.new.bank }
+        ensures others { (b : ℕ) → b ≢ block
+            → block_at self.new.bank b ≡ block_at self.old.bank b }
+
+        ensures held { (at : ℕ) → record_of self.old.tables.kept.slots user block ≡ Some at
+            → OnOk result (held_of self.new.tables.owners self.new.tables.kept.slots
+            ≡ taken self.old.tables.kept.slots.quotas.items
+            (held_of self.old.tables.owners self.old.tables.kept.slots) user block (Some at)) }
+        ensures images { OnOk result ((u : ℕ) → 1 ≤ u
+            → image_in self.new.bank (D.rows self.new.tables.kept.drum.now) self.new.tables.owners
+            self.new.tables.kept.slots self.new.tables.sizes.items u
+            ≡ image_in self.old.bank (D.rows self.old.tables.kept.drum.now) self.old.tables.owners
+            self.old.tables.kept.slots self.old.tables.sizes.items u) }
+
+        // One read, at the record of the copy.
+        ensures calls { (at : ℕ) → record_of self.old.tables.kept.slots user block ≡ Some at
+            → D.calls self.new.tables.kept.drum.now
+            ≡ with_call (D.calls self.old.tables.kept.drum.now)
+            (read_call at (is_err result) (block_at self.new.bank block)) }
+        ensures kept { D.faults self.old.tables.kept.drum.now ≤ D.faults self.new.tables.kept.drum.now }
+        ensures cause { OnErr result
+            (Rose (D.faults self.old.tables.kept.drum.now) (D.faults self.new.tables.kept.drum.now)) }
+    {
+        let tables = &mut self.tables;
+        read_block(&mut tables.kept, self.bank.words_mut(), user, block)?;
+        tables.owners.set(block, user.number());
+        Ok(())
+    }
+
+    /// Brings a user's block of which there is no copy into core, as plus zeros.
+    fn clear(&mut self, user: UserNo, block: u8)
+        requires inside { block < size_of self.old.tables.sizes.items user }
+        requires owned { owner_of self.old.tables.owners block ≡ 0 }
+        requires none { record_of self.old.tables.kept.slots user block ≡ None }
+        requires words { AreWords self.old.bank }
+        ensures table { self.new.tables.kept ≡ self.old.tables.kept }
+        ensures sizes { self.new.tables.sizes ≡ self.old.tables.sizes }
+        ensures works { self.new.failed ≡ self.old.failed }
+        ensures words { AreWords self.new.bank }
+        ensures others { (b : ℕ) → b ≢ block
+            → block_at self.new.bank b ≡ block_at self.old.bank b }
+        ensures owners { self.new.tables.owners ≡ slice_set self.old.tables.owners block user }
+        ensures images { (u : ℕ) → 1 ≤ u
+            → image_in self.new.bank (D.rows self.new.tables.kept.drum.now) self.new.tables.owners
+            self.new.tables.kept.slots self.new.tables.sizes.items u
+            ≡ image_in self.old.bank (D.rows self.old.tables.kept.drum.now) self.old.tables.owners
+            self.old.tables.kept.slots self.old.tables.sizes.items u }
+    {
+        self.bank.clear_block(block);
+        let tables = &mut self.tables;
+        tables.owners.set(block, user.number());
+    }
+
+    /// Brings one block of a user into core.
+    fn load_block(&mut self, user: UserNo, block: u8) -> Result<(), DrumFault>
+        requires inside { block < size_of self.old.tables.sizes.items user }
+        requires words { AreWords self.old.bank }
+        requires serves { Serves (D.rows self.old.tables.kept.drum.now)
+            (D.record_count self.old.tables.kept.drum.now)
+            (D.words_each self.old.tables.kept.drum.now) (records_of self.old.tables.kept.slots) }
+
+        ensures same { self.new.tables.kept.drum.ghost_name ≡ self.old.tables.kept.drum.ghost_name }
+        ensures serves { Serves (D.rows self.new.tables.kept.drum.now)
+            (D.record_count self.new.tables.kept.drum.now)
+            (D.words_each self.new.tables.kept.drum.now) (records_of self.new.tables.kept.slots) }
+        ensures quotas { self.new.tables.kept.slots.quotas ≡ self.old.tables.kept.slots.quotas }
+        ensures sizes { self.new.tables.sizes ≡ self.old.tables.sizes }
+        ensures works { self.new.failed ≡ self.old.failed }
+        ensures words { AreWords self.new.bank }
+        ensures others { (b : ℕ) → b ≢ block
+            → block_at self.new.bank b ≡ block_at self.old.bank b }
+
+        ensures held { OnOk result (held_of self.new.tables.owners self.new.tables.kept.slots
+            ≡ load_one self.old.tables.kept.slots.quotas.items
+            (held_of self.old.tables.owners self.old.tables.kept.slots) user block) }
+        ensures images { OnOk result ((u : ℕ) → 1 ≤ u
+            → image_in self.new.bank (D.rows self.new.tables.kept.drum.now) self.new.tables.owners
+            self.new.tables.kept.slots self.new.tables.sizes.items u
+            ≡ image_in self.old.bank (D.rows self.old.tables.kept.drum.now) self.old.tables.owners
+            self.old.tables.kept.slots self.old.tables.sizes.items u) }
+        ensures calls { OnOk result (D.calls self.new.tables.kept.drum.now
+            ≡ with_calls (D.calls self.old.tables.kept.drum.now)
+            (calls_one self.old.tables.kept.slots.quotas.items
+            (held_of self.old.tables.owners self.old.tables.kept.slots) user block
+            (block_at self.new.bank block))) }
+        ensures failed { OnErr result (FailedIn (D.calls self.old.tables.kept.drum.now)
+            (D.calls self.new.tables.kept.drum.now) (calls_one self.old.tables.kept.slots.quotas.items
+            (held_of self.old.tables.owners self.old.tables.kept.slots) user block
+            (block_at self.new.bank block))) }
+        ensures kept { D.faults self.old.tables.kept.drum.now ≤ D.faults self.new.tables.kept.drum.now }
+        ensures cause { OnErr result
+            (Rose (D.faults self.old.tables.kept.drum.now) (D.faults self.new.tables.kept.drum.now)) }
+    {
+        let owner = self.tables.owners.owner(block);
+        if owner == user.number() {
+            return Ok(());
+        }
+        if owner != 0 {
+            self.dump_block(UserNo::of(owner), block)?;
+        }
+        if self.tables.kept.has(user, block) {
+            self.fetch_block(user, block)?;
+        } else {
+            self.clear(user, block);
+        }
+        Ok(())
+    }
+
+    /// Brings a user's blocks below a number into core, in rising order.
+    fn load_blocks(&mut self, user: UserNo, blocks: u8) -> Result<(), DrumFault>
+        requires inside { blocks ≤ size_of self.old.tables.sizes.items user }
+        requires words { AreWords self.old.bank }
+        requires serves { Serves (D.rows self.old.tables.kept.drum.now)
+            (D.record_count self.old.tables.kept.drum.now)
+            (D.words_each self.old.tables.kept.drum.now) (records_of self.old.tables.kept.slots) }
+
+        ensures same { self.new.tables.kept.drum.ghost_name ≡ self.old.tables.kept.drum.ghost_name }
+        ensures serves { Serves (D.rows self.new.tables.kept.drum.now)
+            (D.record_count self.new.tables.kept.drum.now)
+            (D.words_each self.new.tables.kept.drum.now) (records_of self.new.tables.kept.slots) }
+        ensures quotas { self.new.tables.kept.slots.quotas ≡ self.old.tables.kept.slots.quotas }
+        ensures sizes { self.new.tables.sizes ≡ self.old.tables.sizes }
+        ensures works { self.new.failed ≡ self.old.failed }
+        ensures words { AreWords self.new.bank }
+        ensures others { (b : ℕ) → blocks ≤ b
+            → block_at self.new.bank b ≡ block_at self.old.bank b }
+
+        ensures held { OnOk result (held_of self.new.tables.owners self.new.tables.kept.slots
+            ≡ load_to self.old.tables.kept.slots.quotas.items
+            (held_of self.old.tables.owners self.old.tables.kept.slots) user blocks) }
+        ensures resident { OnOk result (IsResident self.new.tables.owners blocks user) }
+        ensures images { OnOk result ((u : ℕ) → 1 ≤ u
+            → image_in self.new.bank (D.rows self.new.tables.kept.drum.now) self.new.tables.owners
+            self.new.tables.kept.slots self.new.tables.sizes.items u
+            ≡ image_in self.old.bank (D.rows self.old.tables.kept.drum.now) self.old.tables.owners
+            self.old.tables.kept.slots self.old.tables.sizes.items u) }
+        ensures calls { OnOk result (D.calls self.new.tables.kept.drum.now
+            ≡ with_calls (D.calls self.old.tables.kept.drum.now)
+            (calls_to self.old.tables.kept.slots.quotas.items
+            (held_of self.old.tables.owners self.old.tables.kept.slots) user blocks
+            (block_at self.new.bank))) }
+        ensures failed { OnErr result (FailedIn (D.calls self.old.tables.kept.drum.now)
+            (D.calls self.new.tables.kept.drum.now) (calls_to self.old.tables.kept.slots.quotas.items
+            (held_of self.old.tables.owners self.old.tables.kept.slots) user blocks
+            (block_at self.new.bank))) }
+        ensures kept { D.faults self.old.tables.kept.drum.now ≤ D.faults self.new.tables.kept.drum.now }
+        ensures cause { OnErr result
+            (Rose (D.faults self.old.tables.kept.drum.now) (D.faults self.new.tables.kept.drum.now)) }
+    {
+        'loading: for b in 0..blocks {
+            self.load_block(user, b)?;
+        }
+        Ok(())
+    }
+
+    /// What a load of a user's blocks below a number moves.
+    fn plan_of(&self, user: UserNo, blocks: u8) -> Plan
+        requires { blocks ≤ size_of self.now.tables.sizes.items user }
+        ensures dumped { result.dumped ≡ count_below blocks
+            (is_dumped (places_of self.now.tables.owners self.now.tables.kept.slots) user) }
+        ensures read { result.read ≡ count_below blocks
+            (is_read (places_of self.now.tables.owners self.now.tables.kept.slots) user) }
+        ensures fresh { result.fresh ≡ count_below blocks
+            (is_fresh (places_of self.now.tables.owners self.now.tables.kept.slots) user) }
+    {
+        let mut kept = [false; 128];
+        'keeping: for b in 0..blocks {
+            kept[b as usize] = self.tables.kept.has(user, b);
+        }
+        self.tables.owners.plan(user, blocks, &kept)
+    }
+
+    /// Brings all of a user's blocks into core, and says what that moved. Every user's image stays.
+    ///
+    /// In rising order each block that is not the user's own is first written to the drum if another
+    /// user owns it, and then read from its record, which is free then, or made plus zeros. After a
+    /// drum fault the images are lost.
+    pub fn load_user(&mut self, user: UserNo) -> Result<Plan, DrumFault>
+        requires works { self.old.failed ≡ false }
+        requires user { user < length self.old.tables.sizes.items }
+        requires words { AreWords self.old.bank }
+        requires serves { Serves (D.rows self.old.tables.kept.drum.now)
+            (D.record_count self.old.tables.kept.drum.now)
+            (D.words_each self.old.tables.kept.drum.now) (records_of self.old.tables.kept.slots) }
+
+        ensures same { self.new.tables.kept.drum.ghost_name ≡ self.old.tables.kept.drum.ghost_name }
+        ensures serves { Serves (D.rows self.new.tables.kept.drum.now)
+            (D.record_count self.new.tables.kept.drum.now)
+            (D.words_each self.new.tables.kept.drum.now) (records_of self.new.tables.kept.slots) }
+        ensures quotas { self.new.tables.kept.slots.quotas ≡ self.old.tables.kept.slots.quotas }
+        ensures sizes { self.new.tables.sizes ≡ self.old.tables.sizes }
+        ensures works { self.new.failed ≡ is_err result }
+        ensures words { AreWords self.new.bank }
+        ensures others { (b : ℕ) → size_of self.old.tables.sizes.items user ≤ b
+            → block_at self.new.bank b ≡ block_at self.old.bank b }
+
+        ensures images { OnOk result ((u : ℕ) → 1 ≤ u
+            → image_in self.new.bank (D.rows self.new.tables.kept.drum.now) self.new.tables.owners
+            self.new.tables.kept.slots self.new.tables.sizes.items u
+            ≡ image_in self.old.bank (D.rows self.old.tables.kept.drum.now) self.old.tables.owners
+            self.old.tables.kept.slots self.old.tables.sizes.items u) }
+        ensures resident { OnOk result
+            (IsResident self.new.tables.owners (size_of self.old.tables.sizes.items user) user) }
+        ensures places { OnOk result (places_of self.new.tables.owners self.new.tables.kept.slots
+            ≡ loaded (places_of self.old.tables.owners self.old.tables.kept.slots) user
+            (size_of self.old.tables.sizes.items user)) }
+        ensures held { OnOk result (held_of self.new.tables.owners self.new.tables.kept.slots
+            ≡ load_to self.old.tables.kept.slots.quotas.items
+            (held_of self.old.tables.owners self.old.tables.kept.slots) user
+            (size_of self.old.tables.sizes.items user)) }
+
+        ensures dumped { IfOk result (λ plan. plan.dumped
+            ≡ count_below (size_of self.old.tables.sizes.items user)
+            (is_dumped (places_of self.old.tables.owners self.old.tables.kept.slots) user)) }
+        ensures read { IfOk result (λ plan. plan.read
+            ≡ count_below (size_of self.old.tables.sizes.items user)
+            (is_read (places_of self.old.tables.owners self.old.tables.kept.slots) user)) }
+        ensures fresh { IfOk result (λ plan. plan.fresh
+            ≡ count_below (size_of self.old.tables.sizes.items user)
+            (is_fresh (places_of self.old.tables.owners self.old.tables.kept.slots) user)) }
+
+        // The calls of the drum: all, or some from the first on with the failed one last.
+        ensures writes { IfOk result (λ plan. plan.dumped ≡ count_writes
+            (calls_to self.old.tables.kept.slots.quotas.items
+            (held_of self.old.tables.owners self.old.tables.kept.slots) user
+            (size_of self.old.tables.sizes.items user)
+            (block_at self.new.bank))) }
+        ensures reads { IfOk result (λ plan. plan.read ≡ count_reads
+            (calls_to self.old.tables.kept.slots.quotas.items
+            (held_of self.old.tables.owners self.old.tables.kept.slots) user
+            (size_of self.old.tables.sizes.items user)
+            (block_at self.new.bank))) }
+        ensures calls { OnOk result (D.calls self.new.tables.kept.drum.now
+            ≡ with_calls (D.calls self.old.tables.kept.drum.now)
+            (calls_to self.old.tables.kept.slots.quotas.items
+            (held_of self.old.tables.owners self.old.tables.kept.slots) user
+            (size_of self.old.tables.sizes.items user)
+            (block_at self.new.bank))) }
+        ensures failed { OnErr result (FailedIn (D.calls self.old.tables.kept.drum.now)
+            (D.calls self.new.tables.kept.drum.now) (calls_to self.old.tables.kept.slots.quotas.items
+            (held_of self.old.tables.owners self.old.tables.kept.slots) user
+            (size_of self.old.tables.sizes.items user)
+            (block_at self.new.bank))) }
+        ensures kept { D.faults self.old.tables.kept.drum.now ≤ D.faults self.new.tables.kept.drum.now }
+        ensures cause { OnErr result
+            (Rose (D.faults self.old.tables.kept.drum.now) (D.faults self.new.tables.kept.drum.now)) }
+    {
+        let blocks = self.tables.sizes[user.number() as usize];
+        let plan = self.plan_of(user, blocks);
+        match self.load_blocks(user, blocks) {
+            Ok(()) => Ok(plan),
+            Err(fault) => {
+                self.failed = true;
+                Err(fault)
+            }
+        }
+    }
+
+    /// Gives a user another size: its image is cut, or extended by plus zeros. No call of the drum is
+    /// made, and the other images stay.
+    pub fn resize_user(&mut self, user: UserNo, blocks: u8)
+        requires works { self.old.failed ≡ false }
+        requires user { user < length self.old.tables.sizes.items }
+        requires quota { blocks ≤ quota_in self.old.tables.kept.slots user }
+
+        ensures same { self.new.tables.kept.drum.ghost_name ≡ self.old.tables.kept.drum.ghost_name }
+        ensures now { self.new.tables.kept.drum.now ≡ self.old.tables.kept.drum.now }
+        ensures quotas { self.new.tables.kept.slots.quotas ≡ self.old.tables.kept.slots.quotas }
+        ensures records { records_of self.new.tables.kept.slots ≡ records_of self.old.tables.kept.slots }
+        ensures bank { self.new.bank ≡ self.old.bank }
+        ensures sizes { self.new.tables.sizes.items ≡ slice_set self.old.tables.sizes.items user blocks }
+        ensures works { self.new.failed ≡ self.old.failed }
+
+        ensures places { places_of self.new.tables.owners self.new.tables.kept.slots
+            ≡ given_up (places_of self.old.tables.owners self.old.tables.kept.slots) user blocks }
+        ensures mine { image_in self.new.bank (D.rows self.new.tables.kept.drum.now) self.new.tables.owners
+            self.new.tables.kept.slots self.new.tables.sizes.items user
+            ≡ resized (size_of self.old.tables.sizes.items user) blocks
+            (image_in self.old.bank (D.rows self.old.tables.kept.drum.now) self.old.tables.owners
+            self.old.tables.kept.slots self.old.tables.sizes.items user) }
+        ensures others { (u : ℕ) → 1 ≤ u → u ≢ user
+            → image_in self.new.bank (D.rows self.new.tables.kept.drum.now) self.new.tables.owners
+            self.new.tables.kept.slots self.new.tables.sizes.items u
+            ≡ image_in self.old.bank (D.rows self.old.tables.kept.drum.now) self.old.tables.owners
+            self.old.tables.kept.slots self.old.tables.sizes.items u }
+    {
+        let tables = &mut self.tables;
+        tables.owners.give_up(user, blocks);
+        tables.kept.free_from(user, blocks);
+        tables.sizes[user.number() as usize] = blocks;
+    }
+
+    /// Gives a user a new image of plus zeros. No call of the drum is made, and the other images
+    /// stay.
+    pub fn replace_user(&mut self, user: UserNo, blocks: u8)
+        requires works { self.old.failed ≡ false }
+        requires user { user < length self.old.tables.sizes.items }
+        requires quota { blocks ≤ quota_in self.old.tables.kept.slots user }
+
+        ensures same { self.new.tables.kept.drum.ghost_name ≡ self.old.tables.kept.drum.ghost_name }
+        ensures now { self.new.tables.kept.drum.now ≡ self.old.tables.kept.drum.now }
+        ensures quotas { self.new.tables.kept.slots.quotas ≡ self.old.tables.kept.slots.quotas }
+        ensures records { records_of self.new.tables.kept.slots ≡ records_of self.old.tables.kept.slots }
+        ensures bank { self.new.bank ≡ self.old.bank }
+        ensures sizes { self.new.tables.sizes.items ≡ slice_set self.old.tables.sizes.items user blocks }
+        ensures works { self.new.failed ≡ self.old.failed }
+
+        ensures places { places_of self.new.tables.owners self.new.tables.kept.slots
+            ≡ given_up (places_of self.old.tables.owners self.old.tables.kept.slots) user 0 }
+        ensures mine { image_in self.new.bank (D.rows self.new.tables.kept.drum.now) self.new.tables.owners
+            self.new.tables.kept.slots self.new.tables.sizes.items user
+            ≡ resized 0 blocks (resized (size_of self.old.tables.sizes.items user) 0
+            (image_in self.old.bank (D.rows self.old.tables.kept.drum.now) self.old.tables.owners
+            self.old.tables.kept.slots self.old.tables.sizes.items user)) }
+        ensures others { (u : ℕ) → 1 ≤ u → u ≢ user
+            → image_in self.new.bank (D.rows self.new.tables.kept.drum.now) self.new.tables.owners
+            self.new.tables.kept.slots self.new.tables.sizes.items u
+            ≡ image_in self.old.bank (D.rows self.old.tables.kept.drum.now) self.old.tables.owners
+            self.old.tables.kept.slots self.old.tables.sizes.items u }
+    {
+        self.resize_user(user, 0);
+        self.resize_user(user, blocks);
+    }
+}

@@ -1,0 +1,97 @@
+//! The core that a user's program sees: the first blocks of a bank.
+ghost use Rattle.std.specs.Prelude.{◌≡◌, ◌*◌, ◌<◌, ◌≤◌, ◌↔◌, ◌++◌, length, take, drop, slice_set, IsOk, OnOk, OnErr};
+ghost use Rattle.core_bank.specs.Bank.{AreWords};
+
+use core_bank::Bank;
+use cpu_regs::{MemoryPort, Outside};
+use word36::Word;
+
+const BLOCK_WORDS: u32 = 256;
+
+/// The words of the first `blocks` blocks of a bank, as a program loads and stores them: with one
+/// test of the bounds each. In clauses of `MemoryPort` it is the list of these words.
+#[derive(Drop)]
+pub struct Port<'a> {
+    bank: &'a mut Bank,
+    blocks: u8,
+    ghost most: { blocks ≤ 128 },
+    ghost whole: { length bank.now ≡ 32768 },
+    ghost below: { AreWords bank.now },
+}
+
+impl<'a> Port<'a> {
+    /// A port to the first blocks of a bank.
+    ///
+    /// A caller learns what came of the bank where it has it as a parameter, or hands what
+    /// `Image::bank_mut` lends straight to a function that does.
+    pub fn over(bank: &'a mut Bank, blocks: u8) -> Port<'a>
+        requires most { blocks ≤ 128 }
+        requires words { AreWords bank.old }
+        ensures same { result.bank.ghost_name ≡ bank.entry.ghost_name }
+        ensures now { result.bank.now ≡ bank.old }
+        ensures blocks { result.blocks ≡ blocks }
+    {
+        let _count = bank.word_count();
+        Port { bank, blocks }
+    }
+}
+
+impl MemoryPort for Port<'_> {
+    ghost use Rattle.std.specs.Prelude.{◌*◌, take};
+
+    ghost words = { λ p. take (256 * p.blocks) p.bank.now };
+
+    fn size(&self) -> u8 {
+        self.blocks
+    }
+
+    fn load(&self, address: u16) -> Result<Word, Outside> {
+        if u32::from(address) >= BLOCK_WORDS * u32::from(self.blocks) {
+            return Err(Outside);
+        }
+        match Word::from_bits(self.bank.load(address)) {
+            Ok(word) => Ok(word),
+            Err(_) => unreachable!(),
+        }
+    }
+
+    fn store(&mut self, address: u16, word: Word) -> Result<(), Outside>
+        ensures inside { IsOk result
+            ↔ (address < length (take (256 * self.old.blocks) self.old.bank.now)) }
+        ensures stored { OnOk result (take (256 * self.new.blocks) self.new.bank.now
+            ≡ slice_set (take (256 * self.old.blocks) self.old.bank.now) address word) }
+        ensures kept { OnErr result (take (256 * self.new.blocks) self.new.bank.now
+            ≡ take (256 * self.old.blocks) self.old.bank.now) }
+
+        // The port stands over the same blocks of the same bank, of which one word changes.
+        ensures same { self.new.bank.ghost_name ≡ self.old.bank.ghost_name }
+        ensures blocks { self.new.blocks ≡ self.old.blocks }
+        ensures bank { OnOk result (self.new.bank.now ≡ slice_set self.old.bank.now address word) }
+        ensures same_bank { OnErr result (self.new.bank.now ≡ self.old.bank.now) }
+        ensures rest { drop (256 * self.new.blocks) self.new.bank.now
+            ≡ drop (256 * self.old.blocks) self.old.bank.now }
+    {
+        if u32::from(address) >= BLOCK_WORDS * u32::from(self.blocks) {
+            return Err(Outside);
+        }
+        self.bank.store(address, word.bits());
+        Ok(())
+    }
+}
+
+/// Puts a word at an address among the first blocks of a bank. The words behind them stay.
+#[tactic(auto, using(crate::proofs::Ports::whole_of))]
+pub fn store_in(bank: &mut Bank, blocks: u8, address: u16, word: Word) -> Result<(), Outside>
+    requires most { blocks ≤ 128 }
+    requires words { AreWords bank.old }
+    ensures words { AreWords bank.new }
+    ensures inside { IsOk result ↔ (address < 256 * blocks) }
+    ensures stored { OnOk result (take (256 * blocks) bank.new
+        ≡ slice_set (take (256 * blocks) bank.old) address word) }
+    ensures kept { OnErr result (bank.new ≡ bank.old) }
+    ensures rest { drop (256 * blocks) bank.new ≡ drop (256 * blocks) bank.old }
+    ensures whole { bank.new ≡ take (256 * blocks) bank.new ++ drop (256 * blocks) bank.old }
+{
+    let mut port = Port::over(bank, blocks);
+    port.store(address, word)
+}

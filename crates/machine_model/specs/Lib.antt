@@ -1,0 +1,6 @@
+pub mod Step
+pub mod Fixed
+pub mod Logic
+pub mod Index
+pub mod Machine
+pub mod Results

@@ -1,0 +1,78 @@
+-- The table's rules, computed over all of it, and the round trip.
+use Rattle.std.proofs.Common.{◌≡◌, ℕ, true, ◌+◌, ◌-◌, ◌*◌, ◌^◌, ◌<◌, refl, arith, Some, Bool, sym, ap, ◌∙◌, if◌then◌else◌}
+use Rattle.std.proofs.lemmas.Bool.Decides.{nat_tests}
+use Rattle.word36.specs.Bits.{tag_of, address_of}
+use Rattle.std.specs.Option.{option_map}
+use Rattle.opcode_table.proofs.Arith.{code_numbered, prefix_numbered, group_numbered, regroup3, regroup4, flag_again, code_below, prefix_below, group_below}
+use Rattle.opcode_table.specs.Table.{row_of, row_with_number, number_of, class_of}
+use Rattle.opcode_table.specs.Words.{number_in, fields_for, decoded, word_for, encoded, HasFields, IsCleanFor, IsClean, number_fits}
+use Rattle.opcode_table.specs.declared.op.Op.{Op}
+use Rattle.opcode_table.specs.declared.op.Op.TheVariants.{Cla}
+use Rattle.opcode_table.specs.declared.op.Class.{Class}
+use Rattle.opcode_table.specs.declared.op.Class.TheVariants.{Addressed, Direct, Tagged, Prefixed, Group}
+use Rattle.opcode_table.specs.declared.op.Row.{Row}
+use Rattle.opcode_table.specs.declared.op.Instr.{Instr}
+
+-- each number finds its row
+pub found : (op : Op) → row_with_number (number_of (row_of op)) ≡ Some (row_of op)
+found Cla = refl
+found _ = refl
+
+-- each number is one of its class
+pub fits : (op : Op) → number_fits (class_of op) (number_of (row_of op)) ≡ true
+fits Cla = refl
+fits _ = refl
+
+pub own : (op : Op) → (row_of op).0 ≡ op
+own Cla = refl
+own _ = refl
+
+pub low_fits : (i : Instr) → HasFields i → (if i.flag then 3 * 2 ^ 22 else 0) + i.tag * 2 ^ 15 + i.address < 2 ^ 24
+low_fits i h = grind (arith, nat_tests)
+
+tagged : (k : ℕ) (i : Instr) → HasFields i → tag_of (word_for Addressed k i) ≡ i.tag
+tagged k i h = grind (arith, nat_tests)
+
+addressed : (k : ℕ) (i : Instr) → HasFields i → address_of (word_for Addressed k i) ≡ i.address
+addressed k i h = grind (arith, nat_tests)
+
+pub word_fits : (c : Class) (k : ℕ) (i : Instr) → HasFields i → number_fits c k ≡ true → word_for c k i < 2 ^ 36
+word_fits Addressed k i h e = omega (arith, code_below k ((if i.flag then 3 * 2 ^ 22 else 0) + i.tag * 2 ^ 15 + i.address) (low_fits i h) e)
+word_fits Direct k i h e = omega (arith, code_below k (i.tag * 2 ^ 15 + i.address) (omega arith) e)
+word_fits Tagged k i h e = omega (arith, code_below k (i.tag * 2 ^ 15 + i.address) (omega arith) e)
+word_fits Prefixed k i h e = omega (arith, prefix_below k (i.decrement * 2 ^ 18 + i.tag * 2 ^ 15 + i.address) (omega arith) e)
+word_fits Group k i h e = group_below k i.tag h.tag e
+
+pub numbered : (c : Class) (k : ℕ) (i : Instr) → HasFields i → number_fits c k ≡ true → number_in (word_for c k i) ≡ k
+numbered Addressed k i h e =
+    ap number_in (regroup4 (k * 2 ^ 24) (if i.flag then 3 * 2 ^ 22 else 0) (i.tag * 2 ^ 15) i.address) ∙ code_numbered k ((if i.flag then 3 * 2 ^ 22 else 0) + i.tag * 2 ^ 15 + i.address) (low_fits i h) e
+numbered Direct k i h e =
+    ap number_in (regroup3 (k * 2 ^ 24) (i.tag * 2 ^ 15) i.address) ∙ code_numbered k (i.tag * 2 ^ 15 + i.address) (omega arith) e
+numbered Tagged k i h e =
+    ap number_in (regroup3 (k * 2 ^ 24) (i.tag * 2 ^ 15) i.address) ∙ code_numbered k (i.tag * 2 ^ 15 + i.address) (omega arith) e
+numbered Prefixed k i h e =
+    ap number_in (regroup4 ((k - 0o10000) * 2 ^ 33) (i.decrement * 2 ^ 18) (i.tag * 2 ^ 15) i.address) ∙ prefix_numbered k (i.decrement * 2 ^ 18 + i.tag * 2 ^ 15 + i.address) (omega arith) e
+numbered Group k i h e = group_numbered k i.tag h.tag e
+
+-- an instruction by its fields
+pub same : (o : Op) (f : Bool) (t a d : ℕ) (i : Instr) → o ≡ i.op → f ≡ i.flag → t ≡ i.tag → a ≡ i.address → d ≡ i.decrement →
+    record { op = o; flag = f; tag = t; address = a; decrement = d } ≡ i
+same o f t a d i p q r s u = rw (p, q, r, s, u) refl
+
+pub fields_again : (c : Class) (k : ℕ) (r : Row) (i : Instr) → HasFields i → number_fits c k ≡ true → r.0 ≡ i.op → IsCleanFor c i
+    → fields_for c (word_for c k i) r ≡ i
+fields_again Addressed k r i h e o clean =
+    same r.0 _ _ _ _ i o (flag_again k i.flag i.tag i.address h.tag h.address) (tagged k i h) (addressed k i h) (sym clean)
+fields_again Direct k r i h e o clean = same r.0 _ _ _ _ i o (sym clean.0) (omega arith) (omega arith) (sym clean.1)
+fields_again Tagged k r i h e o clean = same r.0 _ _ _ _ i o (sym clean.0) (omega arith) (omega arith) (sym clean.1)
+fields_again Prefixed k r i h e o clean = same r.0 _ _ _ _ i o (sym clean) (omega arith) (omega arith) (omega arith)
+fields_again Group k r i h e o clean = same r.0 _ _ _ _ i o (sym clean.0) (omega arith) (sym clean.1) (sym clean.2)
+
+pub encoded_fits : (i : Instr) → HasFields i → encoded i < 2 ^ 36
+encoded_fits i h = word_fits (class_of i.op) (number_of (row_of i.op)) i h (fits i.op)
+
+pub decoded_again : (i : Instr) → HasFields i → IsClean i → decoded (encoded i) ≡ Some i
+decoded_again i h clean =
+    ap (option_map (λ (r : Row). fields_for r.3 (encoded i) r))
+    (ap row_with_number (numbered (class_of i.op) (number_of (row_of i.op)) i h (fits i.op)) ∙ found i.op)
+    ∙ ap Some (fields_again (class_of i.op) (number_of (row_of i.op)) (row_of i.op) i h (fits i.op) (own i.op) clean)

@@ -1,0 +1,4 @@
+pub mod Arith
+pub mod Codes
+pub mod Places
+pub mod Names

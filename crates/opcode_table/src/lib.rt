@@ -1,0 +1,14 @@
+//! The operations of the machine, and the words that stand for their instructions.
+#![tactic(auto)]
+
+mod index;
+mod op;
+mod rows;
+mod words;
+
+pub use op::{Class, Instr, Kind, Op, Row};
+pub use rows::{class, kind, op_named};
+pub use words::{decode, encode};
+
+#[cfg(test)]
+mod tests;

@@ -1,0 +1,269 @@
+//! Index registers, transfers and stops: what each instruction does.
+#![tactic(auto)]
+
+ghost use Rattle.std.specs.Prelude.{◌≡◌, ◌<◌, ◌^◌};
+ghost use Rattle.opcode_table.specs.Table.{kind_of};
+ghost use Rattle.opcode_table.specs.Words.{HasFields};
+ghost use Rattle.machine_model.specs.Index.{index_row};
+ghost use Rattle.machine_model.specs.Results.{ended, Keeps};
+ghost use Rattle.machine_model.specs.Step.{complement, acc_address, acc_decrement, is_greater};
+
+use arith36::{Side, compare};
+use cpu_regs::{MemoryPort, OpEnd, Regs};
+use opcode_table::{Instr, Kind, Op};
+use word36::Acc;
+
+/// Does an operation of this group at the place `y`.
+#[inline(always)]
+pub fn apply<M: MemoryPort>(regs: &mut Regs, core: &mut M, i: &Instr, y: u16) -> OpEnd
+    requires kind { kind_of i.now.op ≡ Kind.Index }
+    requires fields { HasFields i.now }
+    requires y { y < 2 ^ 15 }
+    requires ic { regs.old.ic < 2 ^ 15 }
+    ensures row { ended result regs.new (M.words core.new) ≡ index_row i.now.op i.now regs.old (M.words core.old) y }
+    ensures outside { Keeps result regs.old regs.new (M.words core.old) (M.words core.new) }
+    ensures ic { regs.new.ic < 2 ^ 15 }
+{
+    match i.op {
+        Op::Lxa => {
+            let Ok(w) = core.load(y) else {
+                return OpEnd::Outside(y);
+            };
+            regs.set_xr(i.tag, w.address());
+            regs.skip(1);
+            OpEnd::Went
+        }
+        Op::Lxd => {
+            let Ok(w) = core.load(y) else {
+                return OpEnd::Outside(y);
+            };
+            regs.set_xr(i.tag, w.decrement());
+            regs.skip(1);
+            OpEnd::Went
+        }
+        Op::Lac => {
+            let Ok(w) = core.load(y) else {
+                return OpEnd::Outside(y);
+            };
+            regs.set_xr(i.tag, complement(w.address()));
+            regs.skip(1);
+            OpEnd::Went
+        }
+        Op::Ldc => {
+            let Ok(w) = core.load(y) else {
+                return OpEnd::Outside(y);
+            };
+            regs.set_xr(i.tag, complement(w.decrement()));
+            regs.skip(1);
+            OpEnd::Went
+        }
+        Op::Axt => {
+            regs.set_xr(i.tag, y);
+            regs.skip(1);
+            OpEnd::Went
+        }
+        Op::Axc => {
+            regs.set_xr(i.tag, complement(y));
+            regs.skip(1);
+            OpEnd::Went
+        }
+        Op::Pax => {
+            regs.set_xr(i.tag, address_of(regs.ac));
+            regs.skip(1);
+            OpEnd::Went
+        }
+        Op::Pdx => {
+            regs.set_xr(i.tag, decrement_of(regs.ac));
+            regs.skip(1);
+            OpEnd::Went
+        }
+        Op::Pac => {
+            regs.set_xr(i.tag, complement(address_of(regs.ac)));
+            regs.skip(1);
+            OpEnd::Went
+        }
+        Op::Pdc => {
+            regs.set_xr(i.tag, complement(decrement_of(regs.ac)));
+            regs.skip(1);
+            OpEnd::Went
+        }
+        Op::Sxa => {
+            let Ok(w) = core.load(y) else {
+                return OpEnd::Outside(y);
+            };
+            let _ = core.store(y, w.with_address(regs.xr(i.tag)));
+            regs.skip(1);
+            OpEnd::Went
+        }
+        Op::Sxd => {
+            let Ok(w) = core.load(y) else {
+                return OpEnd::Outside(y);
+            };
+            let _ = core.store(y, w.with_decrement(regs.xr(i.tag)));
+            regs.skip(1);
+            OpEnd::Went
+        }
+        Op::Sca => {
+            let Ok(w) = core.load(y) else {
+                return OpEnd::Outside(y);
+            };
+            let _ = core.store(y, w.with_address(complement(regs.xr(i.tag))));
+            regs.skip(1);
+            OpEnd::Went
+        }
+        Op::Scd => {
+            let Ok(w) = core.load(y) else {
+                return OpEnd::Outside(y);
+            };
+            let _ = core.store(y, w.with_decrement(complement(regs.xr(i.tag))));
+            regs.skip(1);
+            OpEnd::Went
+        }
+        Op::Pxa => {
+            regs.ac = Acc::new(false, u64::from(regs.xr(i.tag)));
+            regs.skip(1);
+            OpEnd::Went
+        }
+        Op::Pxd => {
+            regs.ac = Acc::new(false, u64::from(regs.xr(i.tag)) << 18);
+            regs.skip(1);
+            OpEnd::Went
+        }
+        Op::Pca => {
+            regs.ac = Acc::new(false, u64::from(complement(regs.xr(i.tag))));
+            regs.skip(1);
+            OpEnd::Went
+        }
+        Op::Pcd => {
+            regs.ac = Acc::new(false, u64::from(complement(regs.xr(i.tag))) << 18);
+            regs.skip(1);
+            OpEnd::Went
+        }
+        Op::Tra => {
+            regs.jump(y);
+            OpEnd::Went
+        }
+        Op::Tze => {
+            regs.jump_if(regs.ac.magnitude() == 0, y);
+            OpEnd::Went
+        }
+        Op::Tnz => {
+            regs.jump_if(regs.ac.magnitude() != 0, y);
+            OpEnd::Went
+        }
+        Op::Tpl => {
+            regs.jump_if(!regs.ac.negative(), y);
+            OpEnd::Went
+        }
+        Op::Tmi => {
+            regs.jump_if(regs.ac.negative(), y);
+            OpEnd::Went
+        }
+        Op::Tov => {
+            let on = regs.overflow;
+            regs.overflow = false;
+            regs.jump_if(on, y);
+            OpEnd::Went
+        }
+        Op::Tno => {
+            let on = regs.overflow;
+            regs.overflow = false;
+            regs.jump_if(!on, y);
+            OpEnd::Went
+        }
+        Op::Tqp => {
+            regs.jump_if(!regs.mq.negative(), y);
+            OpEnd::Went
+        }
+        Op::Tlq => {
+            regs.jump_if(is_greater(compare(regs.ac, regs.mq)), y);
+            OpEnd::Went
+        }
+        Op::Tsx => {
+            regs.set_xr(i.tag, complement(regs.ic));
+            regs.jump(y);
+            OpEnd::Went
+        }
+        Op::Txi => {
+            regs.set_xr(i.tag, (regs.xr(i.tag) + i.decrement) & 0o77777);
+            regs.jump(y);
+            OpEnd::Went
+        }
+        Op::Tix => {
+            let index = regs.xr(i.tag);
+            if i.decrement < index {
+                regs.set_xr(i.tag, index - i.decrement);
+                regs.jump(y);
+            } else {
+                regs.skip(1);
+            }
+            OpEnd::Went
+        }
+        Op::Tnx => {
+            let index = regs.xr(i.tag);
+            if index > i.decrement {
+                regs.set_xr(i.tag, index - i.decrement);
+                regs.skip(1);
+            } else {
+                regs.jump(y);
+            }
+            OpEnd::Went
+        }
+        Op::Txh => {
+            regs.jump_if(regs.xr(i.tag) > i.decrement, y);
+            OpEnd::Went
+        }
+        Op::Txl => {
+            regs.jump_if(regs.xr(i.tag) <= i.decrement, y);
+            OpEnd::Went
+        }
+        Op::Nop => {
+            regs.skip(1);
+            OpEnd::Went
+        }
+        Op::Htr => {
+            regs.jump(y);
+            OpEnd::Halt
+        }
+        Op::Hpr => {
+            regs.skip(1);
+            OpEnd::Halt
+        }
+        _ => unreachable!(),
+    }
+}
+
+/// The two's complement of 15 bits.
+fn complement(v: u16) -> u16
+    requires { v < 2 ^ 15 }
+    ensures value { result ≡ complement v }
+    ensures below { result < 2 ^ 15 }
+{
+    (0o100000 - v) & 0o77777
+}
+
+/// Positions 21 to 35 of the accumulator.
+fn address_of(a: Acc) -> u16
+    ensures value { result ≡ acc_address a }
+    ensures below { result < 2 ^ 15 }
+{
+    (a.magnitude() & 0o77777) as u16
+}
+
+/// Positions 3 to 17 of the accumulator.
+fn decrement_of(a: Acc) -> u16
+    ensures value { result ≡ acc_decrement a }
+    ensures below { result < 2 ^ 15 }
+{
+    (a.magnitude() >> 18 & 0o77777) as u16
+}
+
+/// Whether the accumulator is the greater.
+fn is_greater(side: Side) -> bool
+    ensures { result ≡ is_greater side }
+{
+    match side {
+        Side::Greater => true,
+        Side::Equal | Side::Less => false,
+    }
+}

@@ -1,0 +1,52 @@
+//! Cases of the machine: each line of the input is a state and a number of steps, and each line of the output is how the
+//! last step ended, with the state behind it.
+//!
+//! A case is `STEPS SIZE AC MQ SI X1 X2 X3 X4 X5 X6 X7 IC OV DC [ADDRESS=WORD ..]`, a result `END AC MQ SI X1 .. X7 IC OV DC
+//! [ADDRESS=WORD ..]`. All numbers are octal but STEPS and SIZE (blocks of 256 words). AC is a sign and 13 digits. Words
+//! that a case doesn't name are plus zero, and words outside the core are passed over; a result has the words that differ
+//! from the case. The steps end early where one doesn't go on.
+#![tactic(auto)]
+
+mod case;
+mod shelf;
+
+ghost use Rattle.std.specs.Prelude.{◌<◌, ◌^◌};
+
+use case::{Case, read_case, result_text};
+use cpu_regs::Regs;
+use cpu_step::{Stepped, step};
+use shelf::Shelf;
+use std::io::{self, BufRead, BufReader, BufWriter, Write};
+
+/// Does so many steps, and gives how the last one ended.
+fn run(regs: &mut Regs, core: &mut Shelf, steps: u64) -> Stepped
+    requires { regs.old.ic < 2 ^ 15 }
+{
+    let mut end = Stepped::Went;
+    'steps: for _ in 0..steps {
+        end = step(regs, core);
+        if end != Stepped::Went {
+            break;
+        }
+    }
+    end
+}
+
+fn main(rt: HostRuntime) -> anyhow::Result<()> {
+    let input = BufReader::new(rt.alloc(), rt.reader())?;
+    let mut output = BufWriter::new(rt.alloc(), io::writer(&rt))?;
+    for line in input.lines(rt.alloc()) {
+        let line = line?;
+        let Case {
+            steps,
+            mut regs,
+            mut core,
+            first,
+        } = read_case(rt.alloc(), line.as_str())?;
+        let end = run(&mut regs, &mut core, steps);
+        let text = result_text(rt.alloc(), end, &regs, &core, &first)?;
+        output.write_all(text.as_bytes())?;
+    }
+    output.flush()?;
+    Ok(())
+}

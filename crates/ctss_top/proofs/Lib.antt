@@ -1,2 +1,4 @@
 pub mod Runs
 pub mod Says
+pub mod Cards
+pub mod Lines

@@ -8,13 +8,16 @@ use Rattle.ctss_types.specs.declared.script.Script.{Script}
 use Rattle.ctss_types.specs.declared.history.Record.{Record}
 use Rattle.ctss_io.specs.Outside.{before, after, IsAtEnd}
 use Rattle.ctss_io.specs.Whole.{ShrankBy, HasAtLeast, GrewByProperPrefix}
-use Rattle.text_model.specs.Words.{Mode, mode_of, words_refused, script_refused}
+use Rattle.text_model.specs.declared.mode.Mode.{Mode}
+use Rattle.text_model.specs.declared.mode.Mode.TheVariants.{Replay, Asm}
+use Rattle.text_model.specs.Words.{mode_of, words_refused, script_refused}
 use Rattle.text_model.specs.Reading.{script_of, max_bytes}
 use Rattle.text_model.specs.Report.{report_of}
 use Rattle.system_model.specs.Record.{record_of, EachIsAlone}
 use Rattle.system_model.proofs.AloneLaws.{users_are_alone}
 use Rattle.ctss_top.specs.declared.outcome.Outcome.{Outcome}
-use Rattle.ctss_top.specs.Top.{bare, empty_record, refusal_cause, Replayed, IsNoScript, ScriptIsRefused, IsTextOf, OfRefusal, OfReport, IsCutOff, statuses_for, statuses_of}
+use Rattle.ctss_top.specs.Outcomes.{bare, empty_record}
+use Rattle.ctss_top.specs.Top.{refusal_cause, Replayed, IsNoScript, ScriptIsRefused, IsTextOf, OfRefusal, OfReport, IsCutOff, statuses_for, statuses_of}
 
 -- a list with one more behind its first
 one_more_said : (a n rest : Bool) → (a || rest) ≡ true → (a || (n || rest)) ≡ true
@@ -59,31 +62,31 @@ refused_long left rest held now o gone is told =
     }
 
 -- a refusal that was cut off
-cut_refusal : (words : List (List ℕ)) (left rest held now : Option (List ℕ)) (o : Outcome) (bytes : List ℕ) (cause : ℕ) → IsNoScript left rest bytes → refusal_cause bytes ≡ cause → o ≡ bare 4 0 0 → GrewByProperPrefix held (script_refused 0 cause) now → IsCutOff words left rest held now o
-cut_refusal words left rest held now o bytes cause read why is part =
+cut_refusal : (words : List (List ℕ)) → mode_of words ≡ Some Replay → (left rest held now : Option (List ℕ)) (o : Outcome) (bytes : List ℕ) (cause : ℕ) → IsNoScript left rest bytes → refusal_cause bytes ≡ cause → o ≡ bare 4 0 0 → GrewByProperPrefix held (script_refused 0 cause) now → IsCutOff words left rest held now o
+cut_refusal words asked left rest held now o bytes cause read why is part =
     record {
       text = script_refused 0 cause;
-      said = OfRefusal bytes read (ap (λ (x : Outcome). x.run) is) (ap (script_refused 0) (sym why));
+      said = OfRefusal asked bytes read (ap (λ (x : Outcome). x.run) is) (ap (script_refused 0) (sym why));
       part = part;
       card = ap (λ (x : Outcome). x.card) is;
       cause = ap (λ (x : Outcome). x.cause) is;
     }
 
-pub cut_long : (words : List (List ℕ)) (left rest held now : Option (List ℕ)) (o : Outcome) → ShrankBy 4194305 left rest → o ≡ bare 4 0 0 → GrewByProperPrefix held (script_refused 0 8) now → IsCutOff words left rest held now o
-cut_long words left rest held now o gone is part =
-    cut_refusal words left rest held now o gone.0 8 (long_read left rest gone.0 gone.1 gone.2) (long_cause gone.0 (omega (arith, gone.1))) is part
+pub cut_long : (words : List (List ℕ)) → mode_of words ≡ Some Replay → (left rest held now : Option (List ℕ)) (o : Outcome) → ShrankBy 4194305 left rest → o ≡ bare 4 0 0 → GrewByProperPrefix held (script_refused 0 8) now → IsCutOff words left rest held now o
+cut_long words asked left rest held now o gone is part =
+    cut_refusal words asked left rest held now o gone.0 8 (long_read left rest gone.0 gone.1 gone.2) (long_cause gone.0 (omega (arith, gone.1))) is part
 
-pub cut_short : (words : List (List ℕ)) (left rest held now : Option (List ℕ)) (o : Outcome) (bytes : List ℕ) (card cause : ℕ) → left ≡ before bytes rest → IsAtEnd rest → length bytes ≤ max_bytes
+pub cut_short : (words : List (List ℕ)) → mode_of words ≡ Some Replay → (left rest held now : Option (List ℕ)) (o : Outcome) (bytes : List ℕ) (card cause : ℕ) → left ≡ before bytes rest → IsAtEnd rest → length bytes ≤ max_bytes
     → (card ≡ 0) × (cause ≡ 9) × (script_of bytes ≡ None) → o ≡ bare 4 0 0 → GrewByProperPrefix held (script_refused card cause) now → IsCutOff words left rest held now o
-cut_short words left rest held now o bytes card cause came whole size refused is part =
-    cut_refusal words left rest held now o bytes 9 (record { came = came; whole = λ h. whole; none = refused.2 }) (short_cause bytes size) is
+cut_short words asked left rest held now o bytes card cause came whole size refused is part =
+    cut_refusal words asked left rest held now o bytes 9 (record { came = came; whole = λ h. whole; none = refused.2 }) (short_cause bytes size) is
     (subst (λ (n : ℕ). GrewByProperPrefix held (script_refused 0 n) now) refused.1 (subst (λ (n : ℕ). GrewByProperPrefix held (script_refused n cause) now) refused.0 part))
 
-pub cut_report : (words : List (List ℕ)) (left rest held now : Option (List ℕ)) (o : Outcome) (bytes : List ℕ) (script : Script) → left ≡ before bytes rest → IsAtEnd rest → script_of bytes ≡ Some script → o.run ≡ record_of script → (o.card ≡ 0) × (o.cause ≡ 0) → GrewByProperPrefix held (report_of script o.run false) now → IsCutOff words left rest held now o
-cut_report words left rest held now o bytes script came whole spelled run numbers part =
+pub cut_report : (words : List (List ℕ)) → mode_of words ≡ Some Replay → (left rest held now : Option (List ℕ)) (o : Outcome) (bytes : List ℕ) (script : Script) → left ≡ before bytes rest → IsAtEnd rest → script_of bytes ≡ Some script → o.run ≡ record_of script → (o.card ≡ 0) × (o.cause ≡ 0) → GrewByProperPrefix held (report_of script o.run false) now → IsCutOff words left rest held now o
+cut_report words asked left rest held now o bytes script came whole spelled run numbers part =
     record {
       text = report_of script o.run false;
-      said = OfReport bytes script came whole spelled run refl;
+      said = OfReport asked bytes script came whole spelled run refl;
       part = part;
       card = numbers.0;
       cause = numbers.1;
@@ -140,8 +143,7 @@ allows_refused status bytes none h = rw none (refused_status status h)
 pub allows_done : (status : ℕ) (bytes : List ℕ) (script : Script) → script_of bytes ≡ Some script → list_any (nat_eq status) (0 ∷ 4 ∷ 8 ∷ []) ≡ true → Allows status bytes
 allows_done status bytes script spelled h = rw spelled (done_status status h)
 
--- of lawful words
-pub lawful : (mode : Option Mode) (status : ℕ) (left : Option (List ℕ)) → true ≡ is_some mode → WhereTold left (Allows status)
-    → WhereTold left (λ bytes. list_any (nat_eq status) (statuses_of mode (script_of bytes)) ≡ true)
-lawful None status left h told = cc
-lawful (Some mode) status left h told = told
+-- of words that ask for a replay
+pub lawful : (mode : Option Mode) (status : ℕ) (left : Option (List ℕ)) → mode ≡ Some Replay → WhereTold left (Allows status)
+    → WhereTold left (λ bytes. list_any (nat_eq status) (statuses_of mode bytes) ≡ true)
+lawful mode status left asked told = subst (λ (m : Option Mode). WhereTold left (λ bytes. list_any (nat_eq status) (statuses_of m bytes) ≡ true)) (sym asked) told

@@ -1,1 +1,3 @@
+pub mod Outcomes
+pub mod Asm
 pub mod Top

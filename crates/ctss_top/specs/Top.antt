@@ -4,17 +4,15 @@ use Rattle.ctss_types.specs.declared.script.Script.{Script}
 use Rattle.ctss_types.specs.declared.history.Record.{Record}
 use Rattle.ctss_io.specs.Outside.{before, after, IsAtEnd}
 use Rattle.ctss_io.specs.Whole.{GrewByProperPrefix}
-use Rattle.text_model.specs.Words.{Mode, mode_of, words_refused, script_refused}
+use Rattle.text_model.specs.declared.mode.Mode.{Mode}
+use Rattle.text_model.specs.declared.mode.Mode.TheVariants.{Replay, Asm}
+use Rattle.text_model.specs.Words.{mode_of, words_refused, script_refused}
 use Rattle.text_model.specs.Reading.{script_of, max_bytes}
 use Rattle.text_model.specs.Report.{report_of}
 use Rattle.system_model.specs.Record.{record_of, EachIsAlone}
 use Rattle.ctss_top.specs.declared.outcome.Outcome.{Outcome}
-
-abbrev pub empty_record : Record
-empty_record = record { entries = []; transcripts = []; files = []; common = []; clock = 0 }
-
-abbrev pub bare : ℕ → ℕ → ℕ → Outcome
-bare status card cause = record { status = status; card = card; cause = cause; run = empty_record }
+use Rattle.ctss_top.specs.Outcomes.{empty_record, bare}
+use Rattle.ctss_top.specs.Asm.{IsTextOfCards, statuses_for_cards}
 
 -- The headline. These bytes came, they were all, and they spell a script. Its one record is the run, and its report
 -- has come to the sink. Each account's transcript and files are those of the user's machine alone.
@@ -53,11 +51,9 @@ pub record WordsAreRefused (words : List (List ℕ)) (left rest held now : Optio
 -- a text that was to be written, and the record that goes with it
 pub data IsTextOf (words : List (List ℕ)) (left rest : Option (List ℕ)) (run : Record) (text : List ℕ) : Type 0 where
   OfWords : mode_of words ≡ None → rest ≡ left → run ≡ empty_record → text ≡ words_refused → IsTextOf words left rest run text
-  OfRefusal : (bytes : List ℕ) → IsNoScript left rest bytes → run ≡ empty_record → text ≡ script_refused 0 (refusal_cause bytes) → IsTextOf words left rest run text
-  OfReport : (bytes : List ℕ) (script : Script) → left ≡ before bytes rest → IsAtEnd rest → script_of bytes ≡ Some script → run ≡ record_of script → text ≡ report_of script run false → IsTextOf words left rest run text
-
-abbrev pub cut_off : Outcome → Outcome
-cut_off o = record { status = 4; card = 0; cause = 0; run = o.run }
+  OfRefusal : mode_of words ≡ Some Replay → (bytes : List ℕ) → IsNoScript left rest bytes → run ≡ empty_record → text ≡ script_refused 0 (refusal_cause bytes) → IsTextOf words left rest run text
+  OfReport : mode_of words ≡ Some Replay → (bytes : List ℕ) (script : Script) → left ≡ before bytes rest → IsAtEnd rest → script_of bytes ≡ Some script → run ≡ record_of script → text ≡ report_of script run false → IsTextOf words left rest run text
+  OfCards : mode_of words ≡ Some Asm → run ≡ empty_record → IsTextOfCards left rest text → IsTextOf words left rest run text
 
 -- the sink failed, and holds a part of the text only
 pub record IsCutOff (words : List (List ℕ)) (left rest held now : Option (List ℕ)) (result : Outcome) : Type 0 where
@@ -78,6 +74,7 @@ statuses_for None = 2 ∷ 3 ∷ 4 ∷ 8 ∷ []
 statuses_for (Some script) = 0 ∷ 3 ∷ 4 ∷ 8 ∷ []
 
 -- which statuses there can be, for what the words ask and all bytes that are left
-abbrev pub statuses_of : Option Mode → Option Script → List ℕ
-statuses_of None said = 1 ∷ 4 ∷ []
-statuses_of (Some mode) said = statuses_for said
+abbrev pub statuses_of : Option Mode → List ℕ → List ℕ
+statuses_of None bytes = 1 ∷ 4 ∷ []
+statuses_of (Some Replay) bytes = statuses_for (script_of bytes)
+statuses_of (Some Asm) bytes = statuses_for_cards bytes

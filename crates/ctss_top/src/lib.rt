@@ -1,10 +1,12 @@
-//! The top call: a script's bytes come in, its report goes out.
+//! The top call: a script's bytes come in and its report goes out, or cards come in and their deck goes out.
 #![tactic(auto)]
 
+mod asm;
 mod outcome;
 mod record;
 mod run;
 mod words;
+mod write;
 
 pub use outcome::Outcome;
 pub use record::record_script;

@@ -1,5 +1,5 @@
 ghost use Rattle.std.specs.Prelude.{◌≡◌};
-ghost use Rattle.ctss_top.specs.Top.{bare};
+ghost use Rattle.ctss_top.specs.Outcomes.{bare};
 
 use ctss_types::{Record, Sequence};
 use std::alloc::Global;
@@ -12,6 +12,7 @@ use std::alloc::Global;
 /// - 3: the source failed
 /// - 4: the sink failed
 /// - 8: memory ran out
+/// - 9: the cards are at fault
 ///
 /// `card` and `cause` are 0 but for status 2. `run` is the record with status 0, and with 4 where a report was cut
 /// off; else it is empty.

@@ -1,81 +1,27 @@
-ghost use Rattle.std.specs.Prelude.{◌≡◌, ◌≢◌, ◌∷◌, [], ℕ, List, Option, None, true, false, nat_eq, IfOk, is_some};
+ghost use Rattle.std.specs.Prelude.{◌≡◌, ◌≢◌, ◌∷◌, [], ℕ, List, Some, true, false, nat_eq, IfOk};
 ghost use Rattle.std.specs.List.{list_any};
 ghost use Rattle.faults.specs.Faults.{Rose, WhereTold};
-ghost use Rattle.ctss_io.specs.Outside.{before, after, IsAtEnd};
+ghost use Rattle.ctss_io.specs.Outside.{after};
 ghost use Rattle.ctss_io.specs.Whole.{GrewByProperPrefix};
 ghost use Rattle.system_model.specs.Record.{record_of};
-ghost use Rattle.text_model.specs.Words.{mode_of, words_refused, script_refused};
+ghost use Rattle.text_model.specs.Words.{mode_of};
 ghost use Rattle.text_model.specs.Reading.{script_of, IsInRange};
 ghost use Rattle.text_model.specs.Report.{report_of};
-ghost use Rattle.ctss_top.specs.Top.{bare, cut_off, Replayed, ScriptIsRefused, WordsAreRefused, IsCutOff, IsSilent, statuses_for, statuses_of};
+ghost use Rattle.ctss_top.specs.Outcomes.{bare};
+ghost use Rattle.ctss_top.specs.Asm.{DeckIsWritten, CardsAreRefused, InputIsTooLong};
+ghost use Rattle.ctss_top.specs.Top.{Replayed, ScriptIsRefused, WordsAreRefused, IsCutOff, IsSilent, statuses_for, statuses_of};
 
+use crate::asm::asm;
 use crate::outcome::Outcome;
 use crate::record::record_script;
 use crate::words::ArgList;
-use ctss_io::{ReadEnd, Sink, Source, read_bytes, write_all};
-use ctss_types::{Bytes, NoMemory, Record, Script, Sequence};
+use crate::write::{refuse_script, refuse_words, write_out};
+use ctss_io::{ReadEnd, Sink, Source, read_bytes};
+use ctss_types::{Bytes, NoMemory, Record, Script};
 use report_text::report;
 use script_read::{ScriptFault, read_script};
 use std::alloc::Global;
-use std::fmt::Write;
-
-/// Writes a text behind which the call is over, with this outcome where all is written.
-fn write_out<K: Sink>(sink: &mut K, text: &[u8], outcome: Outcome) -> Outcome
-    requires { outcome.status ≢ 4 }
-    ensures done { result.status ≢ 4 → result ≡ outcome }
-    ensures written { result.status ≢ 4 → K.held sink.new ≡ after (K.held sink.old) text.now }
-    ensures cut { result.status ≡ 4 → result ≡ cut_off outcome }
-    ensures part { result.status ≡ 4 → GrewByProperPrefix (K.held sink.old) text.now (K.held sink.new) }
-    ensures cause { result.status ≡ 4 → Rose (K.faults sink.old) (K.faults sink.new) }
-{
-    match write_all(sink, text) {
-        Ok(()) => outcome,
-        Err(_) => Outcome {
-            status: 4,
-            card: 0,
-            cause: 0,
-            run: outcome.run,
-        },
-    }
-}
-
-/// The text of a refusal of a script.
-fn refusal(alloc: Global, card: u32, cause: u8) -> Result<Bytes, NoMemory>
-    ensures { IfOk result (λ text. text ≡ script_refused card cause) }
-{
-    let mut text = String::new(alloc);
-    writeln!(text, "SCRIPT REFUSED AT CARD {card}: {cause}")?;
-    Ok(Sequence::from_vec(text.into_bytes()))
-}
-
-/// The words are refused.
-fn refuse_words<K: Sink>(alloc: Global, sink: &mut K) -> Outcome
-    ensures status { list_any (nat_eq result.status) (1 ∷ 4 ∷ []) ≡ true }
-    ensures refused { result.status ≡ 1 → result ≡ bare 1 0 0 }
-    ensures told { result.status ≡ 1 → K.held sink.new ≡ after (K.held sink.old) words_refused }
-    ensures cut { result.status ≡ 4 → result ≡ bare 4 0 0 }
-    ensures part { result.status ≡ 4 → GrewByProperPrefix (K.held sink.old) words_refused (K.held sink.new) }
-    ensures cause { result.status ≡ 4 → Rose (K.faults sink.old) (K.faults sink.new) }
-{
-    write_out(sink, b"WORDS REFUSED\n", Outcome::bare(alloc, 1, 0, 0))
-}
-
-/// The script is refused.
-fn refuse_script<K: Sink>(alloc: Global, sink: &mut K, card: u32, cause: u8) -> Outcome
-    ensures status { list_any (nat_eq result.status) (2 ∷ 4 ∷ 8 ∷ []) ≡ true }
-    ensures refused { result.status ≡ 2 → result ≡ bare 2 card cause }
-    ensures told { result.status ≡ 2 → K.held sink.new ≡ after (K.held sink.old) (script_refused card cause) }
-    ensures cut { result.status ≡ 4 → result ≡ bare 4 0 0 }
-    ensures part { result.status ≡ 4 → GrewByProperPrefix (K.held sink.old) (script_refused card cause) (K.held sink.new) }
-    ensures cause { result.status ≡ 4 → Rose (K.faults sink.old) (K.faults sink.new) }
-    ensures memory { result.status ≡ 8 → result ≡ bare 8 0 0 }
-    ensures silent { result.status ≡ 8 → K.held sink.new ≡ K.held sink.old }
-{
-    match refusal(alloc, card, cause) {
-        Ok(text) => write_out(sink, text.as_slice(), Outcome::bare(alloc, 2, card, cause)),
-        Err(_) => Outcome::bare(alloc, 8, 0, 0),
-    }
-}
+use text_model::Mode;
 
 /// The record of a script and its report.
 fn record_and_report(alloc: Global, script: &Script) -> Result<(Record, Bytes), NoMemory>
@@ -122,7 +68,7 @@ fn replay<S: Source, K: Sink>(alloc: Global, script: &mut S, sink: &mut K) -> Ou
     ensures refused { result.status ≡ 2 → ScriptIsRefused (S.left script.old) (S.left script.new) (K.held sink.old) (K.held sink.new) result }
     ensures unread { result.status ≡ 3 → Rose (S.faults script.old) (S.faults script.new) }
     ensures unwritten { result.status ≡ 4 → Rose (K.faults sink.old) (K.faults sink.new) }
-    ensures part { (words : List (List ℕ)) → result.status ≡ 4 → IsCutOff words (S.left script.old) (S.left script.new) (K.held sink.old) (K.held sink.new) result }
+    ensures part { (words : List (List ℕ)) → mode_of words ≡ Some Mode.Replay → result.status ≡ 4 → IsCutOff words (S.left script.old) (S.left script.new) (K.held sink.old) (K.held sink.new) result }
     ensures silent { list_any (nat_eq result.status) (3 ∷ 8 ∷ []) ≡ true → IsSilent result.status (K.held sink.old) (K.held sink.new) result }
     ensures told { WhereTold (S.left script.old) (λ bytes. list_any (nat_eq result.status) (statuses_for (script_of bytes)) ≡ true) }
 {
@@ -139,34 +85,39 @@ fn replay<S: Source, K: Sink>(alloc: Global, script: &mut S, sink: &mut K) -> Ou
     }
 }
 
-/// What the words ask for, done: `replay` reads a script from `script`, runs it and writes its report to `report`.
+/// What the words ask for, done: `replay` reads a script from `input`, runs it and writes its report to `output`; `asm` reads
+/// cards and writes their deck.
 pub fn run_ctss<S: Source, K: Sink>(
     alloc: Global,
     words: &ArgList,
-    script: &mut S,
-    report: &mut K,
+    input: &mut S,
+    output: &mut K,
 ) -> Outcome
-    ensures headline { result.status ≡ 0 → Replayed (S.left script.old) (S.left script.new) (K.held report.old) (K.held report.new) result }
+    ensures headline { mode_of words.now ≡ Some Mode.Replay → result.status ≡ 0 → Replayed (S.left input.old) (S.left input.new) (K.held output.old) (K.held output.new) result }
+    ensures deck { mode_of words.now ≡ Some Mode.Asm → result.status ≡ 0 → DeckIsWritten (S.left input.old) (S.left input.new) (K.held output.old) (K.held output.new) result }
 
     // The refusals, each with its text.
-    ensures refused_words { result.status ≡ 1 → WordsAreRefused words.now (S.left script.old) (S.left script.new) (K.held report.old) (K.held report.new) result }
-    ensures refused_script { result.status ≡ 2 → ScriptIsRefused (S.left script.old) (S.left script.new) (K.held report.old) (K.held report.new) result }
+    ensures refused_words { result.status ≡ 1 → WordsAreRefused words.now (S.left input.old) (S.left input.new) (K.held output.old) (K.held output.new) result }
+    ensures refused_script { mode_of words.now ≡ Some Mode.Replay → result.status ≡ 2 → ScriptIsRefused (S.left input.old) (S.left input.new) (K.held output.old) (K.held output.new) result }
+    ensures too_long { mode_of words.now ≡ Some Mode.Asm → result.status ≡ 2 → InputIsTooLong (S.left input.old) (S.left input.new) (K.held output.old) (K.held output.new) result }
+    ensures refused_cards { result.status ≡ 9 → CardsAreRefused (S.left input.old) (S.left input.new) (K.held output.old) (K.held output.new) result }
+    ensures cards { result.status ≡ 9 → mode_of words.now ≡ Some Mode.Asm }
 
     // The faults: only where the object's count rose.
-    ensures read_fault { result.status ≡ 3 → Rose (S.faults script.old) (S.faults script.new) }
-    ensures write_fault { result.status ≡ 4 → Rose (K.faults report.old) (K.faults report.new) }
-    ensures cut_off { result.status ≡ 4 → IsCutOff words.now (S.left script.old) (S.left script.new) (K.held report.old) (K.held report.new) result }
+    ensures read_fault { result.status ≡ 3 → Rose (S.faults input.old) (S.faults input.new) }
+    ensures write_fault { result.status ≡ 4 → Rose (K.faults output.old) (K.faults output.new) }
+    ensures cut_off { result.status ≡ 4 → IsCutOff words.now (S.left input.old) (S.left input.new) (K.held output.old) (K.held output.new) result }
 
     // With a read that failed and with want of memory nothing is written.
-    ensures silent { list_any (nat_eq result.status) (3 ∷ 8 ∷ []) ≡ true → IsSilent result.status (K.held report.old) (K.held report.new) result }
+    ensures silent { list_any (nat_eq result.status) (3 ∷ 8 ∷ []) ≡ true → IsSilent result.status (K.held output.old) (K.held output.new) result }
 
     // No other status, and of these only those that the words and the bytes left allow.
-    ensures known { list_any (nat_eq result.status) (0 ∷ 1 ∷ 2 ∷ 3 ∷ 4 ∷ 8 ∷ []) ≡ true }
-    ensures told { WhereTold (S.left script.old) (λ bytes. list_any (nat_eq result.status) (statuses_of (mode_of words.now) (script_of bytes)) ≡ true) }
+    ensures known { list_any (nat_eq result.status) (0 ∷ 1 ∷ 2 ∷ 3 ∷ 4 ∷ 8 ∷ 9 ∷ []) ≡ true }
+    ensures told { WhereTold (S.left input.old) (λ bytes. list_any (nat_eq result.status) (statuses_of (mode_of words.now) bytes) ≡ true) }
 {
-    if words.ask_replay() {
-        replay(alloc, script, report)
-    } else {
-        refuse_words(alloc, report)
+    match words.mode() {
+        Some(Mode::Replay) => replay(alloc, input, output),
+        Some(Mode::Asm) => asm(alloc, input, output),
+        None => refuse_words(alloc, output),
     }
 }

@@ -95,3 +95,37 @@ fn refusals(rt: HostRuntime) -> Result<(), Fail> {
     assert_eq!(rt; report.bytes(), b"WORDS REFUSED\n".as_slice());
     Ok(())
 }
+
+#[test]
+fn cards_make_a_deck_or_faults(rt: HostRuntime) -> Result<(), Fail> {
+    let alloc = rt.alloc();
+    let mut words = ArgList::new(alloc);
+    words.add("asm")?;
+    let mut cards = MemorySource::new(
+        alloc,
+        b"GO     TSX     STOP,4\nSTOP   TIA     =HDEAD\n       END     GO\n",
+        64,
+        &[],
+    )?;
+    let mut deck = MemorySink::new(alloc, 100, 64, &[])?;
+    let outcome = run_ctss(alloc, &words, &mut cards, &mut deck);
+    assert_eq!(rt; outcome.status, 0);
+    assert_eq!(rt;
+        deck.bytes(),
+        b"O 000000000001 000003000000 007400400001 010100000002 242521246060\n".as_slice()
+    );
+    let mut cards = MemorySource::new(
+        alloc,
+        b"A      PZE     B\nA      PZE     0\n       CLX     1\n",
+        64,
+        &[],
+    )?;
+    let mut faults = MemorySink::new(alloc, 100, 64, &[])?;
+    let outcome = run_ctss(alloc, &words, &mut cards, &mut faults);
+    assert_eq!(rt; outcome.status, 9);
+    assert_eq!(rt;
+        faults.bytes(),
+        b"CARD 1 FAULT 3\nCARD 2 FAULT 4\nCARD 3 FAULT 1\nCARD 4 FAULT 6\n".as_slice()
+    );
+    Ok(())
+}

@@ -1,9 +1,10 @@
-ghost use Rattle.std.specs.Prelude.{◌≡◌, ◌++◌, ◌∷◌, [], map, string_bytes, OnOk, OnErr, is_some};
-ghost use Rattle.text_model.specs.Words.{mode_of};
+ghost use Rattle.std.specs.Prelude.{◌≡◌, ◌++◌, ◌∷◌, [], map, string_bytes, OnOk, OnErr};
+ghost use Rattle.text_model.specs.Words.{mode_of, mode_named};
 
 use ctss_types::NoMemory;
 use std::alloc::Global;
 use std::marker::Model;
+use text_model::Mode;
 
 /// The words of a command line behind the program's own name.
 #[derive(Debug, Drop)]
@@ -41,13 +42,25 @@ impl ArgList {
         Ok(())
     }
 
-    /// Whether the words ask for a replay, which is all that there is to ask for so far.
-    pub(crate) fn ask_replay(&self) -> bool
-        ensures { result ≡ is_some (mode_of self.now) }
+    /// What the words ask for, if they are lawful.
+    pub(crate) fn mode(&self) -> Option<Mode>
+        ensures { result ≡ mode_of self.now }
     {
         match self.words.as_slice() {
-            [word] => word.as_str() == "replay",
-            _ => false,
+            [word] => mode_named(word.as_str()),
+            _ => None,
         }
+    }
+}
+
+fn mode_named(word: &str) -> Option<Mode>
+    ensures { result ≡ mode_named word.now }
+{
+    if word == "replay" {
+        Some(Mode::Replay)
+    } else if word == "asm" {
+        Some(Mode::Asm)
+    } else {
+        None
     }
 }

@@ -7,6 +7,10 @@
 ghost use Rattle.text_model.specs.Reading.{ScriptsAreInRange};
 ghost use Rattle.text_model.specs.Rows.{RowOfScript, RowOfRefusals, RowOfReport};
 
+mod mode;
+
+pub use mode::Mode;
+
 /// Every script that is read has its numbers in range, and no first files yet.
 pub fn scripts_are_in_range()
     ensures { ScriptsAreInRange }

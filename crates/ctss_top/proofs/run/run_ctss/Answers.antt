@@ -1,6 +1,10 @@
-use Rattle.std.proofs.Common.{sym, ◌∙◌}
-use Rattle.ctss_top.proofs.Says.{lawful}
+use Rattle.std.proofs.Common.{◌≡◌, ◌∙◌, sym, ap, Some}
+use Rattle.text_model.specs.declared.mode.Mode.TheVariants.{Asm}
+use Rattle.text_model.specs.Words.{mode_of}
+use Rattle.ctss_top.proofs.Cards.{cut_by_words}
 use Rattle.ctss_top.proofs.run.run_ctss.Goals as goal
 
-pub returns-then-ask_replay-clause-told : goal.returns-then-ask_replay-clause-told
-returns-then-ask_replay-clause-told g c = lawful _ _ _ (sym c.if-ask_replay.true ∙ c.ask_replay.ensures) c.replay.ensures.told
+pub returns-in-Some-Asm-clause-cut_off : goal.returns-in-Some-Asm-clause-cut_off
+returns-in-Some-Asm-clause-cut_off g c h =
+    let asked : mode_of c.args.words.now ≡ Some Asm = sym c.mode.ensures ∙ (c.in-Some-Asm.is ∙ ap Some c.in-Some-Asm.field-0-is) in
+    cut_by_words c.args.words.now _ _ _ _ c.asm.result asked (c.asm.ensures.cut h) (c.asm.ensures.part h)

@@ -1,0 +1,107 @@
+-- What follows from cards that were read, and from what was written of them.
+use Rattle.std.proofs.Common.{◌≡◌, ◌≢◌, ℕ, ◌≤◌, ◌<◌, Bool, true, false, cond, ◌||◌, nat_eq, nat_le, List, [], ◌∷◌, ◌++◌, length, map, Option, Some, None, refl, sym, ap, subst, ◌∙◌, append-nil, arith}
+use Rattle.std.specs.List.{list_any, flat_map}
+use Rattle.std.proofs.lemmas.Bool.Decides.{nat_tests}
+use Rattle.faults.specs.Faults.{WhereTold}
+use Rattle.ctss_io.specs.Outside.{before, after, IsAtEnd}
+use Rattle.ctss_io.specs.Whole.{ShrankBy, HasAtLeast, GrewByProperPrefix}
+use Rattle.fap_assemble.specs.declared.fault.CardFault.{CardFault}
+use Rattle.fap_assemble.specs.Follows.{numbered}
+use Rattle.fap_model.specs.Decks.{Assembled, deck, faulty}
+use Rattle.text_model.specs.declared.mode.Mode.{Mode}
+use Rattle.text_model.specs.declared.mode.Mode.TheVariants.{Replay, Asm}
+use Rattle.text_model.specs.Words.{mode_of, fault_line, faults_text, script_refused}
+use Rattle.text_model.specs.Reading.{max_bytes}
+use Rattle.ctss_top.specs.declared.outcome.Outcome.{Outcome}
+use Rattle.ctss_top.specs.Outcomes.{bare, empty_record}
+use Rattle.ctss_top.specs.Asm.{assembled_from, IsInput, IsTooLong, IsDeckOf, AreFaultsOf, DeckIsWritten, CardsAreRefused, InputIsTooLong, IsTextOfBytes, DeckOf, FaultsOf, IsTextOfCards, OfDeck, OfFaults, OfLong, IsCutOfCards, CardsAreCutOff, statuses_by, statuses_for_cards}
+use Rattle.ctss_top.specs.Top.{IsTextOf, OfCards, IsCutOff, statuses_of}
+
+pub faults_joined : (fs : List CardFault) → flat_map (λ (f : CardFault). fault_line (f.card, f.number)) fs ≡ faults_text (numbered fs)
+faults_joined [] = refl
+faults_joined (f ∷ fs) = ap (λ (l : List ℕ). fault_line (f.card, f.number) ++ l) (faults_joined fs)
+
+input : (left rest : Option (List ℕ)) (bytes : List ℕ) → left ≡ before bytes rest → IsAtEnd rest → length bytes ≤ max_bytes → IsInput left rest bytes
+input left rest bytes came whole size = record { came = came; whole = whole; size = size }
+
+pub deck_written : (left rest held now : Option (List ℕ)) (o : Outcome) (bytes : List ℕ) → left ≡ before bytes rest → IsAtEnd rest → length bytes ≤ max_bytes → IsDeckOf bytes held now o → DeckIsWritten left rest held now o
+deck_written left rest held now o bytes came whole size h =
+    record { bytes = bytes; words = h.words; read = input left rest bytes came whole size; made = h.made; outcome = h.outcome; told = h.told }
+
+pub cards_refused : (left rest held now : Option (List ℕ)) (o : Outcome) (bytes : List ℕ) → left ≡ before bytes rest → IsAtEnd rest → length bytes ≤ max_bytes → AreFaultsOf bytes held now o → CardsAreRefused left rest held now o
+cards_refused left rest held now o bytes came whole size h =
+    record { bytes = bytes; faults = h.faults; read = input left rest bytes came whole size; made = h.made; outcome = h.outcome; told = h.told }
+
+long : (left rest : Option (List ℕ)) (gone : ShrankBy 4194305 left rest) → IsTooLong left rest gone.0
+long left rest gone = record { came = gone.2; size = omega (arith, gone.1) }
+
+pub input_long : (left rest held now : Option (List ℕ)) (o : Outcome) → ShrankBy 4194305 left rest → o ≡ bare 2 0 8 → now ≡ after held (script_refused 0 8) → InputIsTooLong left rest held now o
+input_long left rest held now o gone is told = record { bytes = gone.0; read = long left rest gone; outcome = is; told = told }
+
+pub cut_of_long : (left rest held now : Option (List ℕ)) → ShrankBy 4194305 left rest → GrewByProperPrefix held (script_refused 0 8) now → CardsAreCutOff left rest held now
+cut_of_long left rest held now gone part = record { text = script_refused 0 8; said = OfLong gone.0 (long left rest gone) refl; part = part }
+
+said_of : (left rest : Option (List ℕ)) (bytes text : List ℕ) → IsInput left rest bytes → IsTextOfBytes bytes text → IsTextOfCards left rest text
+said_of left rest bytes text read (DeckOf words made is) = OfDeck bytes words read made is
+said_of left rest bytes text read (FaultsOf faults made is) = OfFaults bytes faults read made is
+
+pub cut_of_cards : (left rest held now : Option (List ℕ)) (bytes : List ℕ) → left ≡ before bytes rest → IsAtEnd rest → length bytes ≤ max_bytes → IsCutOfCards bytes held now → CardsAreCutOff left rest held now
+cut_of_cards left rest held now bytes came whole size h =
+    record { text = h.text; said = said_of left rest bytes h.text (input left rest bytes came whole size) h.said; part = h.part }
+
+-- for the words that ask for an assembly
+pub cut_by_words : (words : List (List ℕ)) (left rest held now : Option (List ℕ)) (o : Outcome) → mode_of words ≡ Some Asm → o ≡ bare 4 0 0 → CardsAreCutOff left rest held now → IsCutOff words left rest held now o
+cut_by_words words left rest held now o asked is h =
+    record {
+      text = h.text;
+      said = OfCards asked (ap (λ (x : Outcome). x.run) is) h.said;
+      part = h.part;
+      card = ap (λ (x : Outcome). x.card) is;
+      cause = ap (λ (x : Outcome). x.cause) is;
+    }
+
+pub lawful_cards : (mode : Option Mode) (status : ℕ) (left : Option (List ℕ)) → mode ≡ Some Asm → WhereTold left (λ bytes. list_any (nat_eq status) (statuses_for_cards bytes) ≡ true)
+    → WhereTold left (λ bytes. list_any (nat_eq status) (statuses_of mode bytes) ≡ true)
+lawful_cards mode status left asked told = subst (λ (m : Option Mode). WhereTold left (λ bytes. list_any (nat_eq status) (statuses_of m bytes) ≡ true)) (sym asked) told
+
+-- the statuses that all inputs may have
+
+abbrev pub Allowed : ℕ → List ℕ → Type 0
+Allowed status bytes = list_any (nat_eq status) (statuses_for_cards bytes) ≡ true
+
+too_many : (bytes : List ℕ) → 4194305 ≤ length bytes → nat_le (length bytes) max_bytes ≡ false
+too_many bytes h = grind (arith, nat_tests)
+
+few_enough : (bytes : List ℕ) → length bytes ≤ max_bytes → nat_le (length bytes) max_bytes ≡ true
+few_enough bytes h = grind (arith, nat_tests)
+
+any_in : (status : ℕ) (said : Assembled) → list_any (nat_eq status) (8 ∷ statuses_by said) ≡ true → list_any (nat_eq status) (statuses_by said) ≡ true
+any_in status (deck ws) h = grind (arith, nat_tests)
+any_in status (faulty fs) h = grind (arith, nat_tests)
+
+pub allowed_short : (status : ℕ) (bytes : List ℕ) → length bytes ≤ max_bytes → list_any (nat_eq status) (8 ∷ statuses_by (assembled_from bytes)) ≡ true → Allowed status bytes
+allowed_short status bytes size h = rw (few_enough bytes size) (any_in status (assembled_from bytes) h)
+
+pub allowed_long : (left : Option (List ℕ)) (status : ℕ) → HasAtLeast 4194305 left → list_any (nat_eq status) (2 ∷ 4 ∷ 8 ∷ []) ≡ true → WhereTold left (Allowed status)
+allowed_long None status h is = tt
+allowed_long (Some bytes) status h is = rw (too_many bytes h) (grind (arith, nat_tests))
+
+at_any : (status : ℕ) → ((said : Assembled) → list_any (nat_eq status) (statuses_by said) ≡ true) → list_any (nat_eq status) (2 ∷ 3 ∷ 4 ∷ 8 ∷ []) ≡ true → (b : Bool) (said : Assembled) → list_any (nat_eq status) (cond b (statuses_by said) (2 ∷ 3 ∷ 4 ∷ 8 ∷ [])) ≡ true
+at_any status h k true said = h said
+at_any status h k false said = k
+
+at_3 : (said : Assembled) → list_any (nat_eq 3) (statuses_by said) ≡ true
+at_3 (deck ws) = refl
+at_3 (faulty fs) = refl
+
+at_8 : (said : Assembled) → list_any (nat_eq 8) (statuses_by said) ≡ true
+at_8 (deck ws) = refl
+at_8 (faulty fs) = refl
+
+pub allowed_unread : (left : Option (List ℕ)) → WhereTold left (Allowed 3)
+allowed_unread None = tt
+allowed_unread (Some bytes) = at_any 3 at_3 refl (nat_le (length bytes) max_bytes) (assembled_from bytes)
+
+pub allowed_no_memory : (left : Option (List ℕ)) → WhereTold left (Allowed 8)
+allowed_no_memory None = tt
+allowed_no_memory (Some bytes) = at_any 8 at_8 refl (nat_le (length bytes) max_bytes) (assembled_from bytes)

@@ -1,0 +1,13 @@
+-- Outcomes that need no record.
+use Rattle.std.specs.Prelude.{ℕ, []}
+use Rattle.ctss_types.specs.declared.history.Record.{Record}
+use Rattle.ctss_top.specs.declared.outcome.Outcome.{Outcome}
+
+abbrev pub empty_record : Record
+empty_record = record { entries = []; transcripts = []; files = []; common = []; clock = 0 }
+
+abbrev pub bare : ℕ → ℕ → ℕ → Outcome
+bare status card cause = record { status = status; card = card; cause = cause; run = empty_record }
+
+abbrev pub cut_off : Outcome → Outcome
+cut_off o = record { status = 4; card = 0; cause = 0; run = o.run }

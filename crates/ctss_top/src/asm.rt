@@ -1,0 +1,145 @@
+//! Assembly: cards are read, and their deck or their faults are written.
+ghost use Rattle.std.specs.Prelude.{◌≡◌, ◌≢◌, ◌++◌, ◌∷◌, ◌≤◌, [], ℕ, List, true, nat_eq, length, map, string_bytes, IfOk, OnOk};
+ghost use Rattle.std.specs.List.{flat_map, list_any};
+ghost use Rattle.std.specs.Str.Lines.{lines};
+ghost use Rattle.faults.specs.Faults.{Rose, WhereTold};
+ghost use Rattle.ctss_io.specs.Outside.{before, after, IsAtEnd};
+ghost use Rattle.ctss_io.specs.Whole.{GrewByProperPrefix};
+ghost use Rattle.fap_assemble.specs.Answers.{IsAssembled};
+ghost use Rattle.fap_assemble.specs.Follows.{numbered};
+ghost use Rattle.text_model.specs.Canonical.{word_cards};
+ghost use Rattle.text_model.specs.Words.{fault_line, faults_text};
+ghost use Rattle.fap_model.specs.Decks.{deck, faulty};
+ghost use Rattle.ctss_top.specs.Outcomes.{bare};
+ghost use Rattle.ctss_top.specs.Top.{IsSilent};
+ghost use Rattle.ctss_top.specs.Asm.{assembled_from, IsDeckOf, AreFaultsOf, DeckIsWritten, CardsAreRefused, InputIsTooLong, IsCutOfCards, CardsAreCutOff, statuses_by, statuses_for_cards};
+
+use crate::outcome::Outcome;
+use crate::write::{refuse_script, write_out};
+use ctss_io::{ReadEnd, Sink, Source, read_bytes};
+use ctss_types::{Bytes, NoMemory, Sequence};
+use fap_assemble::{AsmFault, CardFault, Deck, assemble};
+use fap_read::cards_of_text;
+use std::alloc::{AllocError, Global};
+use std::fmt::Write;
+use word_cards::add_word_cards;
+use word36::Word;
+
+/// What the cards of a text make.
+fn assemble_text(alloc: Global, bytes: &[u8]) -> Result<Deck, AsmFault>
+    requires { length bytes.now ≤ 4194304 }
+    ensures { IsAssembled result (assembled_from bytes.now) }
+{
+    let cards = cards_of_text(alloc, bytes)?;
+    assemble(alloc, cards.as_slice())
+}
+
+/// A deck as O cards.
+fn deck_text(alloc: Global, words: &[Word]) -> Result<Bytes, NoMemory>
+    ensures { IfOk result (λ text. text ≡ word_cards words.now) }
+{
+    let mut text = String::new(alloc);
+    add_word_cards(&mut text, words)?;
+    Ok(Sequence::from_vec(text.into_bytes()))
+}
+
+fn add_fault(out: &mut String, fault: &CardFault) -> Result<(), AllocError>
+    ensures { OnOk result (string_bytes out.new ≡ string_bytes out.old ++ fault_line (fault.now.card, fault.now.number)) }
+{
+    let (card, number) = (fault.card, fault.number);
+    write!(out, "CARD {card} FAULT {number}\n")
+}
+
+fn add_faults(out: &mut String, faults: &[CardFault]) -> Result<(), AllocError>
+    ensures { OnOk result (string_bytes out.new ≡ string_bytes out.old ++ flat_map (λ (f : CardFault). fault_line (f.card, f.number)) faults.now) }
+{
+    for fault in faults {
+        add_fault(out, fault)?;
+    }
+    Ok(())
+}
+
+/// A line for each card at fault.
+#[tactic(auto, using(crate::proofs::Cards::faults_joined))]
+fn text_of_faults(alloc: Global, faults: &[CardFault]) -> Result<Bytes, NoMemory>
+    ensures { IfOk result (λ text. text ≡ faults_text (numbered faults.now)) }
+{
+    let mut text = String::new(alloc);
+    add_faults(&mut text, faults)?;
+    Ok(Sequence::from_vec(text.into_bytes()))
+}
+
+/// Writes a deck.
+fn write_deck<K: Sink>(alloc: Global, words: &[Word], sink: &mut K) -> Outcome
+    ensures status { list_any (nat_eq result.status) (0 ∷ 4 ∷ 8 ∷ []) ≡ true }
+    ensures done { result.status ≡ 0 → result ≡ bare 0 0 0 }
+    ensures told { result.status ≡ 0 → K.held sink.new ≡ after (K.held sink.old) (word_cards words.now) }
+    ensures cut { result.status ≡ 4 → result ≡ bare 4 0 0 }
+    ensures part { result.status ≡ 4 → GrewByProperPrefix (K.held sink.old) (word_cards words.now) (K.held sink.new) }
+    ensures cause { result.status ≡ 4 → Rose (K.faults sink.old) (K.faults sink.new) }
+    ensures memory { result.status ≡ 8 → result ≡ bare 8 0 0 }
+    ensures silent { result.status ≡ 8 → K.held sink.new ≡ K.held sink.old }
+{
+    match deck_text(alloc, words) {
+        Ok(text) => write_out(sink, text.as_slice(), Outcome::bare(alloc, 0, 0, 0)),
+        Err(_) => Outcome::bare(alloc, 8, 0, 0),
+    }
+}
+
+/// Writes faults.
+fn write_faults<K: Sink>(alloc: Global, faults: &[CardFault], sink: &mut K) -> Outcome
+    ensures status { list_any (nat_eq result.status) (4 ∷ 8 ∷ 9 ∷ []) ≡ true }
+    ensures done { result.status ≡ 9 → result ≡ bare 9 0 0 }
+    ensures told { result.status ≡ 9 → K.held sink.new ≡ after (K.held sink.old) (faults_text (numbered faults.now)) }
+    ensures cut { result.status ≡ 4 → result ≡ bare 4 0 0 }
+    ensures part { result.status ≡ 4 → GrewByProperPrefix (K.held sink.old) (faults_text (numbered faults.now)) (K.held sink.new) }
+    ensures cause { result.status ≡ 4 → Rose (K.faults sink.old) (K.faults sink.new) }
+    ensures memory { result.status ≡ 8 → result ≡ bare 8 0 0 }
+    ensures silent { result.status ≡ 8 → K.held sink.new ≡ K.held sink.old }
+{
+    match text_of_faults(alloc, faults) {
+        Ok(text) => write_out(sink, text.as_slice(), Outcome::bare(alloc, 9, 0, 0)),
+        Err(_) => Outcome::bare(alloc, 8, 0, 0),
+    }
+}
+
+/// Assembles the cards of a text, and writes what they make.
+fn write_assembled<K: Sink>(alloc: Global, bytes: &[u8], sink: &mut K) -> Outcome
+    requires { length bytes.now ≤ 4194304 }
+    ensures status { list_any (nat_eq result.status) (8 ∷ statuses_by (assembled_from bytes.now)) ≡ true }
+    ensures deck { result.status ≡ 0 → IsDeckOf bytes.now (K.held sink.old) (K.held sink.new) result }
+    ensures faults { result.status ≡ 9 → AreFaultsOf bytes.now (K.held sink.old) (K.held sink.new) result }
+    ensures unread { result.status ≢ 3 }
+    ensures cut { result.status ≡ 4 → result ≡ bare 4 0 0 }
+    ensures part { result.status ≡ 4 → IsCutOfCards bytes.now (K.held sink.old) (K.held sink.new) }
+    ensures cause { result.status ≡ 4 → Rose (K.faults sink.old) (K.faults sink.new) }
+    ensures memory { result.status ≡ 8 → result ≡ bare 8 0 0 }
+    ensures silent { result.status ≡ 8 → K.held sink.new ≡ K.held sink.old }
+{
+    match assemble_text(alloc, bytes) {
+        Ok(deck) => write_deck(alloc, deck.words.as_slice(), sink),
+        Err(AsmFault::Faults(faults)) => write_faults(alloc, faults.as_slice(), sink),
+        Err(AsmFault::NoMemory) => Outcome::bare(alloc, 8, 0, 0),
+    }
+}
+
+/// Cards are read, assembled, and their deck or their faults are written.
+pub(crate) fn asm<S: Source, K: Sink>(alloc: Global, cards: &mut S, sink: &mut K) -> Outcome
+    ensures status { list_any (nat_eq result.status) (0 ∷ 2 ∷ 3 ∷ 4 ∷ 8 ∷ 9 ∷ []) ≡ true }
+    ensures deck { result.status ≡ 0 → DeckIsWritten (S.left cards.old) (S.left cards.new) (K.held sink.old) (K.held sink.new) result }
+    ensures faults { result.status ≡ 9 → CardsAreRefused (S.left cards.old) (S.left cards.new) (K.held sink.old) (K.held sink.new) result }
+    ensures long { result.status ≡ 2 → InputIsTooLong (S.left cards.old) (S.left cards.new) (K.held sink.old) (K.held sink.new) result }
+    ensures unread { result.status ≡ 3 → Rose (S.faults cards.old) (S.faults cards.new) }
+    ensures unwritten { result.status ≡ 4 → Rose (K.faults sink.old) (K.faults sink.new) }
+    ensures cut { result.status ≡ 4 → result ≡ bare 4 0 0 }
+    ensures part { result.status ≡ 4 → CardsAreCutOff (S.left cards.old) (S.left cards.new) (K.held sink.old) (K.held sink.new) }
+    ensures silent { list_any (nat_eq result.status) (3 ∷ 8 ∷ []) ≡ true → IsSilent result.status (K.held sink.old) (K.held sink.new) result }
+    ensures told { WhereTold (S.left cards.old) (λ bytes. list_any (nat_eq result.status) (statuses_for_cards bytes) ≡ true) }
+{
+    match read_bytes(alloc, cards) {
+        Ok(bytes) => write_assembled(alloc, &bytes, sink),
+        Err(ReadEnd::TooLong) => refuse_script(alloc, sink, 0, 8),
+        Err(ReadEnd::Fault) => Outcome::bare(alloc, 3, 0, 0),
+        Err(ReadEnd::NoMemory) => Outcome::bare(alloc, 8, 0, 0),
+    }
+}

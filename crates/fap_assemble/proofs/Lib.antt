@@ -1,0 +1,10 @@
+pub mod Lookup
+pub mod Runs
+pub mod Expressions
+pub mod Fields
+pub mod Places
+pub mod Passes
+pub mod Wholes
+pub mod Follows
+pub mod CardWords
+pub mod Reading

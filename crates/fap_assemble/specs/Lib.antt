@@ -1,0 +1,10 @@
+pub mod Runs
+pub mod Tables
+pub mod Expressions
+pub mod Fields
+pub mod Steps
+pub mod Passes
+pub mod Wholes
+pub mod Follows
+pub mod CardWords
+pub mod Answers

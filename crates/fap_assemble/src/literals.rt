@@ -1,0 +1,66 @@
+ghost use Rattle.std.specs.Prelude.{◌≡◌, ◌+◌, ◌≤◌, [], Some, length, OnOk, IfOk};
+ghost use Rattle.fap_model.specs.Decks.{with_literal, index_from};
+
+use ctss_types::NoMemory;
+use indexmap::IndexSet;
+use std::alloc::Global;
+use std::marker::Model;
+use word36::Word;
+
+/// The distinct literals, in order of first use.
+#[derive(Drop)]
+pub(crate) struct Literals {
+    words: IndexSet<Word>,
+}
+
+impl Model for Literals {
+    ghost use Rattle.std.specs.Prelude.{ℕ, List};
+
+    ghost Value = { List ℕ };
+
+    ghost view = { λ l. l.words.keys };
+}
+
+impl Literals {
+    pub(crate) fn new(alloc: Global) -> Literals
+        ensures { result ≡ [] }
+    {
+        Literals {
+            words: IndexSet::new(alloc),
+        }
+    }
+
+    pub(crate) fn len(&self) -> usize
+        ensures { result ≡ length self.now }
+    {
+        self.words.len()
+    }
+
+    #[tactic(auto, using(crate::proofs::Lookup::literal_added))]
+    pub(crate) fn add(&mut self, word: Word) -> Result<(), NoMemory>
+        ensures value { OnOk result (self.new ≡ with_literal self.old (Some word)) }
+        ensures few { OnOk result (length self.new ≤ length self.old + 1) }
+    {
+        self.words.insert(word)?;
+        Ok(())
+    }
+
+    /// How many literals stand before a word.
+    #[tactic(auto, using(crate::proofs::Lookup::index_found, crate::proofs::Lookup::index_missing))]
+    pub(crate) fn index(&self, word: Word) -> usize
+        ensures value { result ≡ index_from 0 self.now word }
+        ensures within { result ≤ length self.now }
+    {
+        match self.words.get_index_of(&word) {
+            Some(index) => index,
+            None => self.words.len(),
+        }
+    }
+
+    /// The literals in order.
+    pub(crate) fn as_slice(&self) -> &[Word]
+        ensures { result.now ≡ self.now }
+    {
+        self.words.as_slice()
+    }
+}

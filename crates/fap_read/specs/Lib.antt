@@ -1,0 +1,2 @@
+pub mod Peeled
+pub mod Given

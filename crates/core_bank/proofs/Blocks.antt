@@ -1,5 +1,5 @@
 -- A core's words after one block was written.
-use Rattle.std.specs.Prelude.{◌-◌}
+use Rattle.std.specs.Prelude.{◌-◌, replicate}
 use Rattle.std.proofs.Common.{◌≡◌, ◌≢◌, ◌⊎◌, inl, inr, ℕ, ◌+◌, ◌*◌, ◌<◌, ◌≤◌, ◌^◌, List, ◌++◌, length, take, drop, sym, ◌∙◌, ap, arith, append_assoc, length-append, length-drop}
 use Rattle.std.proofs.lemmas.List.{length-take-le, take_at, drop_at, take-append-le, drop-append-le, take-take, drop-drop, drop-take}
 use Rattle.std.proofs.lemmas.List.Elements.{All-append, All-take, All-drop, All-replicate}
@@ -77,3 +77,7 @@ AreWords-with_block words ws block old new =
 pub AreWords-blank : AreWords blank
 unfolding blank
 AreWords-blank = let P : ℕ → Type 0 = λ w. w < 2 ^ 36 in let zero : 0 < 2 ^ 36 = omega arith in All-replicate P 256 0 zero
+
+-- so are those of a whole core
+pub zeros_are_words : AreWords (replicate 32768 0)
+zeros_are_words = let P : ℕ → Type 0 = λ w. w < 2 ^ 36 in let zero : 0 < 2 ^ 36 = omega arith in All-replicate P 32768 0 zero

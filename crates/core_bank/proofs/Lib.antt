@@ -1,1 +1,4 @@
+pub mod Backs
 pub mod Blocks
+pub mod Memories
+pub mod Steps

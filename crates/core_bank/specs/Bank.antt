@@ -1,7 +1,8 @@
 -- The words of a core and its blocks.
-use Rattle.std.specs.Prelude.{ℕ, ◌+◌, ◌*◌, ◌^◌, ◌<◌, List, ◌++◌, take, drop, length, slice_range, replicate}
+use Rattle.std.specs.Prelude.{ℕ, ◌+◌, ◌*◌, ◌^◌, ◌<◌, List, ◌++◌, take, drop, slice_range, replicate}
 use Rattle.std.specs.List.{All}
 use Rattle.std.specs.Borrow.{Lends, MutBor, Fml, Array, u64}
+use Rattle.core_bank.specs.Parts.{with_middle, with_words}
 use Rattle.core_bank.specs.contracts.Bank.{the_row}
 
 -- each is a word of 36 bits
@@ -20,9 +21,9 @@ blank = replicate 256 0
 abbrev pub with_block : List ℕ → ℕ → List ℕ → List ℕ
 with_block words block ws = take (256 * block) words ++ ws ++ drop (256 * block + 256) words
 
--- the words with others in their place, as many as there were
-abbrev pub with_words : List ℕ → List ℕ → List ℕ
-with_words old ws = take (length old) (ws ++ drop (length ws) old)
+-- a bank lends so many blocks from one on
+abbrev pub LendsWindow : MutBor (List ℕ) → ℕ → ℕ → MutBor (List ℕ) → Fml
+LendsWindow bank base blocks window = Lends the_row (Array u64 0) bank window (λ ws. with_middle bank.now (256 * base) (256 * base + 256 * blocks) ws)
 
 -- a bank lends all its words
 abbrev pub LendsWords : MutBor (List ℕ) → MutBor (List ℕ) → Fml

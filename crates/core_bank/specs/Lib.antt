@@ -1,1 +1,3 @@
 pub mod Bank
+pub mod Lent
+pub mod Parts

@@ -1,11 +1,14 @@
 //! The words of a core: 32768 words of 36 bits, in 128 blocks of 256.
 #![tactic(auto)]
 
-ghost use Rattle.std.specs.Prelude.{◌≡◌, ◌≢◌, ◌<◌, ◌^◌, ℕ, length, replicate, slice_index, slice_set, IfOk};
+ghost use Rattle.std.specs.Prelude.{◌≡◌, ◌≢◌, ◌<◌, ◌≤◌, ◌+◌, ◌*◌, ◌^◌, ℕ, length, replicate, slice_index, slice_range, slice_set, IfOk};
 ghost use Rattle.std.specs.Borrow.{sem};
-ghost use Rattle.core_bank.specs.Bank.{AreWords, block_at, blank, with_block, LendsWords};
+ghost use Rattle.core_bank.specs.Bank.{AreWords, block_at, blank, with_block, LendsWindow, LendsWords};
+
+mod memory;
 
 use faults::NoMemory;
+use memory::Memory;
 use std::alloc::Global;
 use std::marker::Model;
 
@@ -16,20 +19,18 @@ const CORE_WORDS: usize = 32768;
 /// The words of a core, each a number below 2^36. Words and blocks are numbered from 0.
 ///
 /// In clauses it is the list of its 32768 words. That each is below 2^36 is for its owner to keep:
-/// numbers written by `copy_in` and through `words_mut` may be any.
+/// numbers written by `copy_in` and through `window` and `words_mut` may be any.
 #[derive(Drop)]
 pub struct Bank {
-    words: Vec<u64>,
+    memory: Memory,
 }
 
 impl Model for Bank {
-    ghost use Rattle.std.specs.Prelude.{◌≡◌, List, ℕ, length};
+    ghost use Rattle.std.specs.Prelude.{List, ℕ};
 
     ghost Value = { List ℕ };
 
-    ghost view = { λ b. b.words.items };
-
-    ghost invariant = { λ b. length b.words.items ≡ 32768 };
+    ghost view = { λ b. b.memory.words };
 }
 
 impl Bank {
@@ -39,8 +40,8 @@ impl Bank {
         ensures len { IfOk result (λ bank. length bank ≡ 32768) }
         ensures words { IfOk result AreWords }
     {
-        let words = zeros(alloc, CORE_WORDS)?;
-        Ok(Bank { words })
+        let memory = Memory::zeros(alloc)?;
+        Ok(Bank { memory })
     }
 
     /// How many words there are: 32768, which a caller then knows of the list.
@@ -48,7 +49,8 @@ impl Bank {
         ensures value { result ≡ 32768 }
         ensures len { result ≡ length self.now }
     {
-        self.words.len()
+        let words: &[u64] = self.memory.words();
+        words.len()
     }
 
     /// The word at an address.
@@ -56,7 +58,7 @@ impl Bank {
         requires { at < 32768 }
         ensures { result ≡ slice_index self.now at }
     {
-        self.words[at as usize]
+        self.memory.words()[at as usize]
     }
 
     /// Puts a word at an address.
@@ -66,7 +68,7 @@ impl Bank {
         ensures value { self.new ≡ slice_set self.old at word }
         ensures words { AreWords self.old → AreWords self.new }
     {
-        self.words[at as usize] = word;
+        self.memory.all_mut()[at as usize] = word;
     }
 
     /// The words of a block.
@@ -76,7 +78,7 @@ impl Bank {
         ensures len { length result.now ≡ 256 }
     {
         let at = BLOCK_WORDS * block as usize;
-        &self.words[at..at + BLOCK_WORDS]
+        &self.memory.words()[at..at + BLOCK_WORDS]
     }
 
     /// Copies a block's words out.
@@ -97,8 +99,9 @@ impl Bank {
         ensures others { (b : ℕ) → b ≢ block → block_at self.new b ≡ block_at self.old b }
         ensures words { AreWords from.now → AreWords self.old → AreWords self.new }
     {
-        let at = BLOCK_WORDS * block as usize;
-        self.words[at..at + BLOCK_WORDS].copy_from_slice(from);
+        // Then it is known of the list how many words it has.
+        let _count = self.word_count();
+        self.window(block, 1).copy_from_slice(from);
     }
 
     /// Makes a block plus zeros. The other blocks stay.
@@ -113,23 +116,26 @@ impl Bank {
         self.copy_in(block, &[0; BLOCK_WORDS]);
     }
 
+    /// Lends blocks and no others: so many, from this one on.
+    pub fn window(&mut self, base: u8, blocks: u8) -> &mut [u64]
+        requires { base + blocks ≤ 128 }
+        ensures* lends { sem 𝓛 (LendsWindow self.entry base blocks result) }
+        ensures value { result.now ≡ slice_range self.old (256 * base) (256 * base + 256 * blocks) }
+        ensures len { length result.now ≡ 256 * blocks }
+    {
+        let from = BLOCK_WORDS * base as usize;
+        self.memory
+            .part_mut(from, from + BLOCK_WORDS * blocks as usize)
+    }
+
     /// Lends all words, so that a record of a drum can be read straight into a block.
     pub fn words_mut(&mut self) -> &mut [u64]
         ensures* lends { sem 𝓛 (LendsWords self.entry result) }
         ensures value { result.now ≡ self.old }
         ensures len { length result.now ≡ 32768 }
     {
-        self.words.as_mut_slice()
+        self.memory.all_mut()
     }
-}
-
-/// So many zeros.
-fn zeros(alloc: Global, count: usize) -> Result<Vec<u64>, NoMemory>
-    ensures value { IfOk result (λ v. v.items ≡ replicate count 0) }
-    ensures len { IfOk result (λ v. length v.items ≡ count) }
-    ensures words { IfOk result (λ v. AreWords v.items) }
-{
-    Ok(vec![in alloc; 0u64; count]?)
 }
 
 #[cfg(test)]

@@ -50,3 +50,21 @@ fn lends_its_words(rt: HostRuntime) -> Result<(), Fail> {
     assert_eq!(rt; bank.load(512), 0);
     Ok(())
 }
+
+#[test]
+fn lends_a_window(rt: HostRuntime) -> Result<(), Fail> {
+    let mut bank = Bank::new(rt.alloc())?;
+    bank.copy_in(0, &[5; 256]);
+    bank.copy_in(127, &[6; 256]);
+    let window = bank.window(126, 2);
+    assert_eq!(rt; window[255], 0);
+    assert_eq!(rt; window[256], 6);
+    window[511] = 7;
+    window[0] = 8;
+    assert_eq!(rt; bank.load(255), 5);
+    assert_eq!(rt; bank.load(126 * 256), 8);
+    assert_eq!(rt; bank.load(32766), 6);
+    assert_eq!(rt; bank.load(32767), 7);
+    assert_eq!(rt; bank.window(128, 0).len(), 0);
+    Ok(())
+}

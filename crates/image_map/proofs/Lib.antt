@@ -8,4 +8,5 @@ pub mod Moves
 pub mod Ports
 pub mod Resize
 pub mod Residents
+pub mod Room
 pub mod Words

@@ -2,3 +2,4 @@ pub mod Blocks
 pub mod Images
 pub mod Loads
 pub mod Places
+pub mod Room

@@ -2,11 +2,13 @@
 #![tactic(auto)]
 
 mod image;
+mod laws;
 mod port;
 mod transfer;
 
 pub use drum_slots::DrumFault;
 pub use image::{Image, no_sizes};
+pub use laws::room_for_all;
 pub use onion_swap::Plan;
 pub use port::{Port, store_in};
 

@@ -1,4 +1,4 @@
-use Rattle.std.proofs.Common.{◌∙◌, sym, ap, subst, length, List, ℕ, arith}
+use Rattle.std.proofs.Common.{◌∙◌, sym, ap, subst, List, ℕ, arith}
 use Rattle.std.proofs.lemmas.Grind.{common_steps}
 use Rattle.core_bank.specs.Bank.{AreWords, block_at}
 use Rattle.core_bank.proofs.Blocks.{block_at-with_block_other, AreWords-with_block}
@@ -10,7 +10,7 @@ returns-clause-value c = grind (arith, common_steps)
 pub returns-clause-others : goal.returns-clause-others
 returns-clause-others c = λ b other.
     ap (λ (l : List ℕ). block_at l b) (returns-clause-value c)
-    ∙ block_at-with_block_other c.args.self.now c.args.from.now c.args.block b (ap length (sym c.self.view_is) ∙ c.self.invariant) c.requires.block c.requires.whole other
+    ∙ block_at-with_block_other c.args.self.now c.args.from.now c.args.block b (sym c.word_count-count.ensures.len ∙ c.word_count-count.ensures.value) c.requires.block c.requires.whole other
 
 pub returns-clause-words : goal.returns-clause-words
 returns-clause-words c = λ new old.

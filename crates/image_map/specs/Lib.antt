@@ -2,4 +2,5 @@ pub mod Blocks
 pub mod Images
 pub mod Loads
 pub mod Places
+pub mod Residents
 pub mod Room

@@ -8,7 +8,7 @@ mod transfer;
 
 pub use drum_slots::DrumFault;
 pub use image::{Image, no_sizes};
-pub use laws::room_for_all;
+pub use laws::{others_stay, resident_is_in_core, room_for_all};
 pub use onion_swap::Plan;
 pub use port::{Port, store_in};
 

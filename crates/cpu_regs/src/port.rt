@@ -26,6 +26,9 @@ impl Error for Outside {}
 pub trait MemoryPort {
     ghost words: { Self → List ℕ };
 
+    /// What a port stands over stays the same: a relation that every call through the port keeps.
+    ghost Keeps: { Self → Self → Type 0 };
+
     /// The number of blocks.
     fn size(&self) -> u8
         ensures blocks { 256 * result ≡ length (words self.now) }
@@ -39,5 +42,10 @@ pub trait MemoryPort {
     fn store(&mut self, address: u16, word: Word) -> Result<(), Outside>
         ensures inside { IsOk result ↔ (address < length (words self.old)) }
         ensures stored { OnOk result (words self.new ≡ slice_set (words self.old) address word) }
-        ensures kept { OnErr result (words self.new ≡ words self.old) };
+        ensures kept { OnErr result (words self.new ≡ words self.old) }
+        ensures keeps { Keeps self.old self.new };
+
+    ghost stays: { (a : Self) → Keeps a a };
+
+    ghost goes_on: { (a b c : Self) → Keeps a b → Keeps b c → Keeps a c };
 }

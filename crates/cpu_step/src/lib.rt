@@ -35,6 +35,7 @@ pub fn step<M: MemoryPort>(regs: &mut Regs, core: &mut M) -> Stepped
     requires { regs.old.ic < 2 ^ 15 }
     ensures table { outcome result regs.new (M.words core.new) ≡ table regs.old (M.words core.old) }
     ensures stays { Stays result regs.old regs.new (M.words core.old) (M.words core.new) }
+    ensures keeps { M.Keeps core.old core.new }
     ensures ic { regs.new.ic < 2 ^ 15 }
 {
     let Ok(word) = core.load(regs.ic) else {
@@ -54,6 +55,7 @@ fn execute<M: MemoryPort>(regs: &mut Regs, core: &mut M, i: &Instr) -> Stepped
     requires ic { regs.old.ic < 2 ^ 15 }
     ensures executed { outcome result regs.new (M.words core.new) ≡ executed i.now regs.old (M.words core.old) }
     ensures stays { Stays result regs.old regs.new (M.words core.old) (M.words core.new) }
+    ensures keeps { M.Keeps core.old core.new }
     ensures ic { regs.new.ic < 2 ^ 15 }
 {
     if !is_xec(kind(i.op)) {
@@ -76,6 +78,7 @@ fn perform_word<M: MemoryPort>(regs: &mut Regs, core: &mut M, word: Word) -> Ste
     requires { regs.old.ic < 2 ^ 15 }
     ensures once { outcome result regs.new (M.words core.new) ≡ once word regs.old (M.words core.old) }
     ensures stays { Stays result regs.old regs.new (M.words core.old) (M.words core.new) }
+    ensures keeps { M.Keeps core.old core.new }
     ensures ic { regs.new.ic < 2 ^ 15 }
 {
     let Some(i) = decode(word) else {
@@ -94,6 +97,7 @@ fn perform<M: MemoryPort>(regs: &mut Regs, core: &mut M, i: &Instr) -> Stepped
     requires ic { regs.old.ic < 2 ^ 15 }
     ensures done { outcome result regs.new (M.words core.new) ≡ done i.now regs.old (M.words core.old) }
     ensures stays { Stays result regs.old regs.new (M.words core.old) (M.words core.new) }
+    ensures keeps { M.Keeps core.old core.new }
     ensures ic { regs.new.ic < 2 ^ 15 }
 {
     let y = match place(regs, core, i) {
@@ -111,6 +115,7 @@ fn perform_at<M: MemoryPort>(regs: &mut Regs, core: &mut M, i: &Instr, y: u16) -
     requires ic { regs.old.ic < 2 ^ 15 }
     ensures row { outcome result regs.new (M.words core.new) ≡ row (kind_of i.now.op) i.now regs.old (M.words core.old) y }
     ensures stays { Stays result regs.old regs.new (M.words core.old) (M.words core.new) }
+    ensures keeps { M.Keeps core.old core.new }
     ensures ic { regs.new.ic < 2 ^ 15 }
 {
     match kind(i.op) {

@@ -37,9 +37,18 @@ impl<'a> Port<'a> {
 }
 
 impl MemoryPort for Port<'_> {
-    ghost use Rattle.std.specs.Prelude.{◌*◌, take};
+    ghost use Rattle.std.specs.Prelude.{◌≡◌, ◌*◌, take, drop, refl};
+    ghost use Rattle.std.proofs.Common.{◌∙◌};
 
     ghost words = { λ p. take (256 * p.blocks) p.bank.now };
+
+    // The same blocks of the same bank, and the same words behind them.
+    ghost Keeps = { λ a b. (b.bank.ghost_name ≡ a.bank.ghost_name) × (b.blocks ≡ a.blocks)
+        × (drop (256 * b.blocks) b.bank.now ≡ drop (256 * a.blocks) a.bank.now) };
+
+    ghost stays = { λ a. (refl, refl, refl) };
+
+    ghost goes_on = { λ a b c one two. (two.0 ∙ one.0, two.1 ∙ one.1, two.2 ∙ one.2) };
 
     fn size(&self) -> u8 {
         self.blocks
@@ -62,6 +71,10 @@ impl MemoryPort for Port<'_> {
             ≡ slice_set (take (256 * self.old.blocks) self.old.bank.now) address word) }
         ensures kept { OnErr result (take (256 * self.new.blocks) self.new.bank.now
             ≡ take (256 * self.old.blocks) self.old.bank.now) }
+        ensures keeps { (self.new.bank.ghost_name ≡ self.old.bank.ghost_name)
+            × (self.new.blocks ≡ self.old.blocks)
+            × (drop (256 * self.new.blocks) self.new.bank.now
+            ≡ drop (256 * self.old.blocks) self.old.bank.now) }
 
         // The port stands over the same blocks of the same bank, of which one word changes.
         ensures same { self.new.bank.ghost_name ≡ self.old.bank.ghost_name }

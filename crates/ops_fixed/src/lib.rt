@@ -28,6 +28,7 @@ pub fn apply<M: MemoryPort>(regs: &mut Regs, core: &mut M, i: &Instr, y: u16) ->
     requires ic { regs.old.ic < 2 ^ 15 }
     ensures row { ended result regs.new (M.words core.new) ≡ fixed_row i.now.op i.now regs.old (M.words core.old) y }
     ensures outside { Keeps result regs.old regs.new (M.words core.old) (M.words core.new) }
+    ensures keeps { M.Keeps core.old core.new }
     ensures ic { regs.new.ic < 2 ^ 15 }
 {
     match i.op {

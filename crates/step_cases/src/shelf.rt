@@ -41,6 +41,12 @@ fn zeros(alloc: Global, count: usize) -> Result<Vec<Word>, AllocError>
 impl MemoryPort for Shelf {
     ghost words = { λ s. s.words.items };
 
+    ghost Keeps = { λ a b. Unit {0} };
+
+    ghost stays = { λ a. tt };
+
+    ghost goes_on = { λ a b c one two. tt };
+
     fn size(&self) -> u8 {
         self.blocks
     }

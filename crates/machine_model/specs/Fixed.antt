@@ -1,6 +1,6 @@
 -- The rows of loads, stores, fixed-point arithmetic and the accumulator's signs. W is the word at y.
-use Rattle.std.specs.Prelude.{ℕ, Bool, true, false, not, ◌+◌, ◌-◌, ◌*◌, ◌/◌, ◌%◌, ◌^◌, List, if◌then◌else◌, nat_eq, ◌||◌}
-use Rattle.word36.specs.Bits.{Acc37, is_minus, magnitude_of, with_address, with_decrement, acc_word}
+use Rattle.std.specs.Prelude.{ℕ, Bool, true, false, not, ◌+◌, ◌-◌, ◌*◌, ◌/◌, ◌%◌, ◌^◌, List, nat_eq, ◌||◌}
+use Rattle.word36.specs.Bits.{is_minus, magnitude_of, with_address, with_decrement, acc_word}
 use Rattle.arith36.specs.Arith.{sum_of, product_of, rounded, round_overflows, divided, compared}
 use Rattle.arith36.specs.declared.Divide.{Divide}
 use Rattle.arith36.specs.declared.Divide.TheVariants.{Divided, Check}

@@ -1,5 +1,5 @@
 -- The rows of index registers, transfers and stops. W is the word at y, and the tag names the index register.
-use Rattle.std.specs.Prelude.{ℕ, Bool, true, false, not, ◌+◌, ◌-◌, ◌*◌, ◌/◌, ◌%◌, ◌^◌, List, if◌then◌else◌, nat_eq, nat_lt}
+use Rattle.std.specs.Prelude.{ℕ, false, not, ◌+◌, ◌-◌, ◌*◌, ◌%◌, ◌^◌, List, if◌then◌else◌, nat_eq, nat_lt}
 use Rattle.word36.specs.Bits.{is_minus, address_of, decrement_of, with_address, with_decrement}
 use Rattle.arith36.specs.Arith.{compared}
 use Rattle.cpu_regs.specs.declared.regs.Regs.{Regs}

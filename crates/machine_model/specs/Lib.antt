@@ -4,3 +4,4 @@ pub mod Logic
 pub mod Index
 pub mod Machine
 pub mod Results
+pub mod Rows

@@ -1,6 +1,6 @@
 -- The rows of logic, shifts and sense indicators. L is positions P and 1 to 35 of the accumulator, W the word at y.
-use Rattle.std.specs.Prelude.{ℕ, Bool, true, false, not, ◌+◌, ◌-◌, ◌*◌, ◌/◌, ◌%◌, ◌^◌, List, if◌then◌else◌, nat_eq, bit_and, bit_or, bit_xor}
-use Rattle.word36.specs.Bits.{Acc37, logical_of}
+use Rattle.std.specs.Prelude.{ℕ, ◌*◌, ◌%◌, ◌^◌, List, bit_and, bit_or, bit_xor}
+use Rattle.word36.specs.Bits.{logical_of}
 use Rattle.arith36.specs.Arith.{logical_sum, compared_logical}
 use Rattle.shift36.specs.Shift.{acc_left, acc_right, long_left, long_right, logical_left, logical_right, turned}
 use Rattle.cpu_regs.specs.declared.regs.Regs.{Regs}

@@ -7,8 +7,6 @@ use Rattle.cpu_regs.specs.declared.regs.Regs.{Regs}
 use Rattle.cpu_regs.specs.Registers.{xr}
 use Rattle.opcode_table.specs.Table.{class_of, kind_of}
 use Rattle.opcode_table.specs.Words.{decoded}
-use Rattle.opcode_table.specs.declared.op.Op.{Op}
-use Rattle.opcode_table.specs.declared.op.Op.TheVariants as op
 use Rattle.opcode_table.specs.declared.op.Instr.{Instr}
 use Rattle.opcode_table.specs.declared.op.Class.{Class}
 use Rattle.opcode_table.specs.declared.op.Class.TheVariants as class

@@ -26,7 +26,7 @@ impl Error for Outside {}
 pub trait MemoryPort {
     ghost words: { Self → List ℕ };
 
-    /// What a port stands over stays the same: a relation that every call through the port keeps.
+    /// What a port stands over, and its size, stay the same: a relation that every call through the port keeps.
     ghost Keeps: { Self → Self → Type 0 };
 
     /// The number of blocks.
@@ -48,4 +48,6 @@ pub trait MemoryPort {
     ghost stays: { (a : Self) → Keeps a a };
 
     ghost goes_on: { (a b c : Self) → Keeps a b → Keeps b c → Keeps a c };
+
+    ghost same_size: { (a b : Self) → Keeps a b → length (words b) ≡ length (words a) };
 }

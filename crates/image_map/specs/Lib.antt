@@ -4,3 +4,4 @@ pub mod Loads
 pub mod Places
 pub mod Residents
 pub mod Room
+pub mod Sizes

@@ -39,6 +39,7 @@ impl<'a> Port<'a> {
 impl MemoryPort for Port<'_> {
     ghost use Rattle.std.specs.Prelude.{◌≡◌, ◌*◌, take, drop, refl};
     ghost use Rattle.std.proofs.Common.{◌∙◌};
+    ghost use Rattle.image_map.specs.Sizes.{taken_length};
 
     ghost words = { λ p. take (256 * p.blocks) p.bank.now };
 
@@ -49,6 +50,8 @@ impl MemoryPort for Port<'_> {
     ghost stays = { λ a. (refl, refl, refl) };
 
     ghost goes_on = { λ a b c one two. (two.0 ∙ one.0, two.1 ∙ one.1, two.2 ∙ one.2) };
+
+    ghost same_size = { λ a b same. taken_length b.blocks a.blocks b.bank.now a.bank.now b.whole a.whole same.1 };
 
     fn size(&self) -> u8 {
         self.blocks

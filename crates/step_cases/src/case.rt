@@ -1,9 +1,11 @@
 //! Cases and results as text.
-ghost use Rattle.std.specs.Prelude.{◌≡◌, ◌<◌, ◌≤◌, ◌^◌, IfOk};
+ghost use Rattle.std.specs.Prelude.{◌≡◌, ◌*◌, ◌<◌, ◌≤◌, ◌^◌, length, map, IfOk, string_bytes};
+ghost use Rattle.step_cases.specs.Fields.{ReadsBelow, AreRegisters, acc_of};
+ghost use Rattle.step_cases.specs.Texts.{IsEndText};
 
-use crate::shelf::Shelf;
 use cpu_regs::{MemoryPort, Regs};
 use cpu_step::Stepped;
+use plain_core::PlainCore;
 use std::alloc::{AllocError, Global};
 use std::fmt::Write;
 use thiserror::Error;
@@ -25,14 +27,15 @@ pub enum BadCase {
 pub struct Case {
     pub steps: u64,
     pub regs: Regs,
-    pub core: Shelf,
-    pub first: Shelf,
+    pub core: PlainCore,
+    pub first: PlainCore,
     ghost counter: { regs.ic < 2 ^ 15 },
 }
 
 /// An octal number below a limit.
 fn octal(field: &str, limit: u64) -> Result<u64, BadCase>
-    ensures { IfOk result (λ n. n < limit) }
+    ensures value { ReadsBelow limit field.now result }
+    ensures below { IfOk result (λ n. n < limit) }
 {
     match u64::from_str_radix(field, 8) {
         Ok(number) => if number < limit {
@@ -44,7 +47,9 @@ fn octal(field: &str, limit: u64) -> Result<u64, BadCase>
     }
 }
 
-fn word(field: &str) -> Result<Word, BadCase> {
+fn word(field: &str) -> Result<Word, BadCase>
+    ensures { ReadsBelow (2 ^ 36) field.now result }
+{
     match Word::from_bits(octal(field, 1 << 36)?) {
         Ok(word) => Ok(word),
         Err(_) => Err(BadCase::Number),
@@ -52,14 +57,17 @@ fn word(field: &str) -> Result<Word, BadCase> {
 }
 
 fn index(field: &str) -> Result<u16, BadCase>
-    ensures { IfOk result (λ n. n < 2 ^ 15) }
+    ensures value { ReadsBelow (2 ^ 15) field.now result }
+    ensures below { IfOk result (λ n. n < 2 ^ 15) }
 {
     let number = octal(field, 1 << 15)?;
     Ok(number as u16)
 }
 
 /// A sign and 13 digits.
-fn acc(field: &str) -> Result<Acc, BadCase> {
+fn acc(field: &str) -> Result<Acc, BadCase>
+    ensures { IfOk result (λ a. a ≡ acc_of field.now) }
+{
     if let Some(digits) = field.strip_prefix("-") {
         return Ok(Acc::new(true, octal(digits, 1 << 37)?));
     }
@@ -70,10 +78,11 @@ fn acc(field: &str) -> Result<Acc, BadCase> {
 }
 
 /// A core of so many blocks with these words, each written `ADDRESS=WORD`. Words outside the core are passed over.
-fn shelf(alloc: Global, blocks: u8, named: &[&str]) -> Result<Shelf, BadCase>
+fn shelf(alloc: Global, blocks: u8, named: &[&str]) -> Result<PlainCore, BadCase>
     requires { blocks ≤ 128 }
+    ensures { IfOk result (λ shelf. length shelf ≡ 256 * blocks) }
 {
-    let Ok(mut shelf) = Shelf::new(alloc, blocks) else {
+    let Ok(mut shelf) = PlainCore::new(alloc, blocks) else {
         return Err(BadCase::NoMemory);
     };
     for pair in named {
@@ -87,42 +96,27 @@ fn shelf(alloc: Global, blocks: u8, named: &[&str]) -> Result<Shelf, BadCase>
 
 /// The registers that these fields say: AC, MQ, SI, seven index registers, IC, OV, DC.
 fn registers(fields: &[&str]) -> Result<Regs, BadCase>
-    ensures { IfOk result (λ r. r.ic < 2 ^ 15) }
+    requires { length fields.now ≡ 13 }
+    ensures value { IfOk result (AreRegisters (map (λ field. field.now) fields.now)) }
+    ensures ic { IfOk result (λ r. r.ic < 2 ^ 15) }
 {
-    let [
-        ac,
-        mq,
-        si,
-        x1,
-        x2,
-        x3,
-        x4,
-        x5,
-        x6,
-        x7,
-        ic,
-        overflow,
-        divide_check,
-    ] = fields
-    else {
-        return Err(BadCase::Fields);
-    };
     let mut regs = Regs::new();
-    regs.ac = acc(ac)?;
-    regs.mq = word(mq)?;
-    regs.si = word(si)?;
-    let indexes = [x1, x2, x3, x4, x5, x6, x7];
+    regs.ac = acc(fields[0])?;
+    regs.mq = word(fields[1])?;
+    regs.si = word(fields[2])?;
     for tag in 1..8u8 {
-        regs.set_xr(tag, index(indexes[tag as usize - 1])?);
+        regs.set_xr(tag, index(fields[2 + tag as usize])?);
     }
-    regs.ic = index(ic)?;
-    regs.overflow = octal(overflow, 2)? == 1;
-    regs.divide_check = octal(divide_check, 2)? == 1;
+    regs.ic = index(fields[10])?;
+    regs.overflow = octal(fields[11], 2)? == 1;
+    regs.divide_check = octal(fields[12], 2)? == 1;
     Ok(regs)
 }
 
 /// The case of a line.
-pub fn read_case(alloc: Global, line: &str) -> Result<Case, BadCase> {
+pub fn read_case(alloc: Global, line: &str) -> Result<Case, BadCase>
+    ensures { IfOk result (λ case. case.core ≡ case.first) }
+{
     let Ok(fields) = line.split(' ').collect(alloc) else {
         return Err(BadCase::NoMemory);
     };
@@ -140,8 +134,10 @@ pub fn read_case(alloc: Global, line: &str) -> Result<Case, BadCase> {
         return Err(BadCase::Number);
     }
     let regs = registers(&fields[2..15])?;
-    let core = shelf(alloc, blocks, &fields[15..])?;
     let first = shelf(alloc, blocks, &fields[15..])?;
+    let Ok(core) = first.copy(alloc) else {
+        return Err(BadCase::NoMemory);
+    };
     Ok(Case {
         steps,
         regs,
@@ -150,7 +146,9 @@ pub fn read_case(alloc: Global, line: &str) -> Result<Case, BadCase> {
     })
 }
 
-fn end_text(alloc: Global, end: Stepped) -> Result<String, AllocError> {
+fn end_text(alloc: Global, end: Stepped) -> Result<String, AllocError>
+    ensures { IfOk result (λ text. IsEndText end (string_bytes text)) }
+{
     match end {
         Stepped::Went => String::from_str(alloc, "Went"),
         Stepped::Halt => String::from_str(alloc, "Halt"),
@@ -171,8 +169,8 @@ pub fn result_text(
     alloc: Global,
     end: Stepped,
     regs: &Regs,
-    core: &Shelf,
-    first: &Shelf,
+    core: &PlainCore,
+    first: &PlainCore,
 ) -> Result<String, AllocError> {
     let mut text = end_text(alloc, end)?;
     let sign = if regs.ac.negative() { "-" } else { "+" };

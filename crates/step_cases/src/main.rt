@@ -8,28 +8,31 @@
 #![tactic(auto)]
 
 mod case;
-mod shelf;
 
-ghost use Rattle.std.specs.Prelude.{◌<◌, ◌^◌};
+ghost use Rattle.std.specs.Prelude.{◌≡◌, ◌<◌, ◌^◌};
+ghost use Rattle.cpu_step.specs.Results.{outcome};
+ghost use Rattle.machine_model.specs.Step.{went};
+ghost use Rattle.step_cases.specs.Runs.{steps_on};
 
 use case::{Case, read_case, result_text};
 use cpu_regs::Regs;
 use cpu_step::{Stepped, step};
-use shelf::Shelf;
+use plain_core::PlainCore;
 use std::io::{self, BufRead, BufReader, BufWriter, Write};
 
 /// Does so many steps, and gives how the last one ended.
-fn run(regs: &mut Regs, core: &mut Shelf, steps: u64) -> Stepped
+fn run(regs: &mut Regs, core: &mut PlainCore, steps: u64) -> Stepped
     requires { regs.old.ic < 2 ^ 15 }
+    ensures { outcome result regs.new core.new
+        ≡ steps_on steps (went regs.old core.old) }
 {
-    let mut end = Stepped::Went;
     'steps: for _ in 0..steps {
-        end = step(regs, core);
-        if end != Stepped::Went {
-            break;
+        match step(regs, core) {
+            Stepped::Went => {}
+            end => return end,
         }
     }
-    end
+    Stepped::Went
 }
 
 fn main(rt: HostRuntime) -> anyhow::Result<()> {

@@ -1,0 +1,19 @@
+-- A directory as contracts see it.
+use Rattle.std.specs.Prelude.{◌≡◌, ℕ, ◌≤◌, List, map}
+use Rattle.std.specs.List.{IsDistinct}
+use Rattle.ctss_types.specs.declared.file.FileBody.{FileBody}
+use Rattle.file_model.specs.Files.{same_name, tracks_of}
+
+-- its files in order of making, and how many tracks they may take
+pub record Directory : Type 0 where
+  pub files : List FileBody
+  pub quota : ℕ
+
+-- no name stands twice
+abbrev pub NamesDiffer : List FileBody → Type 0
+NamesDiffer files = IsDistinct same_name (map (λ (f : FileBody). f.name) files)
+
+-- so many tracks are in use, and they keep the quota
+pub record IsCounted (files : List FileBody) (quota used : ℕ) : Type 0 where
+  pub count : used ≡ tracks_of files
+  pub most : used ≤ quota

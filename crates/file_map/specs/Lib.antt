@@ -1,0 +1,4 @@
+pub mod Answers
+pub mod Directory
+pub mod Listing
+pub mod Table

@@ -1,0 +1,17 @@
+-- The worked rows by computing.
+use Rattle.std.proofs.Common.{refl}
+use Rattle.ctss_types.specs.Words.{name_of}
+use Rattle.program_model.specs.Decks.{filled}
+use Rattle.program_model.specs.Rows.{RowOfCalls, RowOfLines, RowOfDecks}
+
+pub row_of_calls : RowOfCalls
+unfolding name_of
+row_of_calls = record { reads = refl; writes = refl; past = refl; long = refl; none = refl; argument = refl; size = refl; time = refl; dead = refl; unknown = refl; behind = refl; round = refl; reply = refl; value = refl }
+
+pub row_of_lines : RowOfLines
+unfolding name_of
+row_of_lines = record { padded = refl; cut = refl; line = refl; zeros = refl; part = refl; within = refl }
+
+pub row_of_decks : RowOfDecks
+unfolding filled
+row_of_decks = record { deck_is = refl; absent = refl; empty = refl; no_blocks = refl; start = refl; short = refl; none = refl; past = refl; at_end = refl; large = refl; larger = refl; filled_is = refl }

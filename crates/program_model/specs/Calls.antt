@@ -1,0 +1,69 @@
+-- Supervisor entries: how the arguments of a call are read, and what an answer leaves in the registers.
+use Rattle.std.specs.Prelude.{ℕ, ◌+◌, ◌-◌, ◌%◌, ◌^◌, Bool, true, false, ◌&&◌, nat_eq, nat_lt, nat_le, if◌then◌else◌, List, length, slice_index, codes, Option, Some, None, Ok, Err}
+use Rattle.std.specs.declared.result.Result.{Result}
+use Rattle.word36.specs.Bits.{address_of, decrement_of}
+use Rattle.ctss_types.specs.Words.{name_of}
+use Rattle.cpu_regs.specs.declared.regs.Regs.{Regs}
+use Rattle.cpu_regs.specs.Registers.{xr}
+use Rattle.program_model.specs.declared.Call.{Call}
+use Rattle.program_model.specs.declared.Call.TheVariants.{ReadLine, WriteLine, GetTime, GetMemory, SetMemory, Dead, Dormant}
+use Rattle.program_model.specs.declared.EntryFault.{EntryFault}
+use Rattle.program_model.specs.declared.EntryFault.TheVariants.{NoSuchEntry, Outside}
+
+-- the place of the call: register 4 holds its complement
+abbrev pub call_place : Regs → ℕ
+call_place r = (2 ^ 15 - xr r 4) % 2 ^ 15
+
+-- the n-th place behind the call, from 1 on, round the end of core
+abbrev pub behind_call : Regs → ℕ → ℕ
+behind_call r n = (call_place r + n) % 2 ^ 15
+
+-- goes on with the word at an address
+abbrev pub with_word : List ℕ → ℕ → (ℕ → Result Call EntryFault) → Result Call EntryFault
+with_word core a f = if nat_lt a (length core) then f (slice_index core a) else Err (Outside a)
+
+-- a call with a buffer, of which so many words from its address on lie within the core
+abbrev pub with_buffer : List ℕ → ℕ → ℕ → Call → Result Call EntryFault
+with_buffer core at count call = if nat_le (at + count) (length core) then Ok call else Err (Outside at)
+
+-- a line has 1 to 14 words
+abbrev pub is_line_count : ℕ → Bool
+is_line_count count = nat_le 1 count && nat_le count 14
+
+-- an argument with a buffer in address and decrement; where no line has so many words, the buffer isn't looked at
+abbrev pub line_call : Regs → List ℕ → (ℕ → ℕ → Call) → Result Call EntryFault
+line_call r core call =
+    with_word core (behind_call r 1) (λ w.
+    let at = address_of w in
+    let count = decrement_of w in
+    if is_line_count count then with_buffer core at count (call at count) else Ok (call at count))
+
+-- the entries without arguments
+abbrev pub simple_call : ℕ → Result Call EntryFault
+simple_call name =
+    if nat_eq name (name_of (codes "GETTM")) then Ok GetTime
+    else (if nat_eq name (name_of (codes "GETMEM")) then Ok GetMemory
+    else (if nat_eq name (name_of (codes "DEAD")) then Ok Dead
+    else (if nat_eq name (name_of (codes "DORMNT")) then Ok Dormant else Err NoSuchEntry)))
+
+-- the call of an entry by name
+abbrev pub call_of : Regs → List ℕ → ℕ → Result Call EntryFault
+call_of r core name =
+    if nat_eq name (name_of (codes "RDFLX")) then line_call r core (λ at count. ReadLine at count)
+    else (if nat_eq name (name_of (codes "WRFLX")) then line_call r core (λ at count. WriteLine at count)
+    else (if nat_eq name (name_of (codes "SETMEM")) then with_word core (behind_call r 1) (λ w. Ok (SetMemory (address_of w)))
+    else simple_call name))
+
+-- a value goes to the multiplier-quotient, which else stays
+abbrev pub value_or : Option ℕ → ℕ → ℕ
+value_or None q = q
+value_or (Some v) q = v
+
+-- the registers behind an answer: the reply in the accumulator, and on behind so many arguments
+abbrev pub answered : Regs → ℕ → ℕ → Option ℕ → Regs
+answered r arguments reply value =
+    record r {
+      ac = record { negative = false; magnitude = reply };
+      mq = value_or value r.mq;
+      ic = behind_call r (1 + arguments);
+    }

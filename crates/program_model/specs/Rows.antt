@@ -1,0 +1,71 @@
+-- Worked rows of programs.
+use Rattle.std.specs.Prelude.{◌≡◌, ℕ, ◌^◌, ◌*◌, ◌+◌, ◌-◌, false, List, [], ◌∷◌, ◌++◌, replicate, codes, Ok, Err, Some, None}
+use Rattle.std.specs.declared.result.Result.{Result}
+use Rattle.ctss_types.specs.Words.{name_of}
+use Rattle.cpu_regs.specs.declared.regs.Regs.{Regs}
+use Rattle.cpu_regs.specs.Registers.{no_registers, set_xr}
+use Rattle.program_model.specs.declared.Deck.{Deck}
+use Rattle.program_model.specs.declared.Call.TheVariants.{ReadLine, WriteLine, GetTime, SetMemory, Dead}
+use Rattle.program_model.specs.declared.EntryFault.TheVariants.{NoSuchEntry, Outside}
+use Rattle.program_model.specs.declared.LoadFault.TheVariants.{NoFile, BadDeck, TooLarge}
+use Rattle.ctss_types.specs.declared.file.Refusal.TheVariants as refusal
+use Rattle.program_model.specs.Calls.{call_of, answered, behind_call}
+use Rattle.program_model.specs.Lines.{line_of_words, words_of_line, words_at, with_words}
+use Rattle.program_model.specs.Decks.{deck_in, deck_of, filled}
+
+-- registers of a program that called from a place
+abbrev pub called_from : ℕ → Regs
+called_from c = set_xr no_registers 4 (2 ^ 15 - c)
+
+-- a word with a count and an address
+abbrev pub counted : ℕ → ℕ → ℕ
+counted count address = count * 2 ^ 18 + address
+
+-- a call at 2 in a core of eight words, of which word 3 is the argument
+abbrev pub core_with : ℕ → List ℕ
+core_with argument = 0 ∷ 0 ∷ 0 ∷ argument ∷ 0 ∷ 0 ∷ 0 ∷ 0 ∷ []
+
+pub record RowOfCalls : Type 0 where
+  pub reads : call_of (called_from 2) (core_with (counted 2 6)) (name_of (codes "RDFLX")) ≡ Ok (ReadLine 6 2)
+  pub writes : call_of (called_from 2) (core_with (counted 1 7)) (name_of (codes "WRFLX")) ≡ Ok (WriteLine 7 1)
+  pub past : call_of (called_from 2) (core_with (counted 2 7)) (name_of (codes "WRFLX")) ≡ Err (Outside 7)
+  -- no line has 15 words or none, so that the buffer isn't looked at
+  pub long : call_of (called_from 2) (core_with (counted 15 7)) (name_of (codes "WRFLX")) ≡ Ok (WriteLine 7 15)
+  pub none : call_of (called_from 2) (core_with (counted 0 99)) (name_of (codes "RDFLX")) ≡ Ok (ReadLine 99 0)
+  pub argument : call_of (called_from 7) (core_with 0) (name_of (codes "RDFLX")) ≡ Err (Outside 8)
+  pub size : call_of (called_from 2) (core_with (counted 9 4)) (name_of (codes "SETMEM")) ≡ Ok (SetMemory 4)
+  pub time : call_of (called_from 7) (core_with 0) (name_of (codes "GETTM")) ≡ Ok GetTime
+  pub dead : call_of (called_from 7) (core_with 0) (name_of (codes "DEAD")) ≡ Ok Dead
+  pub unknown : call_of (called_from 2) (core_with 0) (name_of (codes "GETMEN")) ≡ Err NoSuchEntry
+  -- the program goes on behind its arguments, round the end of core
+  pub behind : (answered (called_from 2) 1 3 None).ic ≡ 4
+  pub round : behind_call (called_from (2 ^ 15 - 1)) 1 ≡ 0
+  pub reply : (answered (called_from 2) 1 3 (Some 9)).ac ≡ record { negative = false; magnitude = 3 }
+  pub value : (answered (called_from 2) 0 0 (Some 9)).mq ≡ 9
+
+pub record RowOfLines : Type 0 where
+  pub padded : words_of_line 2 (codes "HELLO") ≡ name_of (codes "HELLO ") ∷ name_of (codes "      ") ∷ []
+  pub cut : words_of_line 1 (codes "HELLO THERE") ≡ name_of (codes "HELLO ") ∷ []
+  pub line : line_of_words (name_of (codes "HELLO ") ∷ name_of (codes "THERE") ∷ []) ≡ codes "HELLO THERE"
+  -- a word of zeros prints as zeros
+  pub zeros : line_of_words (0 ∷ []) ≡ codes "000000"
+  pub part : words_at (1 ∷ 2 ∷ 3 ∷ 4 ∷ []) 1 2 ≡ 2 ∷ 3 ∷ []
+  pub within : with_words (1 ∷ 2 ∷ 3 ∷ 4 ∷ []) 1 (8 ∷ 9 ∷ []) ≡ 1 ∷ 8 ∷ 9 ∷ 4 ∷ []
+
+abbrev pub deck : ℕ → ℕ → Deck
+deck start blocks = record { start = start; blocks = blocks }
+
+pub record RowOfDecks : Type 0 where
+  -- one block, start at 8, two words at 8
+  pub deck_is : deck_in 8 (counted 8 1 ∷ counted 2 8 ∷ 5 ∷ 6 ∷ []) ≡ Ok (deck 8 1)
+  pub absent : deck_of 8 (Err refusal.NoFile) ≡ Err NoFile
+  pub empty : deck_in 8 [] ≡ Err BadDeck
+  pub no_blocks : deck_in 8 (counted 8 0 ∷ []) ≡ Err BadDeck
+  pub start : deck_in 8 (counted 256 1 ∷ []) ≡ Err BadDeck
+  pub short : deck_in 8 (counted 8 1 ∷ counted 2 8 ∷ 5 ∷ []) ≡ Err BadDeck
+  pub none : deck_in 8 (counted 8 1 ∷ counted 0 8 ∷ []) ≡ Err BadDeck
+  pub past : deck_in 8 (counted 8 1 ∷ counted 2 255 ∷ 5 ∷ 6 ∷ []) ≡ Err BadDeck
+  pub at_end : deck_in 8 (counted 8 1 ∷ counted 1 255 ∷ 5 ∷ []) ≡ Ok (deck 8 1)
+  pub large : deck_in 1 (counted 8 2 ∷ []) ≡ Err TooLarge
+  pub larger : deck_in 128 (counted 8 129 ∷ []) ≡ Err BadDeck
+  pub filled_is : filled (counted 2 1 ∷ counted 2 1 ∷ 5 ∷ 6 ∷ counted 1 0 ∷ 7 ∷ []) (0 ∷ 0 ∷ 0 ∷ 0 ∷ []) ≡ 7 ∷ 5 ∷ 6 ∷ 0 ∷ []

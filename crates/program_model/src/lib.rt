@@ -1,0 +1,96 @@
+//! Programs: what they ask of the supervisor, and the decks that they are loaded from.
+//!
+//! The definitions stand in `specs/`: `Calls` (how a call's arguments are read, and what an answer leaves in the
+//! registers), `Lines` (lines as words of a program, and back), `Decks` (what a deck says and where its words go), `Rows`
+//! (worked rows). The functions here do nothing: each carries a row.
+#![tactic(auto)]
+
+ghost use Rattle.program_model.specs.Rows.{RowOfCalls, RowOfLines, RowOfDecks};
+
+use ctss_types::FileName;
+use thiserror::Error;
+
+/// A supervisor entry that a program calls, with its arguments. Addresses and counts are below 2^15.
+#[derive(Clone, Copy, Debug, PartialEq, Eq)]
+pub enum Call {
+    /// RDFLX: the next line as so many words, from an address on.
+    ReadLine { at: u16, count: u16 },
+    /// WRFLX: so many words from an address on as a line.
+    WriteLine { at: u16, count: u16 },
+    /// GETTM: the clock.
+    GetTime,
+    /// GETMEM: the size in words.
+    GetMemory,
+    /// SETMEM: another size.
+    SetMemory { blocks: u16 },
+    /// DEAD: the program is over and goes.
+    Dead,
+    /// DORMNT: the program is over and stays.
+    Dormant,
+}
+
+/// Why a call isn't done. It changes nothing.
+#[derive(Clone, Copy, Debug, PartialEq, Eq)]
+pub enum EntryFault {
+    /// No entry has the name.
+    NoSuchEntry,
+    /// The first address that is outside the program's core, for a buffer its own.
+    Outside(u16),
+}
+
+/// What a deck's first word says.
+#[derive(Clone, Copy, Debug, PartialEq, Eq)]
+pub struct Deck {
+    /// The address of the first instruction.
+    pub start: u16,
+    /// The size of the program, from 1 to 128.
+    pub blocks: u8,
+}
+
+/// Why a program isn't loaded. As text it is what the user reads.
+#[derive(Clone, Copy, Debug, PartialEq, Eq, Error)]
+pub enum LoadFault {
+    #[error("FILE NOT FOUND")]
+    NoFile,
+    #[error("BAD DECK")]
+    BadDeck,
+    /// It has more blocks than the user may have.
+    #[error("TOO LARGE")]
+    TooLarge,
+}
+
+/// A program that has its core, into which the deck of this file is still to be stored.
+#[derive(Clone, Copy, Debug, PartialEq, Eq)]
+pub struct Fill {
+    pub name: FileName,
+    pub start: u16,
+}
+
+/// Whether a user has a program, and whether it runs.
+#[derive(Clone, Copy, Debug, PartialEq, Eq)]
+pub enum ProgramState {
+    /// There is none.
+    Dead,
+    /// There is one, and it doesn't run.
+    Dormant,
+    /// It runs, or waits for a line.
+    Working,
+}
+
+/// Arguments, bounds and names of calls, and their answers.
+#[tactic(auto, using(crate::proofs::RowsComputed::row_of_calls))]
+pub fn row_of_calls()
+    ensures { RowOfCalls }
+{}
+
+/// Lines as words, and words as lines.
+#[tactic(auto, using(crate::proofs::RowsComputed::row_of_lines))]
+pub fn row_of_lines()
+    ensures { RowOfLines }
+{}
+
+/// Decks and their faults.
+#[tactic(auto, using(crate::proofs::RowsComputed::row_of_decks))]
+pub fn row_of_decks()
+    ensures { RowOfDecks }
+{}

@@ -1,0 +1,120 @@
+ghost use Rattle.std.specs.Prelude.{◌≡◌, ◌≤◌, ◌<◌, ◌+◌, ◌^◌, ℕ, true, length, IfOk, IfSome, slice_index};
+ghost use Rattle.program_model.specs.declared.Call.{Call};
+ghost use Rattle.program_model.specs.Calls.{call_of, behind_call, line_call, simple_call, is_line_count, answered};
+ghost use Rattle.tia_entry.specs.Buffers.{HasBuffer, call_with};
+
+use cpu_regs::{MemoryPort, Regs};
+use ctss_types::name_word;
+use program_model::{Call, EntryFault};
+use word36::{Acc, Word};
+
+/// The two entries that have a line's buffer.
+#[derive(Clone, Copy, Debug, PartialEq, Eq)]
+enum LineEntry {
+    Read,
+    Write,
+}
+
+/// The call of an entry with a buffer.
+fn call_with(entry: LineEntry, at: u16, count: u16) -> Call
+    ensures { result ≡ call_with entry at count }
+{
+    match entry {
+        LineEntry::Read => Call::ReadLine { at, count },
+        LineEntry::Write => Call::WriteLine { at, count },
+    }
+}
+
+/// The n-th place behind the call, from 1 on.
+fn behind_call(regs: &Regs, n: u16) -> u16
+    requires { n ≤ 4 }
+    ensures place { result ≡ behind_call regs.now n }
+    ensures below { result < 2 ^ 15 }
+{
+    let call = (0o100000 - regs.xr(4)) & 0o77777;
+    (call + n) & 0o77777
+}
+
+/// The call with the buffer that the first argument names; where no line has so many words, the buffer isn't looked at.
+fn read_line_call<M: MemoryPort>(
+    regs: &Regs,
+    core: &M,
+    entry: LineEntry,
+) -> Result<Call, EntryFault>
+    ensures value { result ≡ line_call regs.now (M.words core.now) (call_with entry) }
+    ensures within { IfOk result (HasBuffer (length (M.words core.now))) }
+{
+    let place = behind_call(regs, 1);
+    let Ok(word) = core.load(place) else {
+        return Err(EntryFault::Outside(place));
+    };
+    let at = word.address();
+    let count = word.decrement();
+    let words = 256 * u32::from(core.size());
+    if is_line_count(count) && u32::from(at) + u32::from(count) > words {
+        return Err(EntryFault::Outside(at));
+    }
+    Ok(call_with(entry, at, count))
+}
+
+/// Whether a line may have so many words: 1 to 14.
+pub fn is_line_count(count: u16) -> bool
+    ensures { result ≡ is_line_count count }
+{
+    1 <= count && count <= 14
+}
+
+/// What a program's call asks for, by the name of the entry. A fault changes nothing.
+pub fn read_call<M: MemoryPort>(regs: &Regs, core: &M, name: Word) -> Result<Call, EntryFault>
+    ensures value { result ≡ call_of regs.now (M.words core.now) name }
+    ensures within { IfOk result (HasBuffer (length (M.words core.now))) }
+{
+    if name == name_word(b"RDFLX") {
+        return read_line_call(regs, core, LineEntry::Read);
+    }
+    if name == name_word(b"WRFLX") {
+        return read_line_call(regs, core, LineEntry::Write);
+    }
+    if name == name_word(b"SETMEM") {
+        let place = behind_call(regs, 1);
+        let Ok(word) = core.load(place) else {
+            return Err(EntryFault::Outside(place));
+        };
+        return Ok(Call::SetMemory {
+            blocks: word.address(),
+        });
+    }
+    simple_call(name)
+}
+
+/// The calls without arguments.
+fn simple_call(name: Word) -> Result<Call, EntryFault>
+    ensures { result ≡ simple_call name }
+{
+    if name == name_word(b"GETTM") {
+        Ok(Call::GetTime)
+    } else if name == name_word(b"GETMEM") {
+        Ok(Call::GetMemory)
+    } else if name == name_word(b"DEAD") {
+        Ok(Call::Dead)
+    } else if name == name_word(b"DORMNT") {
+        Ok(Call::Dormant)
+    } else {
+        Err(EntryFault::NoSuchEntry)
+    }
+}
+
+/// Answers a call: the reply, a value where there is one, and on behind so many arguments.
+pub fn answer(regs: &mut Regs, arguments: u8, reply: u8, value: Option<u64>)
+    requires arguments { arguments ≤ 3 }
+    requires reply { reply ≤ 7 }
+    requires value { IfSome value (λ v. v < 2 ^ 35) }
+    ensures value { regs.new ≡ answered regs.old arguments reply value }
+    ensures ic { regs.new.ic < 2 ^ 15 }
+{
+    regs.ac = Acc::new(false, u64::from(reply));
+    if let Some(value) = value {
+        regs.mq = Word::signed(false, value);
+    }
+    regs.ic = behind_call(regs, u16::from(arguments) + 1);
+}

@@ -1,8 +1,10 @@
-//! The program: the words of its command line, standard input and standard output, handed to the top call.
+//! The program: the words of its command line, standard input, standard output and a drum in memory, handed to the top
+//! call.
 #![tactic(auto)]
 
 use ctss_io::{NoMemory, StdSink, StdSource};
 use ctss_top::{ArgList, run_ctss};
+use medium::MemoryMedium;
 use std::io::ErrorKind;
 use std::process::ExitCode;
 use std::{env, io};
@@ -31,8 +33,11 @@ fn main(rt: HostRuntime) -> ExitCode {
     let Ok(words) = words(&rt) else {
         return ExitCode::from(8);
     };
+    let Ok(mut drum) = MemoryMedium::new(rt.alloc(), 3840, 256, &[], &[], 0) else {
+        return ExitCode::from(8);
+    };
     let mut source = StdSource::new(rt.reader());
     let mut sink = StdSink::new(io::writer(&rt));
-    let outcome = run_ctss(rt.alloc(), &words, &mut source, &mut sink);
+    let outcome = run_ctss(rt.alloc(), &words, &mut source, &mut sink, &mut drum);
     ExitCode::from(outcome.status)
 }

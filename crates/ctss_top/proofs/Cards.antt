@@ -50,8 +50,8 @@ cut_of_cards left rest held now bytes came whole size h =
     record { text = h.text; said = said_of left rest bytes h.text (input left rest bytes came whole size) h.said; part = h.part }
 
 -- for the words that ask for an assembly
-pub cut_by_words : (words : List (List ℕ)) (left rest held now : Option (List ℕ)) (o : Outcome) → mode_of words ≡ Some Asm → o ≡ bare 4 0 0 → CardsAreCutOff left rest held now → IsCutOff words left rest held now o
-cut_by_words words left rest held now o asked is h =
+pub cut_by_words : (tells : Bool) (words : List (List ℕ)) (left rest held now : Option (List ℕ)) (o : Outcome) → mode_of words ≡ Some Asm → o ≡ bare 4 0 0 → CardsAreCutOff left rest held now → IsCutOff tells words left rest held now o
+cut_by_words tells words left rest held now o asked is h =
     record {
       text = h.text;
       said = OfCards asked (ap (λ (x : Outcome). x.run) is) h.said;

@@ -40,11 +40,3 @@ one_more items k e script h is =
     given_more (take k items) e (at_start script)
     ∙ ap (λ (es : List Timed). given_all es (at_start script)) (sym (take_one items k e h is))
     ∙ ap (λ (n : ℕ). given_all (take n items) (at_start script)) (let e : suc k ≡ k + 1 = omega arith in e)
-
-pub whole_run : (items : List Timed) (k : ℕ) (script : Script) (r s : Run) → items ≡ script.events → length items ≤ k → r ≡ given_all (take k items) (at_start script) → s ≡ run_to script.end r
-    → record_from (ended s) ≡ record_of script
-unfolding record_of
-whole_run items k script r s same past is to =
-    ap (λ (x : Run). record_from (ended x))
-    (to ∙ ap (run_to script.end)
-    (is ∙ ap (λ (es : List Timed). given_all es (at_start script)) (take_all k items past ∙ same) ∙ all_given script))

@@ -17,7 +17,8 @@ use Rattle.system_model.specs.Record.{record_of, EachIsAlone}
 use Rattle.system_model.proofs.AloneLaws.{users_are_alone}
 use Rattle.ctss_top.specs.declared.outcome.Outcome.{Outcome}
 use Rattle.ctss_top.specs.Outcomes.{bare, empty_record}
-use Rattle.ctss_top.specs.Top.{refusal_cause, Replayed, IsNoScript, ScriptIsRefused, IsTextOf, OfRefusal, OfReport, IsCutOff, statuses_for, statuses_of}
+use Rattle.ctss_top.specs.Played.{IsStopped}
+use Rattle.ctss_top.specs.Top.{refusal_cause, Replayed, RunIsStopped, IsNoScript, ScriptIsRefused, IsTextOf, OfRefusal, OfReport, IsCutOff, statuses_for, statuses_of}
 
 -- a list with one more behind its first
 one_more_said : (a n rest : Bool) → (a || rest) ≡ true → (a || (n || rest)) ≡ true
@@ -28,8 +29,8 @@ one_more_said false false rest h = h
 refused_status : (status : ℕ) → list_any (nat_eq status) (2 ∷ 4 ∷ 8 ∷ []) ≡ true → list_any (nat_eq status) (2 ∷ 3 ∷ 4 ∷ 8 ∷ []) ≡ true
 refused_status status h = one_more_said (nat_eq status 2) (nat_eq status 3) (list_any (nat_eq status) (4 ∷ 8 ∷ [])) h
 
-done_status : (status : ℕ) → list_any (nat_eq status) (0 ∷ 4 ∷ 8 ∷ []) ≡ true → list_any (nat_eq status) (0 ∷ 3 ∷ 4 ∷ 8 ∷ []) ≡ true
-done_status status h = one_more_said (nat_eq status 0) (nat_eq status 3) (list_any (nat_eq status) (4 ∷ 8 ∷ [])) h
+done_status : (status : ℕ) → list_any (nat_eq status) (0 ∷ 4 ∷ 5 ∷ 8 ∷ []) ≡ true → list_any (nat_eq status) (0 ∷ 3 ∷ 4 ∷ 5 ∷ 8 ∷ []) ≡ true
+done_status status h = one_more_said (nat_eq status 0) (nat_eq status 3) (list_any (nat_eq status) (4 ∷ 5 ∷ 8 ∷ [])) h
 
 too_many : (bytes : List ℕ) → 4194305 ≤ length bytes → nat_le (length bytes) max_bytes ≡ false
 too_many bytes h = grind (arith, nat_tests)
@@ -62,8 +63,8 @@ refused_long left rest held now o gone is told =
     }
 
 -- a refusal that was cut off
-cut_refusal : (words : List (List ℕ)) → mode_of words ≡ Some Replay → (left rest held now : Option (List ℕ)) (o : Outcome) (bytes : List ℕ) (cause : ℕ) → IsNoScript left rest bytes → refusal_cause bytes ≡ cause → o ≡ bare 4 0 0 → GrewByProperPrefix held (script_refused 0 cause) now → IsCutOff words left rest held now o
-cut_refusal words asked left rest held now o bytes cause read why is part =
+cut_refusal : (tells : Bool) (words : List (List ℕ)) → mode_of words ≡ Some Replay → (left rest held now : Option (List ℕ)) (o : Outcome) (bytes : List ℕ) (cause : ℕ) → IsNoScript left rest bytes → refusal_cause bytes ≡ cause → o ≡ bare 4 0 0 → GrewByProperPrefix held (script_refused 0 cause) now → IsCutOff tells words left rest held now o
+cut_refusal tells words asked left rest held now o bytes cause read why is part =
     record {
       text = script_refused 0 cause;
       said = OfRefusal asked bytes read (ap (λ (x : Outcome). x.run) is) (ap (script_refused 0) (sym why));
@@ -72,18 +73,18 @@ cut_refusal words asked left rest held now o bytes cause read why is part =
       cause = ap (λ (x : Outcome). x.cause) is;
     }
 
-pub cut_long : (words : List (List ℕ)) → mode_of words ≡ Some Replay → (left rest held now : Option (List ℕ)) (o : Outcome) → ShrankBy 4194305 left rest → o ≡ bare 4 0 0 → GrewByProperPrefix held (script_refused 0 8) now → IsCutOff words left rest held now o
-cut_long words asked left rest held now o gone is part =
-    cut_refusal words asked left rest held now o gone.0 8 (long_read left rest gone.0 gone.1 gone.2) (long_cause gone.0 (omega (arith, gone.1))) is part
+pub cut_long : (tells : Bool) (words : List (List ℕ)) → mode_of words ≡ Some Replay → (left rest held now : Option (List ℕ)) (o : Outcome) → ShrankBy 4194305 left rest → o ≡ bare 4 0 0 → GrewByProperPrefix held (script_refused 0 8) now → IsCutOff tells words left rest held now o
+cut_long tells words asked left rest held now o gone is part =
+    cut_refusal tells words asked left rest held now o gone.0 8 (long_read left rest gone.0 gone.1 gone.2) (long_cause gone.0 (omega (arith, gone.1))) is part
 
-pub cut_short : (words : List (List ℕ)) → mode_of words ≡ Some Replay → (left rest held now : Option (List ℕ)) (o : Outcome) (bytes : List ℕ) (card cause : ℕ) → left ≡ before bytes rest → IsAtEnd rest → length bytes ≤ max_bytes
-    → (card ≡ 0) × (cause ≡ 9) × (script_of bytes ≡ None) → o ≡ bare 4 0 0 → GrewByProperPrefix held (script_refused card cause) now → IsCutOff words left rest held now o
-cut_short words asked left rest held now o bytes card cause came whole size refused is part =
-    cut_refusal words asked left rest held now o bytes 9 (record { came = came; whole = λ h. whole; none = refused.2 }) (short_cause bytes size) is
+pub cut_short : (tells : Bool) (words : List (List ℕ)) → mode_of words ≡ Some Replay → (left rest held now : Option (List ℕ)) (o : Outcome) (bytes : List ℕ) (card cause : ℕ) → left ≡ before bytes rest → IsAtEnd rest → length bytes ≤ max_bytes
+    → (card ≡ 0) × (cause ≡ 9) × (script_of bytes ≡ None) → o ≡ bare 4 0 0 → GrewByProperPrefix held (script_refused card cause) now → IsCutOff tells words left rest held now o
+cut_short tells words asked left rest held now o bytes card cause came whole size refused is part =
+    cut_refusal tells words asked left rest held now o bytes 9 (record { came = came; whole = λ h. whole; none = refused.2 }) (short_cause bytes size) is
     (subst (λ (n : ℕ). GrewByProperPrefix held (script_refused 0 n) now) refused.1 (subst (λ (n : ℕ). GrewByProperPrefix held (script_refused n cause) now) refused.0 part))
 
-pub cut_report : (words : List (List ℕ)) → mode_of words ≡ Some Replay → (left rest held now : Option (List ℕ)) (o : Outcome) (bytes : List ℕ) (script : Script) → left ≡ before bytes rest → IsAtEnd rest → script_of bytes ≡ Some script → o.run ≡ record_of script → (o.card ≡ 0) × (o.cause ≡ 0) → GrewByProperPrefix held (report_of script o.run false) now → IsCutOff words left rest held now o
-cut_report words asked left rest held now o bytes script came whole spelled run numbers part =
+pub cut_report : (tells : Bool) (words : List (List ℕ)) → mode_of words ≡ Some Replay → (left rest held now : Option (List ℕ)) (o : Outcome) (bytes : List ℕ) (script : Script) → left ≡ before bytes rest → IsAtEnd rest → script_of bytes ≡ Some script → (tells ≡ true → o.run ≡ record_of script) → (o.card ≡ 0) × (o.cause ≡ 0) → GrewByProperPrefix held (report_of script o.run false) now → IsCutOff tells words left rest held now o
+cut_report tells words asked left rest held now o bytes script came whole spelled run numbers part =
     record {
       text = report_of script o.run false;
       said = OfReport asked bytes script came whole spelled run refl;
@@ -92,17 +93,31 @@ cut_report words asked left rest held now o bytes script came whole spelled run 
       cause = numbers.1;
     }
 
-pub is_replayed : (left rest held now : Option (List ℕ)) (o : Outcome) (bytes : List ℕ) (script : Script) → left ≡ before bytes rest → IsAtEnd rest → script_of bytes ≡ Some script → o.run ≡ record_of script → now ≡ after held (report_of script o.run false) → Replayed left rest held now o
-is_replayed left rest held now o bytes script came whole spelled run report =
+pub is_replayed : (tells : Bool) (left rest held now : Option (List ℕ)) (o : Outcome) (bytes : List ℕ) (script : Script) → left ≡ before bytes rest → IsAtEnd rest → script_of bytes ≡ Some script → (tells ≡ true → o.run ≡ record_of script) → now ≡ after held (report_of script o.run false) → Replayed tells left rest held now o
+is_replayed tells left rest held now o bytes script came whole spelled run report =
     record {
       bytes = bytes;
       script = script;
       came = came;
       whole = whole;
       spelled = spelled;
-      run = run;
       report = report;
-      alone = subst (EachIsAlone script) (sym run) (users_are_alone script);
+      run = run;
+      alone = λ told. subst (EachIsAlone script) (sym (run told)) (users_are_alone script);
+    }
+
+pub is_stopped : (tells : Bool) (left rest held now : Option (List ℕ)) (o : Outcome) (bytes : List ℕ) (script : Script) → left ≡ before bytes rest → IsAtEnd rest → script_of bytes ≡ Some script → now ≡ held → (tells ≡ true → IsStopped script o.run) → (o.card ≡ 0) × (o.cause ≡ 0) → RunIsStopped tells left rest held now o
+is_stopped tells left rest held now o bytes script came whole spelled silent stopped numbers =
+    record {
+      bytes = bytes;
+      script = script;
+      came = came;
+      whole = whole;
+      spelled = spelled;
+      silent = silent;
+      stopped = stopped;
+      card = numbers.0;
+      cause = numbers.1;
     }
 
 -- what is true of all bytes that came is true of those that were told
@@ -140,7 +155,7 @@ told_no_memory left = by_said 8 (λ said. at_8 said) left
 pub allows_refused : (status : ℕ) (bytes : List ℕ) → script_of bytes ≡ None → list_any (nat_eq status) (2 ∷ 4 ∷ 8 ∷ []) ≡ true → Allows status bytes
 allows_refused status bytes none h = rw none (refused_status status h)
 
-pub allows_done : (status : ℕ) (bytes : List ℕ) (script : Script) → script_of bytes ≡ Some script → list_any (nat_eq status) (0 ∷ 4 ∷ 8 ∷ []) ≡ true → Allows status bytes
+pub allows_done : (status : ℕ) (bytes : List ℕ) (script : Script) → script_of bytes ≡ Some script → list_any (nat_eq status) (0 ∷ 4 ∷ 5 ∷ 8 ∷ []) ≡ true → Allows status bytes
 allows_done status bytes script spelled h = rw spelled (done_status status h)
 
 -- of words that ask for a replay

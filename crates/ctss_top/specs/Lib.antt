@@ -1,3 +1,4 @@
 pub mod Outcomes
+pub mod Played
 pub mod Asm
 pub mod Top

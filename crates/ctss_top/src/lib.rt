@@ -9,9 +9,6 @@ mod words;
 mod write;
 
 pub use outcome::Outcome;
-pub use record::record_script;
+pub use record::{Played, record_script};
 pub use run::run_ctss;
 pub use words::ArgList;
-
-#[cfg(test)]
-mod tests;

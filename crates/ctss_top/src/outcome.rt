@@ -11,11 +11,12 @@ use std::alloc::Global;
 /// - 2: the script is refused, at `card` for `cause`
 /// - 3: the source failed
 /// - 4: the sink failed
+/// - 5: the drum failed
 /// - 8: memory ran out
 /// - 9: the cards are at fault
 ///
 /// `card` and `cause` are 0 but for status 2. `run` is the record with status 0, and with 4 where a report was cut
-/// off; else it is empty.
+/// off; with 5 that of the steps so far, without files; else it is empty.
 #[derive(Debug, Drop)]
 pub struct Outcome {
     pub status: u8,

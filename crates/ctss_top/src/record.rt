@@ -1,20 +1,106 @@
-ghost use Rattle.std.specs.Prelude.{◌≡◌, ◌≤◌, [], length, IfOk};
-ghost use Rattle.system_model.specs.Record.{record_of};
+//! The record of a script, over a drum.
+ghost use Rattle.std.specs.Prelude.{◌≡◌, ◌≤◌, ℕ, [], ◌∷◌, length, map, true, is_some, None, replicate, IfOk, ⊤};
+ghost use Rattle.faults.specs.Faults.{Rose};
+ghost use Rattle.core_bank.specs.Bank.{AreWords};
+ghost use Rattle.drum_slots.specs.Kept.{Serves};
+ghost use Rattle.drum_slots.specs.Slots.{slot_of};
+ghost use Rattle.drum_slots.specs.Table.{slots_of, records_of, quota_in};
+ghost use Rattle.plan_model.specs.Loads.{no_places};
 ghost use Rattle.text_model.specs.Reading.{IsInRange};
+ghost use Rattle.system_model.specs.Record.{start_of};
+ghost use Rattle.supervisor.specs.Seen.{run_with};
+ghost use Rattle.supervisor.specs.Steps.{Ends};
+ghost use Rattle.ctss_top.specs.Played.{IsPlayed, Faulted, HasCores, Reaches, Stops};
 
-use ctss_types::{NoMemory, Record, Script};
+use core_bank::Bank;
+use ctss_types::{Account, NoMemory, Record, RunFault, Script};
+use drum_slots::Slots;
+use image_map::no_sizes;
+use medium::Medium;
 use std::alloc::Global;
 use supervisor::Supervisor;
+use user_cores::first_cores;
 
-/// The record of a script: all its events are given, and the run goes to the script's end.
-pub fn record_script(alloc: Global, script: &Script) -> Result<Record, NoMemory>
+/// How the run of a script ended.
+#[derive(Debug, Drop)]
+pub enum Played {
+    /// The script's end was reached.
+    Done(Record),
+    /// The drum failed. The record has no files.
+    Stopped(Record),
+}
+
+/// How many blocks each account may have.
+fn quotas_of(alloc: Global, accounts: &[Account]) -> Result<Vec<u8>, NoMemory>
+    ensures { IfOk result (λ q. q.items ≡ map (λ a. a.blocks) accounts.now) }
+{
+    let mut quotas = Vec::new(alloc);
+    for account in accounts {
+        quotas.push(account.blocks)?;
+    }
+    Ok(quotas)
+}
+
+/// All events of a script are given to its supervisor.
+fn opened(alloc: Global, script: &Script) -> Result<Supervisor, NoMemory>
     requires { IsInRange script.now }
-    ensures { IfOk result (λ rec. rec ≡ record_of script.now) }
+    ensures { IfOk result (λ s. run_with no_places s ≡ start_of script.now) }
 {
     let mut supervisor = Supervisor::new(alloc, script)?;
     for event in script.events.as_slice() {
         supervisor.take(*event)?;
     }
-    supervisor.advance(script.end)?;
-    supervisor.close(alloc)
+    Ok(supervisor)
+}
+
+/// The run to a limit, of users that have no core yet.
+fn run_to<D: Medium>(
+    supervisor: &mut Supervisor,
+    drum: &mut D,
+    slots: Slots,
+    bank: Bank,
+    sizes: Vec<u8>,
+    limit: u64,
+) -> Result<(), RunFault>
+    requires limit { limit ≤ 100000000 }
+    requires none { (k : ℕ) → slot_of (slots_of slots) k ≡ None }
+    requires few { length slots.quotas.items ≤ 31 }
+    requires most { (u : ℕ) → quota_in slots u ≤ 128 }
+    requires sizes { sizes.items ≡ replicate (length slots.quotas.items) 0 }
+    requires words { AreWords bank }
+    requires serves { Serves (D.rows drum.old) (D.record_count drum.old) (D.words_each drum.old) (records_of slots) }
+    requires cores { HasCores supervisor.old slots.quotas.items }
+    ensures ended { is_some (D.rows drum.old) ≡ true → Ends result
+        (Reaches limit (run_with no_places supervisor.old) supervisor.new) ⊤
+        (Stops limit (run_with no_places supervisor.old) supervisor.new) }
+    ensures cause { Ends result ⊤ ⊤ (Rose (D.faults drum.old) (D.faults drum.new)) }
+{
+    let mut cores = first_cores(drum, slots, bank, sizes);
+    let ended = supervisor.advance(&mut cores, limit);
+    let _ = cores.back();
+    ended
+}
+
+/// The record of a script: all its events are given, and the run goes to the script's end, unless the drum fails.
+pub fn record_script<D: Medium>(
+    alloc: Global,
+    script: &Script,
+    drum: &mut D,
+) -> Result<Played, NoMemory>
+    requires range { IsInRange script.now }
+    requires serves { Serves (D.rows drum.old) (D.record_count drum.old) (D.words_each drum.old) 3840 }
+    ensures played { is_some (D.rows drum.old) ≡ true → IfOk result (λ p. IsPlayed script.now p) }
+    ensures cause { IfOk result (λ p. Faulted p (Rose (D.faults drum.old) (D.faults drum.new))) }
+{
+    let mut supervisor = opened(alloc, script)?;
+    let accounts = script.accounts.as_slice();
+    let quotas = quotas_of(alloc, accounts)?;
+    let slots = Slots::new(alloc, script.params.drum, &quotas)?;
+    let bank = Bank::new(alloc)?;
+    let sizes = no_sizes(alloc, accounts.len())?;
+    match run_to(&mut supervisor, drum, slots, bank, sizes, script.end) {
+        Ok(()) => Ok(Played::Done(supervisor.close(alloc)?)),
+        Err(RunFault::Drum) => Ok(Played::Stopped(supervisor.stop(alloc)?)),
+        Err(_) => Err(NoMemory),
+    }
 }

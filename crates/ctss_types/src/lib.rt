@@ -26,6 +26,3 @@ pub use script::{Account, AccountList, Event, Params, Script, Timed, TimedList};
 pub use sequence::{Bytes, LineList, Sequence, WordList};
 pub use session::{Command, Console, CutKind, Ending, Service, Waiting};
 pub use words::{first_word, name_text, name_word};
-
-#[cfg(test)]
-mod tests;

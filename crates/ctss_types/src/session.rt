@@ -51,6 +51,8 @@ pub enum Command {
     /// A line without a word.
     Empty,
     Logout,
+    /// A program of this name is loaded, and goes.
+    LoadGo(Word),
     /// A known command with words that it doesn't take.
     BadArguments,
     /// A first word that is no command.

@@ -16,6 +16,3 @@ mod words;
 
 pub use assembler::{Deck, assemble};
 pub use fault::{AsmFault, CardFault, FaultList};
-
-#[cfg(test)]
-mod tests;

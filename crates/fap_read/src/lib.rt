@@ -22,6 +22,3 @@ pub use number::{decimal_word, half, literal_word, octal_number};
 pub use operations::{form, operation};
 pub use terms::{first_term, term};
 pub use words::given_words;
-
-#[cfg(test)]
-mod tests;

@@ -1,3 +1,4 @@
 pub mod Files
+pub mod Owned
 pub mod Commons
 pub mod Rows

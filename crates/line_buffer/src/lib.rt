@@ -67,6 +67,13 @@ impl Lines {
         self.lines.pop_front()
     }
 
+    /// The first unread line, which stays.
+    pub fn first(&self) -> Option<LineText>
+        ensures { result ≡ slice_get self.now.lines 0 }
+    {
+        self.lines.front().copied()
+    }
+
     /// Whether no line is unread.
     pub fn is_empty(&self) -> bool
         ensures { result ≡ nat_eq (length self.now.lines) 0 }

@@ -1,3 +1,4 @@
 pub mod Levels
 pub mod Loads
+pub mod Plan
 pub mod Rows

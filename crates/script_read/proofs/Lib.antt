@@ -1,2 +1,4 @@
+pub mod CardWords
 pub mod Digits
 pub mod FirstLine
+pub mod Tracks

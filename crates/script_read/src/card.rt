@@ -1,8 +1,12 @@
 ghost use Rattle.std.specs.Prelude.{◌≡◌, ◌≤◌, IfSome};
-ghost use Rattle.text_model.specs.Reading.{params_of, account_of, event_of, timed_of, end_of};
+ghost use Rattle.text_model.specs.Reading.{params_of, account_of, file_of, event_of, timed_of, end_of};
 
 use crate::field::{is_over, name_first, number_first, typed};
-use ctss_types::{Account, ConsoleNo, Event, Params, Timed, first_word};
+use ctss_types::{
+    Account, ConsoleNo, Event, FileBody, FileName, OwnedFile, Params, Sequence, Timed, UserNo,
+    first_word,
+};
+use std::alloc::Global;
 
 /// The highest tick.
 const MAX_TICK: u32 = 100_000_000;
@@ -54,6 +58,30 @@ pub fn account(text: &[u8]) -> Option<(u8, Account)>
         tracks: tracks as u16,
     };
     Some((number as u8, account))
+}
+
+/// What a FILE card says: a file of no words.
+pub fn file(alloc: Global, text: &[u8]) -> Option<OwnedFile>
+    ensures { result ≡ file_of text.now }
+{
+    let (owner, text) = number_first(1, 30, text)?;
+    let Some((first, text)) = name_first(text) else {
+        return None;
+    };
+    let Some((second, text)) = name_first(text) else {
+        return None;
+    };
+    let (mode, text) = number_first(0, 3, text)?;
+    if !is_over(text) {
+        return None;
+    }
+    let owner = UserNo::new(owner as u8)?;
+    let body = FileBody {
+        name: FileName::new(first, second),
+        mode: mode as u8,
+        words: Sequence::new(alloc),
+    };
+    Some(OwnedFile { owner, body })
 }
 
 /// The event of a word and what stands behind it.

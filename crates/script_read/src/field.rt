@@ -1,9 +1,9 @@
-ghost use Rattle.std.specs.Prelude.{◌≡◌, ◌≤◌, IfSome, length, true};
+ghost use Rattle.std.specs.Prelude.{◌≡◌, ◌^◌, ◌<◌, ◌≤◌, IfSome, length, true};
 ghost use Rattle.std.specs.Option.{option_map};
 ghost use Rattle.std.specs.List.{list_all};
 ghost use Rattle.std.specs.Str.Parse.{digits_value};
 ghost use Rattle.bcd48.specs.Characters.{is_character};
-ghost use Rattle.text_model.specs.Reading.{is_decimal, within, number_in, name_in, line_in, number_first, name_first, is_over, typed_in};
+ghost use Rattle.text_model.specs.Reading.{is_decimal, is_octal, within, number_in, octal_in, name_in, line_in, number_first, name_first, is_over, typed_in};
 
 use bcd48::is_character;
 use ctss_types::{LineText, first_word, name_word};
@@ -42,6 +42,38 @@ fn number(low: u32, high: u32, field: &[u8]) -> Option<u32>
 {
     if 1 <= field.len() && field.len() <= 9 && are_digits(field) {
         within(low, high, value(field))
+    } else {
+        None
+    }
+}
+
+/// Whether all are octal digits.
+fn are_octal(field: &[u8]) -> bool
+    ensures { result ≡ list_all is_octal field.now }
+{
+    field.iter().all(|b| 48 <= *b && *b <= 55)
+}
+
+/// The number that at most 12 octal digits spell.
+fn octal_value(field: &[u8]) -> u64
+    requires digits { list_all is_octal field.now ≡ true }
+    requires length { length field.now ≤ 12 }
+    ensures value { result ≡ digits_value 8 field.now }
+    ensures below { result < 2 ^ 36 }
+{
+    let mut n = 0;
+    'digits: for b in field {
+        n = 8 * n + u64::from(*b - b'0');
+    }
+    n
+}
+
+/// The word that 1 to 12 octal digits spell.
+pub fn octal(field: &[u8]) -> Option<Word>
+    ensures { result ≡ octal_in field.now }
+{
+    if 1 <= field.len() && field.len() <= 12 && are_octal(field) {
+        Word::from_bits(octal_value(field)).ok()
     } else {
         None
     }

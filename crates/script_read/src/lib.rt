@@ -3,14 +3,14 @@
 
 mod card;
 mod draft;
+mod enter;
 mod fault;
 mod field;
+mod files;
 mod read;
 mod text;
+mod words;
 
 pub use fault::ScriptFault;
 pub use read::read_script;
 pub use text::script_text;
-
-#[cfg(test)]
-mod tests;

@@ -5,7 +5,8 @@ ghost use Rattle.text_model.specs.Reading.{drafted, empty_draft, script_in, scri
 ghost use Rattle.script_read.specs.Answers.{IsDraftOf, IsScriptOf, IsRefusalOf};
 
 use crate::ScriptFault;
-use crate::draft::{CardFault, Draft, empty_draft, enter, script_by};
+use crate::draft::{CardFault, Draft};
+use crate::enter::{empty_draft, enter, script_by};
 use crate::text::script_text;
 use ctss_types::Script;
 use std::alloc::Global;
@@ -58,7 +59,7 @@ fn read_cards(alloc: Global, bytes: &[u8]) -> Result<Draft, CardFault>
     let mut rest = bytes;
     'cards: while !rest.is_empty() {
         let (card, more) = first_line(rest);
-        match enter(&mut draft, card) {
+        match enter(alloc, &mut draft, card) {
             Ok(()) => {}
             Err(fault) => return Err(fault),
         }
@@ -73,10 +74,7 @@ fn script_in(alloc: Global, bytes: &[u8]) -> Result<Script, CardFault>
     ensures { IsScriptOf result (script_in bytes.now) }
 {
     match read_cards(alloc, bytes) {
-        Ok(draft) => match script_by(alloc, draft) {
-            Some(script) => Ok(script),
-            None => Err(CardFault::Refused),
-        },
+        Ok(draft) => script_by(draft),
         Err(fault) => Err(fault),
     }
 }

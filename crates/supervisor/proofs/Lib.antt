@@ -1,2 +1,6 @@
 pub mod LoginWords
+pub mod Doing
+pub mod Tied
+pub mod Serving
+pub mod Running
 pub mod Starts

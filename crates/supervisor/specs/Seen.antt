@@ -1,27 +1,77 @@
--- The state that the fields stand for.
-use Rattle.std.specs.Prelude.{ℕ, Bool, [], Option, Some, None}
-use Rattle.time_sharing.specs.System.{Cause, Time, Wait, Stop, Size, Preempt, AtEnd}
+-- The state that the fields stand for, with users' blocks in these places.
+use Rattle.std.specs.Prelude.{ℕ, suc, ◌≤◌, Bool, List, [], ◌∷◌, map, Option, Some, None}
+use Rattle.ctss_types.specs.declared.script.Account.{Account}
+use Rattle.ctss_types.specs.declared.file.OwnedFile.{OwnedFile}
+use Rattle.ctss_types.specs.declared.history.Record.{Record}
+use Rattle.file_model.specs.Files.{tracks_of}
+use Rattle.file_model.specs.Owned.{files_of}
+use Rattle.file_map.specs.Directory.{NamesDiffer}
+use Rattle.user_model.specs.User.{User}
+use Rattle.time_sharing.specs.System.{Console, Timed, Service, Entry, Cause, Time, Wait, Stop, Size, Preempt, AtEnd}
 use Rattle.plan_model.specs.Levels.{Levels, entered, dropped, entered_again}
+use Rattle.plan_model.specs.Loads.{Places, given_up}
 use Rattle.system_model.specs.Run.{Run}
-use Rattle.supervisor.specs.declared.state.Core.{Core}
+use Rattle.supervisor.specs.declared.state.State.{State}
 
--- there are no common files yet
-abbrev pub seen : Core → Run
-seen s =
+-- a run but for users' cores: no words, and no places of blocks
+pub record Bare : Type 0 where
+  pub swap : ℕ
+  pub accounts : List Account
+  pub users : List User
+  pub levels : Levels
+  pub consoles : List Console
+  pub clock : ℕ
+  pub events : List Timed
+  pub service : Option Service
+  pub idling : Option ℕ
+  pub entries : List Entry
+
+-- the run with blocks in these places; there are no common files yet
+abbrev pub run_with : Places → Bare → Run
+run_with places b =
     record {
-      accounts = s.accounts.items;
+      swap = b.swap;
+      accounts = b.accounts;
       system = record {
-        users = s.sessions.items;
+        users = b.users;
         files = [];
-        plan = s.queues;
-        consoles = s.consoles.items;
-        clock = s.clock;
-        events = s.events.items;
-        service = s.service;
-        idling = s.idling;
-        entries = s.entries.items;
+        plan = record { levels = b.levels; places = places };
+        consoles = b.consoles;
+        clock = b.clock;
+        events = b.events;
+        service = b.service;
+        idling = b.idling;
+        entries = b.entries;
       };
     }
+
+abbrev pub bare_of : State → Bare
+bare_of s =
+    record {
+      swap = s.swap;
+      accounts = s.accounts.items;
+      users = s.sessions.items;
+      levels = s.queues;
+      consoles = s.consoles.items;
+      clock = s.clock;
+      events = s.events.items;
+      service = s.service;
+      idling = s.idling;
+      entries = s.entries.items;
+    }
+
+abbrev pub seen : Places → State → Run
+seen places s = run_with places (bare_of s)
+
+-- the number of a user whose session is over, 0 for nobody
+abbrev pub number_of : Option ℕ → ℕ
+number_of None = 0
+number_of (Some u) = u
+
+-- such a user gives up all its blocks
+abbrev pub left_places : Option ℕ → Places → Places
+left_places None places = places
+left_places (Some u) places = given_up places u 0
 
 -- the queues after a service has ended, if it has: of a user with unread lines or none, and of so many blocks
 abbrev pub left_queues : Option Cause → ℕ → Bool → ℕ → Levels → Levels
@@ -32,3 +82,20 @@ left_queues (Some Stop) u unread blocks q = entered_again unread u (dropped u q)
 left_queues (Some Size) u unread blocks q = entered blocks u (dropped u q)
 left_queues (Some Preempt) u unread blocks q = q
 left_queues (Some AtEnd) u unread blocks q = q
+
+-- accounts that are numbered from u on, with files: each has at most 128 blocks, its files differ in their names and keep
+-- its quota of tracks
+abbrev pub AreFit : ℕ → List Account → List OwnedFile → Type 0
+AreFit u [] owned = Unit {0}
+AreFit u (a ∷ accounts) owned = (a.blocks ≤ 128) × NamesDiffer (files_of u owned) × (tracks_of (files_of u owned) ≤ a.tracks) × AreFit (suc u) accounts owned
+
+-- the record of a run that stopped, without files
+abbrev pub record_so_far : Run → Record
+record_so_far r =
+    record {
+      entries = r.system.entries;
+      transcripts = map (λ (p : User). p.transcript) r.system.users;
+      files = [];
+      common = [];
+      clock = r.system.clock;
+    }

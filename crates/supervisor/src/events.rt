@@ -1,31 +1,47 @@
 //! Events: what each of them does at each console.
-ghost use Rattle.std.specs.Prelude.{◌≡◌, ◌<◌, ◌≤◌, [], length, option_to_list, OnOk, OnErr};
+ghost use Rattle.std.specs.Prelude.{◌≡◌, ◌<◌, ◌≤◌, ◌-◌, [], length, option_to_list, get_or, IfOk, OnOk, OnErr};
 ghost use Rattle.time_sharing.specs.System.{Off, On, Password, Session as Inside, Types};
-ghost use Rattle.plan_model.specs.Levels.{woken, command_blocks};
+ghost use Rattle.plan_model.specs.Levels.{woken};
+ghost use Rattle.plan_model.specs.Loads.{Places, no_places, given_up};
+ghost use Rattle.system_model.specs.Round.{line_blocks};
+ghost use Rattle.system_model.specs.Joined.{cut_user};
 ghost use Rattle.system_model.specs.Run.{taken, at_console};
 ghost use Rattle.system_model.specs.Cases.{quit_taken, hang_taken, spent_taken, line_taken, heard, login_taken, dial_taken, user_at};
 ghost use Rattle.system_model.specs.Sound.{Sound, HasSeat};
-ghost use Rattle.supervisor.specs.Seen.{seen};
+ghost use Rattle.supervisor.specs.Seen.{seen, number_of, left_places};
 
 use crate::login::{asked, check};
 use crate::notes::{idle_note, leave_consoles, note, note_some, service_left, stop_note};
-use crate::state::Core;
+use crate::state::State;
 use ctss_types::{Console, Entry, Event, EventKind, LineText, NoMemory, Timed, UserNo};
 use level_queues::Queues;
-use user_session::Put;
+use user_session::{Put, Session};
 use word36::Word;
 
-/// A command waits: its user enters, unless it stands in the queues.
+/// A user has something to do: as a program of so many blocks it enters, unless it stands in the queues.
 #[tactic(auto, unfolding(plan_model::specs::Levels::woken))]
-fn wake(queues: &mut Queues, user: UserNo)
-    ensures { queues.new ≡ woken command_blocks user queues.old }
+fn wake(queues: &mut Queues, user: UserNo, blocks: u8)
+    requires { blocks ≤ 128 }
+    ensures { queues.new ≡ woken blocks user queues.old }
 {
     if !queues.holds(user) {
-        queues.enter(user, 4);
+        queues.enter(user, blocks);
     }
 }
 
-impl Core {
+/// As how many blocks a user enters that gets a line: as a command's, or as its program's where that works.
+fn blocks_for_line(session: &Session) -> u8
+    ensures value { result ≡ line_blocks session.now }
+    ensures few { result ≤ 128 }
+{
+    if session.takes_commands() {
+        4
+    } else {
+        session.blocks()
+    }
+}
+
+impl State {
     /// An event that no session hears.
     #[tactic(auto, unfolding(system_model::specs::Cases::heard))]
     fn take_heard(
@@ -37,8 +53,8 @@ impl Core {
     ) -> Result<(), NoMemory>
         requires seat { 0 < console }
         requires here { console ≤ length self.old.consoles.items }
-        ensures ok { OnOk result (seen self.new ≡ heard console kind now (option_to_list more) (seen self.old)) }
-        ensures err { OnErr result (seen self.new ≡ seen self.old) }
+        ensures ok { (places : Places) → OnOk result (seen places self.new ≡ heard console kind now (option_to_list more) (seen places self.old)) }
+        ensures err { (places : Places) → OnErr result (seen places self.new ≡ seen places self.old) }
     {
         self.entries.reserve(3)?;
         let _ = self.events.pop_front();
@@ -66,8 +82,8 @@ impl Core {
         requires within { user ≤ length self.old.sessions.items }
         requires seat { 0 < console }
         requires here { console ≤ length self.old.consoles.items }
-        ensures ok { OnOk result (seen self.new ≡ login_taken console user (seen self.old)) }
-        ensures err { OnErr result (seen self.new ≡ seen self.old) }
+        ensures ok { (places : Places) → OnOk result (seen places self.new ≡ login_taken console user (seen places self.old)) }
+        ensures err { (places : Places) → OnErr result (seen places self.new ≡ seen places self.old) }
     {
         self.entries.reserve(3)?;
         let session = &mut self.sessions[user as usize - 1];
@@ -102,8 +118,8 @@ impl Core {
     fn take_dial(&mut self, console: u8, user: u8) -> Result<(), NoMemory>
         requires some { 0 < user }
         requires within { user ≤ length self.old.sessions.items }
-        ensures ok { OnOk result (seen self.new ≡ dial_taken console user (seen self.old)) }
-        ensures err { OnErr result (seen self.new ≡ seen self.old) }
+        ensures ok { (places : Places) → OnOk result (seen places self.new ≡ dial_taken console user (seen places self.old)) }
+        ensures err { (places : Places) → OnErr result (seen places self.new ≡ seen places self.old) }
     {
         self.entries.reserve(2)?;
         let session = &self.sessions[user as usize - 1];
@@ -131,14 +147,15 @@ impl Core {
         requires within { user ≤ length self.old.sessions.items }
         requires few { length self.old.sessions.items ≤ 30 }
         requires room { (user_at user self.old.sessions.items).lines < 2048 }
-        ensures ok { OnOk result (seen self.new ≡ line_taken console user text (seen self.old)) }
-        ensures err { OnErr result (seen self.new ≡ seen self.old) }
+        ensures ok { (places : Places) → OnOk result (seen places self.new ≡ line_taken console user text (seen places self.old)) }
+        ensures err { (places : Places) → OnErr result (seen places self.new ≡ seen places self.old) }
     {
         self.entries.reserve(2)?;
         let session = &mut self.sessions[user as usize - 1];
         let own = session.own();
+        let blocks = blocks_for_line(session);
         let _ = session.line(text);
-        wake(&mut self.queues, UserNo::of(user));
+        wake(&mut self.queues, UserNo::of(user), blocks);
         let _ = self.events.pop_front();
         note_some(&mut self.entries, idle_note(self.idling, self.clock));
         note(
@@ -161,8 +178,8 @@ impl Core {
         requires some { 0 < user }
         requires within { user ≤ length self.old.sessions.items }
         requires few { length self.old.sessions.items ≤ 30 }
-        ensures ok { OnOk result (seen self.new ≡ quit_taken console user (seen self.old)) }
-        ensures err { OnErr result (seen self.new ≡ seen self.old) }
+        ensures ok { (places : Places) → OnOk result (seen places self.new ≡ quit_taken console user (seen places self.old)) }
+        ensures err { (places : Places) → OnErr result (seen places self.new ≡ seen places self.old) }
     {
         self.entries.reserve(3)?;
         let session = &mut self.sessions[user as usize - 1];
@@ -195,8 +212,8 @@ impl Core {
         requires few { length self.old.sessions.items ≤ 30 }
         requires seat { 0 < console }
         requires here { console ≤ length self.old.consoles.items }
-        ensures ok { OnOk result (seen self.new ≡ hang_taken console user (seen self.old)) }
-        ensures err { OnErr result (seen self.new ≡ seen self.old) }
+        ensures ok { (places : Places) → OnOk result (seen (given_up places user 0) self.new ≡ hang_taken console user (seen places self.old)) }
+        ensures err { (places : Places) → OnErr result (seen places self.new ≡ seen places self.old) }
     {
         self.entries.reserve(3)?;
         let session = &mut self.sessions[user as usize - 1];
@@ -229,8 +246,8 @@ impl Core {
         requires some { 0 < user }
         requires within { user ≤ length self.old.sessions.items }
         requires few { length self.old.sessions.items ≤ 30 }
-        ensures ok { OnOk result (seen self.new ≡ spent_taken console user (seen self.old)) }
-        ensures err { OnErr result (seen self.new ≡ seen self.old) }
+        ensures ok { (places : Places) → OnOk result (seen (given_up places user 0) self.new ≡ spent_taken console user (seen places self.old)) }
+        ensures err { (places : Places) → OnErr result (seen places self.new ≡ seen places self.old) }
     {
         self.entries.reserve(3)?;
         let session = &mut self.sessions[user as usize - 1];
@@ -260,8 +277,8 @@ impl Core {
     fn at_off(&mut self, console: u8, event: Event) -> Result<(), NoMemory>
         requires seat { 0 < console }
         requires here { console ≤ length self.old.consoles.items }
-        ensures ok { OnOk result (seen self.new ≡ at_console console Off event (seen self.old)) }
-        ensures err { OnErr result (seen self.new ≡ seen self.old) }
+        ensures ok { (places : Places) → OnOk result (seen places self.new ≡ at_console console Off event (seen places self.old)) }
+        ensures err { (places : Places) → OnErr result (seen places self.new ≡ seen places self.old) }
     {
         match event {
             Event::Dial => self.take_heard(console, EventKind::Dial, Console::On, None),
@@ -271,33 +288,39 @@ impl Core {
         }
     }
 
+    /// A line at a console that is on.
+    #[tactic(auto, using(system_model::proofs::CaseLaws::on_no_name, system_model::proofs::CaseLaws::on_name))]
+    fn at_name(&mut self, console: u8, line: LineText) -> Result<(), NoMemory>
+        requires seat { 0 < console }
+        requires here { console ≤ length self.old.consoles.items }
+        ensures ok { (places : Places) → OnOk result (seen places self.new ≡ at_console console On (Types line) (seen places self.old)) }
+        ensures err { (places : Places) → OnErr result (seen places self.new ≡ seen places self.old) }
+    {
+        match asked(&line) {
+            None => self.take_heard(
+                console,
+                EventKind::Line,
+                Console::On,
+                Some(Entry::Refused {
+                    tick: self.clock,
+                    console,
+                    cause: 1,
+                }),
+            ),
+            Some(name) => self.take_heard(console, EventKind::Line, Console::Password(name), None),
+        }
+    }
+
     #[tactic(auto, using(system_model::proofs::CaseLaws::on_laws))]
     fn at_on(&mut self, console: u8, event: Event) -> Result<(), NoMemory>
         requires seat { 0 < console }
         requires here { console ≤ length self.old.consoles.items }
-        ensures ok { OnOk result (seen self.new ≡ at_console console On event (seen self.old)) }
-        ensures err { OnErr result (seen self.new ≡ seen self.old) }
+        ensures ok { (places : Places) → OnOk result (seen places self.new ≡ at_console console On event (seen places self.old)) }
+        ensures err { (places : Places) → OnErr result (seen places self.new ≡ seen places self.old) }
     {
         match event {
             Event::Dial => self.take_heard(console, EventKind::Dial, Console::On, None),
-            Event::Line(line) => match asked(&line) {
-                None => self.take_heard(
-                    console,
-                    EventKind::Line,
-                    Console::On,
-                    Some(Entry::Refused {
-                        tick: self.clock,
-                        console,
-                        cause: 1,
-                    }),
-                ),
-                Some(name) => self.take_heard(
-                    console,
-                    EventKind::Line,
-                    Console::Password(name),
-                    None,
-                ),
-            },
+            Event::Line(line) => self.at_name(console, line),
             Event::Quit => self.take_heard(console, EventKind::Quit, Console::On, None),
             Event::Hang => self.take_heard(console, EventKind::Hang, Console::Off, None),
         }
@@ -309,8 +332,8 @@ impl Core {
         requires accounts { length self.old.accounts.items ≤ length self.old.sessions.items }
         requires seat { 0 < console }
         requires here { console ≤ length self.old.consoles.items }
-        ensures ok { OnOk result (seen self.new ≡ at_console console (Password name) (Types line) (seen self.old)) }
-        ensures err { OnErr result (seen self.new ≡ seen self.old) }
+        ensures ok { (places : Places) → OnOk result (seen places self.new ≡ at_console console (Password name) (Types line) (seen places self.old)) }
+        ensures err { (places : Places) → OnErr result (seen places self.new ≡ seen places self.old) }
     {
         let Some(user) = check(self.accounts.as_slice(), name, &line) else {
             return self.take_heard(
@@ -346,8 +369,8 @@ impl Core {
         requires accounts { length self.old.accounts.items ≤ length self.old.sessions.items }
         requires seat { 0 < console }
         requires here { console ≤ length self.old.consoles.items }
-        ensures ok { OnOk result (seen self.new ≡ at_console console (Password name) event (seen self.old)) }
-        ensures err { OnErr result (seen self.new ≡ seen self.old) }
+        ensures ok { (places : Places) → OnOk result (seen places self.new ≡ at_console console (Password name) event (seen places self.old)) }
+        ensures err { (places : Places) → OnErr result (seen places self.new ≡ seen places self.old) }
     {
         match event {
             Event::Dial => self.take_heard(console, EventKind::Dial, Console::Password(name), None),
@@ -357,54 +380,84 @@ impl Core {
         }
     }
 
+    /// An event in a session. It answers the user whose session is over by a hang or by a line too much.
     #[tactic(auto, using(system_model::proofs::CaseLaws::in_laws))]
-    fn at_session(&mut self, console: u8, user: u8, event: Event) -> Result<(), NoMemory>
+    fn at_session(
+        &mut self,
+        console: u8,
+        user: u8,
+        event: Event,
+    ) -> Result<Option<UserNo>, NoMemory>
         requires some { 0 < user }
         requires within { user ≤ length self.old.sessions.items }
         requires few { length self.old.sessions.items ≤ 30 }
         requires seat { 0 < console }
         requires here { console ≤ length self.old.consoles.items }
-        ensures ok { OnOk result (seen self.new ≡ at_console console (Inside user) event (seen self.old)) }
-        ensures err { OnErr result (seen self.new ≡ seen self.old) }
+        ensures ok { (places : Places) → IfOk result (λ cut. seen (left_places cut places) self.new ≡ at_console console (Inside user) event (seen places self.old)) }
+        ensures cut { IfOk result (λ cut. number_of cut ≡ cut_user (Inside user) event self.old.sessions.items) }
+        ensures err { (places : Places) → OnErr result (seen places self.new ≡ seen places self.old) }
     {
         match event {
-            Event::Dial => self.take_dial(console, user),
+            Event::Dial => {
+                self.take_dial(console, user)?;
+                Ok(None)
+            }
             Event::Line(text) => self.at_line(console, user, text),
-            Event::Quit => self.take_quit(console, user),
-            Event::Hang => self.take_hang(console, user),
+            Event::Quit => {
+                self.take_quit(console, user)?;
+                Ok(None)
+            }
+            Event::Hang => {
+                self.take_hang(console, user)?;
+                Ok(Some(UserNo::of(user)))
+            }
         }
     }
 
     #[tactic(auto, using(system_model::proofs::CaseLaws::in_laws))]
-    fn at_line(&mut self, console: u8, user: u8, text: LineText) -> Result<(), NoMemory>
+    fn at_line(&mut self, console: u8, user: u8, text: LineText) -> Result<Option<UserNo>, NoMemory>
         requires some { 0 < user }
         requires within { user ≤ length self.old.sessions.items }
         requires few { length self.old.sessions.items ≤ 30 }
-        ensures ok { OnOk result (seen self.new ≡ at_console console (Inside user) (Types text) (seen self.old)) }
-        ensures err { OnErr result (seen self.new ≡ seen self.old) }
+        ensures ok { (places : Places) → IfOk result (λ cut. seen (left_places cut places) self.new ≡ at_console console (Inside user) (Types text) (seen places self.old)) }
+        ensures cut { IfOk result (λ cut. number_of cut ≡ cut_user (Inside user) (Types text) self.old.sessions.items) }
+        ensures err { (places : Places) → OnErr result (seen places self.new ≡ seen places self.old) }
     {
         let session = &self.sessions[user as usize - 1];
         if session.line_count() < 2048 {
-            self.take_line(console, user, text)
+            self.take_line(console, user, text)?;
+            Ok(None)
         } else {
-            self.take_spent(console, user)
+            self.take_spent(console, user)?;
+            Ok(Some(UserNo::of(user)))
         }
     }
 
-    /// The event that is due.
+    /// The event that is due. It answers the user whose session is over by a hang or by a line too much.
     #[tactic(auto, using(system_model::proofs::CaseLaws::taken_at))]
-    pub(crate) fn take_event(&mut self, e: Timed) -> Result<(), NoMemory>
-        requires sound { Sound (seen self.old) }
-        requires seat { HasSeat e (seen self.old) }
-        ensures ok { OnOk result (seen self.new ≡ taken e (seen self.old)) }
-        ensures err { OnErr result (seen self.new ≡ seen self.old) }
+    pub(crate) fn take_event(&mut self, e: Timed) -> Result<Option<UserNo>, NoMemory>
+        requires sound { Sound (seen no_places self.old) }
+        requires seat { HasSeat e (seen no_places self.old) }
+        ensures ok { (places : Places) → IfOk result (λ cut. seen (left_places cut places) self.new ≡ taken e (seen places self.old)) }
+        ensures cut { IfOk result (λ cut. number_of cut
+            ≡ cut_user (get_or self.old.consoles.items (e.console - 1) Off) e.event self.old.sessions.items) }
+        ensures err { (places : Places) → OnErr result (seen places self.new ≡ seen places self.old) }
     {
         let console = e.console.number();
         match self.consoles[console as usize - 1] {
-            Console::Off => self.at_off(console, e.event),
-            Console::On => self.at_on(console, e.event),
-            Console::Password(name) => self.at_password(console, name, e.event),
             Console::Session(user) => self.at_session(console, user, e.event),
+            Console::Off => {
+                self.at_off(console, e.event)?;
+                Ok(None)
+            }
+            Console::On => {
+                self.at_on(console, e.event)?;
+                Ok(None)
+            }
+            Console::Password(name) => {
+                self.at_password(console, name, e.event)?;
+                Ok(None)
+            }
         }
     }
 }

@@ -1,13 +1,17 @@
-//! The supervisor: consoles, events, logins, the queues and the clock, one atomic step at a time.
+//! The supervisor: consoles, events, logins, the queues, the clock and users' programs, one atomic step at a time.
 //!
-//! `Core` holds the state and has a method for each case of a step; `Supervisor` is the same for callers.
+//! `State` holds all but the cores of users' programs and has a method for each case of a step; in `whole` it steps
+//! together with them. `Supervisor` is the same for callers.
 #![tactic(auto)]
 
 mod events;
+mod finish;
 mod login;
 mod notes;
 mod service;
+mod start;
 mod state;
 mod supervisor;
+mod whole;
 
 pub use supervisor::Supervisor;

@@ -1,9 +1,10 @@
-//! The state, and one step after another.
-ghost use Rattle.std.specs.Prelude.{◌≡◌, ◌<◌, ◌≤◌, ◌-◌, ◌^◌, OnOk, OnErr};
-ghost use Rattle.system_model.specs.Run.{next, run_to, AfterSteps, given, due_of};
-ghost use Rattle.system_model.specs.Cases.{closed};
+//! The state of a run but for users' cores.
+ghost use Rattle.std.specs.Prelude.{◌≡◌, OnOk, OnErr};
+ghost use Rattle.plan_model.specs.Loads.{Places, no_places};
 ghost use Rattle.system_model.specs.Sound.{Sound, HasSeat};
-ghost use Rattle.supervisor.specs.Seen.{seen};
+ghost use Rattle.system_model.specs.Run.{given, due_of};
+ghost use Rattle.system_model.specs.Cases.{closed};
+ghost use Rattle.supervisor.specs.Seen.{seen, bare_of};
 
 use crate::notes::{end_note, idle_note, note_some};
 use ctss_types::{Account, Console, Entry, Event, NoMemory, Service, Timed};
@@ -11,9 +12,11 @@ use level_queues::Queues;
 use std::collections::VecDeque;
 use user_session::Session;
 
-/// The state of a run.
+/// The state of a run but for users' cores.
 #[derive(Drop)]
-pub(crate) struct Core {
+pub(crate) struct State {
+    /// Ticks for a block that goes to the drum or comes from it.
+    pub(crate) swap: u32,
     pub(crate) accounts: Vec<Account>,
     pub(crate) sessions: Vec<Session>,
     pub(crate) queues: Queues,
@@ -25,8 +28,9 @@ pub(crate) struct Core {
     pub(crate) entries: Vec<Entry>,
 }
 
-impl Core {
-    fn due(&self) -> Option<Timed>
+impl State {
+    /// The event that is due.
+    pub(crate) fn due(&self) -> Option<Timed>
         ensures { result ≡ due_of self.now.events.items self.now.clock }
     {
         match self.events.front() {
@@ -35,42 +39,14 @@ impl Core {
         }
     }
 
-    /// One step.
-    #[tactic(auto, using(system_model::proofs::CaseLaws::next_due))]
-    fn step(&mut self, limit: u64) -> Result<(), NoMemory>
-        requires sound { Sound (seen self.old) }
-        requires before { self.old.clock < limit }
-        ensures ok { OnOk result (seen self.new ≡ next limit (seen self.old)) }
-        ensures err { OnErr result (seen self.new ≡ seen self.old) }
-    {
-        match self.due() {
-            Some(e) => self.take_event(e),
-            None => self.go_on(limit),
-        }
-    }
-
-    /// Whole steps, up to the limit.
-    #[tactic(auto, using(system_model::proofs::RunLaws::run_laws, system_model::proofs::SoundLaws::sound_next))]
-    pub(crate) fn advance(&mut self, limit: u64) -> Result<(), NoMemory>
-        requires sound { Sound (seen self.old) }
-        ensures ok { OnOk result (seen self.new ≡ run_to limit (seen self.old)) }
-        ensures err { OnErr result (AfterSteps limit (seen self.old) (seen self.new)) }
-        ensures sound { Sound (seen self.new) }
-    {
-        'steps: while self.clock < limit {
-            self.step(limit)?;
-        }
-        Ok(())
-    }
-
     /// An event more.
     #[tactic(auto, using(system_model::proofs::SoundLaws::sound_given), unfolding(system_model::specs::Run::given))]
     pub(crate) fn take(&mut self, e: Timed) -> Result<(), NoMemory>
-        requires sound { Sound (seen self.old) }
-        requires seat { HasSeat e (seen self.old) }
-        ensures ok { OnOk result (seen self.new ≡ given e (seen self.old)) }
-        ensures err { OnErr result (seen self.new ≡ seen self.old) }
-        ensures sound { Sound (seen self.new) }
+        requires sound { Sound (seen no_places self.old) }
+        requires seat { HasSeat e (seen no_places self.old) }
+        ensures ok { (places : Places) → OnOk result (seen places self.new ≡ given e (seen places self.old)) }
+        ensures err { OnErr result (bare_of self.new ≡ bare_of self.old) }
+        ensures sound { Sound (seen no_places self.new) }
     {
         self.events.reserve(1)?;
         let event: Event = e.event;
@@ -85,8 +61,8 @@ impl Core {
     /// An open service and open idling end.
     #[tactic(auto, unfolding(system_model::specs::Cases::closed))]
     pub(crate) fn close(&mut self) -> Result<(), NoMemory>
-        ensures ok { OnOk result (seen self.new ≡ closed (seen self.old)) }
-        ensures err { OnErr result (seen self.new ≡ seen self.old) }
+        ensures ok { (places : Places) → OnOk result (seen places self.new ≡ closed (seen places self.old)) }
+        ensures err { (places : Places) → OnErr result (seen places self.new ≡ seen places self.old) }
     {
         self.entries.reserve(2)?;
         note_some(&mut self.entries, end_note(self.service));

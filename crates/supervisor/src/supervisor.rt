@@ -1,78 +1,42 @@
-ghost use Rattle.std.specs.Prelude.{◌≡◌, ◌≤◌, ◌++◌, ◌∷◌, [], length, map, replicate, IfOk, OnOk, OnErr};
-ghost use Rattle.time_sharing.specs.System.{Off};
-ghost use Rattle.user_model.specs.Session.{first_state};
-ghost use Rattle.system_model.specs.Run.{run_to, AfterSteps, given, ended};
+ghost use Rattle.std.specs.Prelude.{◌≡◌, ◌≤◌, [], length, true};
+ghost use Rattle.faults.specs.Faults.{Rose};
+ghost use Rattle.system_model.specs.Run.{given, ended};
+ghost use Rattle.plan_model.specs.Loads.{Places, no_places};
 ghost use Rattle.system_model.specs.Record.{start_of, record_from};
 ghost use Rattle.system_model.specs.Sound.{HasSeat};
+ghost use Rattle.supervisor.specs.Seen.{AreFit, record_so_far, run_with};
+ghost use Rattle.supervisor.specs.Steps.{IsTied, HasRun, HasRunPart, HasRunToLoad, Ends, Lasts};
+ghost use Rattle.std.specs.Prelude.{IfOk, OnOk, OnErr};
 
-use crate::state::Core;
-use ctss_types::{
-    Account, Console, Entry, FileList, Items, NoMemory, Record, Script, Sequence, Timed,
-};
+use crate::finish::{parts_of, transcripts_of};
+use crate::start::{accounts_of, consoles_of, sessions_of};
+use crate::state::State;
+use ctss_types::{Entry, NoMemory, Record, RunFault, Script, Sequence, Timed};
 use level_queues::Queues;
 use std::alloc::Global;
 use std::collections::VecDeque;
 use std::marker::Model;
-use user_session::Session;
+use user_cores::Cores;
 
-/// The supervisor of a run: all that its accounts, consoles and clock are at one moment.
+/// The supervisor of a run: all that its accounts, consoles and clock are at one moment. The cores of users' programs
+/// stand beside it; a run is handed those of the same accounts each time.
+///
+/// In clauses it is the run but for users' cores; `run_with` adds the places of their blocks, `joined` their words.
 #[derive(Drop)]
 pub struct Supervisor {
-    core: Core,
+    state: State,
 }
 
 impl Model for Supervisor {
-    ghost use Rattle.system_model.specs.Run.{Run};
     ghost use Rattle.system_model.specs.Sound.{Sound};
-    ghost use Rattle.supervisor.specs.Seen.{seen};
+    ghost use Rattle.plan_model.specs.Loads.{no_places};
+    ghost use Rattle.supervisor.specs.Seen.{Bare, bare_of, seen};
 
-    ghost Value = { Run };
+    ghost Value = { Bare };
 
-    ghost view = { λ s. seen s.core };
+    ghost view = { λ s. bare_of s.state };
 
-    ghost invariant = { λ s. Sound (seen s.core) };
-}
-
-/// A session of each account, in order.
-fn sessions_of(alloc: Global, accounts: &[Account]) -> Result<Vec<Session>, NoMemory>
-    ensures { IfOk result (λ s. s.items ≡ map (λ a. first_state a []) accounts.now) }
-{
-    let mut sessions = Vec::new(alloc);
-    for account in accounts {
-        sessions.push(Session::new(alloc, account)?)?;
-    }
-    Ok(sessions)
-}
-
-fn accounts_of(alloc: Global, accounts: &[Account]) -> Result<Vec<Account>, NoMemory>
-    ensures { IfOk result (λ s. s.items ≡ accounts.now) }
-{
-    let mut list = Vec::new(alloc);
-    list.extend_from_slice(accounts)?;
-    Ok(list)
-}
-
-fn consoles_of(alloc: Global) -> Result<Vec<Console>, NoMemory>
-    ensures { IfOk result (λ s. s.items ≡ replicate 32 Off) }
-{
-    let mut consoles = Vec::new(alloc);
-    consoles.extend_from_slice(&[Console::Off; 32])?;
-    Ok(consoles)
-}
-
-/// Each user's transcript and files.
-fn parts_of(alloc: Global, sessions: Vec<Session>) -> Result<(Vec<Items>, Vec<FileList>), NoMemory>
-    ensures items { IfOk result (λ p. p.0.items ≡ map (λ u. u.transcript) sessions.items) }
-    ensures files { IfOk result (λ p. p.1.items ≡ map (λ u. u.inner.files) sessions.items) }
-{
-    let mut transcripts = Vec::new(alloc);
-    let mut files = Vec::new(alloc);
-    for session in sessions {
-        let (items, list) = session.into_parts(alloc);
-        transcripts.push(items)?;
-        files.push(list)?;
-    }
-    Ok((transcripts, files))
+    ghost invariant = { λ s. Sound (seen no_places s.state) };
 }
 
 impl Supervisor {
@@ -80,15 +44,18 @@ impl Supervisor {
     pub fn new(alloc: Global, script: &Script) -> Result<Supervisor, NoMemory>
         requires level { 1 ≤ script.now.params.wq }
         requires quantum { script.now.params.quantum ≤ 1000000 }
+        requires swap { script.now.params.swap ≤ 1000000 }
         requires users { length script.now.accounts ≤ 30 }
-        requires files { script.now.files ≡ [] }
-        ensures { IfOk result (λ s. s ≡ start_of (record script.now { events = [] })) }
+        requires fit { AreFit 1 script.now.accounts script.now.files }
+        ensures { IfOk result (λ s. run_with no_places s ≡ start_of (record script.now { events = [] })) }
     {
         let accounts = script.accounts.as_slice();
+        let files = script.files.as_slice();
         Ok(Supervisor {
-            core: Core {
+            state: State {
+                swap: script.params.swap as u32,
                 accounts: accounts_of(alloc, accounts)?,
-                sessions: sessions_of(alloc, accounts)?,
+                sessions: sessions_of(alloc, accounts, files)?,
                 queues: Queues::new(script.params.wq, script.params.quantum),
                 consoles: consoles_of(alloc)?,
                 clock: 0,
@@ -102,42 +69,70 @@ impl Supervisor {
 
     /// An event more, behind those that are left. Its tick is at least that of each earlier event.
     pub fn take(&mut self, e: Timed) -> Result<(), NoMemory>
-        requires seat { HasSeat e self.old }
-        ensures ok { OnOk result (self.new ≡ given e self.old) }
+        requires seat { HasSeat e (run_with no_places self.old) }
+        ensures ok { (places : Places) → OnOk result (run_with places self.new ≡ given e (run_with places self.old)) }
         ensures err { OnErr result (self.new ≡ self.old) }
     {
-        self.core.take(e)
+        self.state.take(e)
     }
 
-    /// Whole steps, up to the limit. Where memory lacks, some of them are done.
-    pub fn advance(&mut self, limit: u64) -> Result<(), NoMemory>
-        ensures ok { OnOk result (self.new ≡ run_to limit self.old) }
-        ensures err { OnErr result (AfterSteps limit self.old self.new) }
+    /// Whole steps, up to the limit. Where memory lacks, some of them are done; where the drum fails, those before a load.
+    /// After a fault of the drum the run may only be stopped.
+    pub fn advance<C: Cores>(&mut self, cores: &mut C, limit: u64) -> Result<(), RunFault>
+        requires works { C.Works cores.old }
+        requires tied { IsTied self.old.users (C.memory cores.old) }
+        requires limit { limit ≤ 100000000 }
+        ensures ended { Ends result (HasRun limit (run_with (C.memory cores.old).places self.old)
+            (run_with (C.memory cores.new).places self.new) (C.memory cores.old) (C.memory cores.new))
+            (HasRunPart limit (run_with (C.memory cores.old).places self.old)
+            (run_with (C.memory cores.new).places self.new) (C.memory cores.old) (C.memory cores.new))
+            (HasRunToLoad limit (run_with (C.memory cores.old).places self.old) (run_with no_places self.new) (C.memory cores.old)
+            × Rose (C.faults cores.old) (C.faults cores.new)) }
+        ensures tells { Lasts result ((C.memory cores.new).tells ≡ (C.memory cores.old).tells) }
+        ensures tied { Lasts result (IsTied self.new.users (C.memory cores.new)) }
+        ensures works { Lasts result (C.Works cores.new) }
+        ensures keeps { C.Keeps cores.old cores.new }
+        ensures kept { C.faults cores.old ≤ C.faults cores.new }
     {
-        self.core.advance(limit)
+        self.state.advance(cores, limit)
     }
 
     /// The end of the record: an open service and open idling end, and all is handed out.
     #[tactic(auto, using(system_model::proofs::CaseLaws::closes))]
     pub fn close(self, alloc: Global) -> Result<Record, NoMemory>
-        ensures { IfOk result (λ rec. rec ≡ record_from (ended self)) }
+        ensures { IfOk result (λ rec. (places : Places) → rec ≡ record_from (ended (run_with places self))) }
     {
-        let mut core = self.core;
-        core.close()?;
-        let (transcripts, files) = parts_of(alloc, core.sessions)?;
+        let mut state = self.state;
+        state.close()?;
+        let (transcripts, files) = parts_of(alloc, state.sessions)?;
         Ok(Record {
-            entries: Sequence::from_vec(core.entries),
+            entries: Sequence::from_vec(state.entries),
             transcripts: Sequence::from_vec(transcripts),
             files: Sequence::from_vec(files),
             common: Sequence::new(alloc),
-            clock: core.clock,
+            clock: state.clock,
+        })
+    }
+
+    /// The record of a run that stopped: entries, transcripts and clock so far, and no files.
+    pub fn stop(self, alloc: Global) -> Result<Record, NoMemory>
+        ensures { IfOk result (λ rec. rec ≡ record_so_far (run_with no_places self)) }
+    {
+        let state = self.state;
+        let transcripts = transcripts_of(alloc, state.sessions)?;
+        Ok(Record {
+            entries: Sequence::from_vec(state.entries),
+            transcripts: Sequence::from_vec(transcripts),
+            files: Sequence::new(alloc),
+            common: Sequence::new(alloc),
+            clock: state.clock,
         })
     }
 
     /// The schedule so far.
     pub fn entries(&self) -> &[Entry]
-        ensures { result.now ≡ self.now.system.entries }
+        ensures { result.now ≡ self.now.entries }
     {
-        &self.core.entries
+        &self.state.entries
     }
 }

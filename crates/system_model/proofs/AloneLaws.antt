@@ -15,10 +15,11 @@ use Rattle.time_sharing.proofs.Theorem.{isolation}
 use Rattle.time_sharing.proofs.RowsLaws.{rows_laws}
 use Rattle.user_model.specs.Session.{user_rows, first_state, no_account, nobody}
 use Rattle.user_model.specs.User.{User}
-use Rattle.plan_model.specs.Levels.{empty_levels}
+use Rattle.plan_model.specs.Plan.{first_plan}
 use Rattle.system_model.specs.Round.{round}
 use Rattle.system_model.specs.Run.{Run, run_to, ended, measure}
-use Rattle.system_model.specs.Record.{files_of, users_from, start_of, record_of, first_of_user, alone_of, IsAloneIn, EachIsAlone, consoles}
+use Rattle.file_model.specs.Owned.{files_of}
+use Rattle.system_model.specs.Record.{users_from, start_of, record_of, first_of_user, alone_of, IsAloneIn, EachIsAlone, consoles}
 use Rattle.system_model.specs.Claims.{UsersAreAlone}
 use Rattle.system_model.proofs.CaseLaws.{at_user}
 
@@ -73,7 +74,7 @@ users_are_alone script u pos within =
     inside = omega (arith, users_length 1 script.accounts script.files)
 
     come : whole.IsAlone M (at nobody firsts u) (Rattle.time_sharing.specs.Feeds.feed_of u script.events r.system.entries) p
-    come = isolation M (rows_laws user_rows) (round script.accounts) u pos firsts [] (empty_levels script.params.wq script.params.quantum) consoles script.end
+    come = isolation M (rows_laws user_rows) (round script.params.swap script.accounts) u pos firsts [] (first_plan script.params.wq script.params.quantum) consoles script.end
         (measure script.end (start_of script)) script.events inside (ap (λ (q : User). q.own) (first_is script u pos within))
 
     came : alone_of script (record_of script) u ≡ record { state = p; clocks = []; replies = [] }

@@ -4,13 +4,15 @@ use Rattle.time_sharing.specs.Machine.{Line, CutKind, Quit, Hang, Spent, Ending}
 use Rattle.ctss_types.specs.declared.file.FileBody.{FileBody}
 use Rattle.time_sharing.specs.Rows.{machine}
 use Rattle.time_sharing.specs.System as theory
-use Rattle.time_sharing.specs.System.{SystemState, Timed, Service, Console, Off, On, Password, Session, Entry, Taken, Login, Refused, Idle, Serve, EventKind, Event, Dials, Types, Quits, Hangs, LineTaken, DialTaken, kind_of, QuitTaken, HangTaken, Cause, Stop, Wait, Preempt, AtEnd, at, put, max_lines, without}
+use Rattle.time_sharing.specs.System.{SystemState, Timed, Service, Console, Off, On, Password, Session, Entry, Taken, Login, Refused, Idle, Swap, Serve, EventKind, Event, Dials, Types, Quits, Hangs, LineTaken, DialTaken, kind_of, QuitTaken, HangTaken, Cause, Stop, Wait, Preempt, AtEnd, at, put, max_lines, without}
 use Rattle.user_model.specs.Session.{user_rows, nobody}
 use Rattle.user_model.specs.User.{User, typed, opened, cut, can_step, step, ending, asks_clock}
-use Rattle.plan_model.specs.Levels.{Levels, chosen, user_of, level_in, has_time, command_blocks, charged, dropped, woken}
-use Rattle.system_model.specs.Round.{round, asked, check}
+use Rattle.plan_model.specs.Levels.{Levels, chosen, user_of, level_in, has_time, charged, dropped, woken}
+use Rattle.plan_model.specs.Plan.{Plan, must_load, places_cut, places_after}
+use Rattle.user_model.specs.Inner.{blocks_of}
+use Rattle.system_model.specs.Round.{round, leaves, line_blocks, asked, check}
 use Rattle.system_model.specs.Run.{Run, State, next, taken, at_console, awake, otherwise, attended, by_due, due_of, ended}
-use Rattle.system_model.specs.Cases.{heard, line_taken, quit_taken, hang_taken, spent_taken, cut_taken, login_taken, dial_taken, idled, served, stepped, stepped_by, waited, user_at, with_user, closed, end_notes, idle_start, idle_notes, stop_notes, not_served}
+use Rattle.system_model.specs.Cases.{brought, levels_after, heard, line_taken, quit_taken, hang_taken, spent_taken, cut_taken, login_taken, dial_taken, idled, served, stepped, stepped_by, waited, user_at, with_user, closed, end_notes, idle_start, idle_notes, stop_notes, not_served}
 
 pub at_user : {X : Type 0} (d : X) (xs : List X) (u : ℕ) → 0 < u → at d xs u ≡ get_or xs (u - 1) d
 at_user d xs zero h = absurd (omega arith)
@@ -25,19 +27,19 @@ unfolding next taken otherwise
 next_due limit r = by_events r.system.events refl
   where
     by_test : (e : Timed) (rest : List Timed) → r.system.events ≡ e ∷ rest → (b : Bool)
-        → record r { system = cond b (theory.taken (machine user_rows) (round r.accounts) e rest r.system) (theory.otherwise (machine user_rows) (round r.accounts) limit (user_of (chosen r.system.plan)) r.system.service r.system) } ≡ by_due limit (cond b (Some e) None) r
-    by_test e rest is true = ap (λ (es : List Timed). record r { system = theory.taken (machine user_rows) (round r.accounts) e (drop 1 es) r.system }) (sym is)
+        → record r { system = cond b (theory.taken (machine user_rows) (round r.swap r.accounts) e rest r.system) (theory.otherwise (machine user_rows) (round r.swap r.accounts) limit (user_of (chosen r.system.plan.levels)) r.system.service r.system) } ≡ by_due limit (cond b (Some e) None) r
+    by_test e rest is true = ap (λ (es : List Timed). record r { system = theory.taken (machine user_rows) (round r.swap r.accounts) e (drop 1 es) r.system }) (sym is)
     by_test e rest is false = refl
 
-    by_events : (es : List Timed) → r.system.events ≡ es → record r { system = theory.next_by (machine user_rows) (round r.accounts) limit es r.system } ≡ by_due limit (due_of es r.system.clock) r
+    by_events : (es : List Timed) → r.system.events ≡ es → record r { system = theory.next_by (machine user_rows) (round r.swap r.accounts) limit es r.system } ≡ by_due limit (due_of es r.system.clock) r
     by_events [] is = refl
     by_events (e ∷ rest) is = by_test e rest is (nat_le e.tick r.system.clock)
 
 abbrev M : Rattle.time_sharing.specs.Machine.Machine User
 M = machine user_rows
 
-abbrev W : Run → theory.World User Levels (List FileBody)
-W r = round r.accounts
+abbrev W : Run → theory.World User Plan (List FileBody)
+W r = round r.swap r.accounts
 
 -- an event that no session hears
 heard_is : (c : ℕ) (kind : EventKind) (now : Console) (more : ℕ → List Entry) (r : Run) → 0 < c
@@ -87,7 +89,7 @@ cut_is kind c u r h = by_idling r.system.idling refl
         record r {
           system = record r.system {
             users = with_user u (cut kind (user_at u r.system.users)) r.system.users;
-            plan = dropped u r.system.plan;
+            plan = record r.system.plan { levels = dropped u r.system.plan.levels; places = places_cut kind u r.system.plan.places };
             consoles = theory.consoles_cut kind c u r.system.consoles;
             events = drop 1 r.system.events;
             idling = None;
@@ -98,7 +100,7 @@ cut_is kind c u r h = by_idling r.system.idling refl
     by_test idl es notes none tail v is true = λ j. record r {
       system = record r.system {
         users = users j;
-        plan = dropped u r.system.plan;
+        plan = record r.system.plan { levels = dropped u r.system.plan.levels; places = places_cut kind u r.system.plan.places };
         consoles = theory.consoles_cut kind c u r.system.consoles;
         events = drop 1 r.system.events;
         idling = none j;
@@ -109,7 +111,7 @@ cut_is kind c u r h = by_idling r.system.idling refl
     by_test idl es notes none tail v is false = λ j. record r {
       system = record r.system {
         users = users j;
-        plan = dropped u r.system.plan;
+        plan = record r.system.plan { levels = dropped u r.system.plan.levels; places = places_cut kind u r.system.plan.places };
         consoles = theory.consoles_cut kind c u r.system.consoles;
         events = drop 1 r.system.events;
         idling = none j;
@@ -123,7 +125,7 @@ cut_is kind c u r h = by_idling r.system.idling refl
         record r {
           system = record r.system {
             users = with_user u (cut kind (user_at u r.system.users)) r.system.users;
-            plan = dropped u r.system.plan;
+            plan = record r.system.plan { levels = dropped u r.system.plan.levels; places = places_cut kind u r.system.plan.places };
             consoles = theory.consoles_cut kind c u r.system.consoles;
             events = drop 1 r.system.events;
             idling = None;
@@ -134,7 +136,7 @@ cut_is kind c u r h = by_idling r.system.idling refl
     by_service idl es notes none tail None is = λ j. record r {
       system = record r.system {
         users = users j;
-        plan = dropped u r.system.plan;
+        plan = record r.system.plan { levels = dropped u r.system.plan.levels; places = places_cut kind u r.system.plan.places };
         consoles = theory.consoles_cut kind c u r.system.consoles;
         events = drop 1 r.system.events;
         idling = none j;
@@ -148,7 +150,7 @@ cut_is kind c u r h = by_idling r.system.idling refl
         record r {
           system = record r.system {
             users = with_user u (cut kind (user_at u r.system.users)) r.system.users;
-            plan = dropped u r.system.plan;
+            plan = record r.system.plan { levels = dropped u r.system.plan.levels; places = places_cut kind u r.system.plan.places };
             consoles = theory.consoles_cut kind c u r.system.consoles;
             events = drop 1 r.system.events;
             idling = None;
@@ -192,21 +194,24 @@ line_is c u l r h = by_idling r.system.idling refl
     told : User → Entry
     told p = Taken r.system.clock c LineTaken u p.own
 
+    planned : User → Plan
+    planned p = record r.system.plan { levels = woken (line_blocks p) u r.system.plan.levels }
+
     by_idling : (i : Option ℕ) → r.system.idling ≡ i → record r { system = theory.line_at M (W r) c u l (theory.end_idling_of M (W r) i (record r.system { events = drop 1 r.system.events })) } ≡
         record r {
           system = record r.system {
             users = with_user u (typed l (user_at u r.system.users)) r.system.users;
-            plan = woken command_blocks u r.system.plan;
+            plan = planned (user_at u r.system.users);
             events = drop 1 r.system.events;
             idling = None;
             entries = r.system.entries ++ (idle_notes i r.system.clock ++ told (user_at u r.system.users) ∷ []);
           };
         }
-    by_idling None is = λ j. record r { system = record r.system { users = users j; plan = woken command_blocks u r.system.plan; events = drop 1 r.system.events; idling = is j; entries = r.system.entries ++ told (user j) ∷ [] } }
+    by_idling None is = λ j. record r { system = record r.system { users = users j; plan = planned (user j); events = drop 1 r.system.events; idling = is j; entries = r.system.entries ++ told (user j) ∷ [] } }
     by_idling (Some from) is = λ j. record r {
       system = record r.system {
         users = users j;
-        plan = woken command_blocks u r.system.plan;
+        plan = planned (user j);
         events = drop 1 r.system.events;
         idling = None;
         entries = (append_assoc r.system.entries (Idle from r.system.clock ∷ []) (told (at nobody r.system.users u) ∷ []) ∙ ap (λ (p : User). r.system.entries ++ (Idle from r.system.clock ∷ told p ∷ [])) user) j;
@@ -221,27 +226,59 @@ pub in_spends : (c u : ℕ) (l : Line) (r : Run) → 0 < u → max_lines ≤ (us
 unfolding at_console spent_taken
 in_spends c u l r h many = ap (λ (b : Bool). record r { system = cond b (theory.line_at M (W r) c u l (awake r)) (theory.cut_at M (W r) Spent c u (theory.stop_served M (W r) u (awake r))) }) (ap (λ (n : ℕ). nat_lt n max_lines) (lines_is r u h) ∙ le-ltb (user_at u r.system.users).lines max_lines many) ∙ cut_is Spent c u r h
 
--- a chosen user
-attended_if : Bool → Service → Run → Run
-attended_if b v r = cond b (stepped v r) (waited v r)
+-- the user that a service is of
+serves_user : (v : Service) (r : Run) → 0 < v.user → at nobody r.system.users v.user ≡ user_at v.user r.system.users
+serves_user v r h = at_user nobody r.system.users v.user h
 
-pub attended_steps : (v : Service) (r : Run) → 0 < v.user → can_step (user_at v.user r.system.users) ≡ true → attended v r ≡ stepped v r
-unfolding attended stepped can_step step ending asks_clock
-attended_steps v r h can =
-    ap (λ (p : User). record r { system = cond (M.can_step p) (theory.goes M (W r) v p r.system) (theory.waits M (W r) v p r.system) }) user
-    ∙ ap (λ (b : Bool). record r { system = cond b (theory.goes M (W r) v (user_at v.user r.system.users) r.system) (theory.waits M (W r) v (user_at v.user r.system.users) r.system) }) can
-    ∙ users
+-- a user whose blocks are not all in core
+pub attended_loads : (v : Service) (r : Run) → 0 < v.user → must_load r.system.plan v.user (blocks_of (user_at v.user r.system.users).inner) ≡ true → attended v r ≡ brought v.user r
+unfolding attended brought
+attended_loads v r h must =
+    ap (λ (p : User). record r { system = cond (must_load r.system.plan v.user (blocks_of p.inner)) (brings p) (theory.stepped M (W r) v r.system) }) (serves_user v r h)
+    ∙ ap (λ (b : Bool). record r { system = cond b (brings (user_at v.user r.system.users)) (theory.stepped M (W r) v r.system) }) must
   where
-    user : at nobody r.system.users v.user ≡ user_at v.user r.system.users
-    user = at_user nobody r.system.users v.user h
+    brings : User → State
+    brings p =
+        let o = (W r).move r.system.plan v.user p in
+        record r.system { plan = (W r).load r.system.plan v.user p r.system.clock; clock = r.system.clock + o.ticks; entries = r.system.entries ++ Swap r.system.clock v.user o.dumped o.read o.fresh ∷ [] }
 
-    users : record r { system = theory.goes M (W r) v (user_at v.user r.system.users) r.system } ≡ stepped v r
-    users = λ j. record r { system = record (theory.goes M (W r) v (user_at v.user r.system.users) r.system) { users = put_user r.system.users v.user (step r.system.clock (user_at v.user r.system.users)) h j } }
+-- one whose blocks are in core
+attended_in_core : (v : Service) (r : Run) → 0 < v.user → must_load r.system.plan v.user (blocks_of (user_at v.user r.system.users).inner) ≡ false →
+    attended v r ≡ record r { system = cond (M.can_step (user_at v.user r.system.users)) (theory.goes M (W r) v (user_at v.user r.system.users) r.system) (theory.waits M (W r) v (user_at v.user r.system.users) r.system) }
+unfolding attended
+attended_in_core v r h loaded =
+    ap (λ (p : User). record r { system = cond (must_load r.system.plan v.user (blocks_of p.inner)) (theory.swapped M (W r) v.user r.system) (cond (M.can_step p) (theory.goes M (W r) v p r.system) (theory.waits M (W r) v p r.system)) }) (serves_user v r h)
+    ∙ ap (λ (b : Bool). record r { system = cond b (theory.swapped M (W r) v.user r.system) (cond (M.can_step (user_at v.user r.system.users)) (theory.goes M (W r) v (user_at v.user r.system.users) r.system) (theory.waits M (W r) v (user_at v.user r.system.users) r.system)) }) loaded
 
-pub attended_waits : (v : Service) (r : Run) → 0 < v.user → can_step (user_at v.user r.system.users) ≡ false → attended v r ≡ waited v r
-unfolding attended waited can_step
-attended_waits v r h cannot =
-    ap (λ (p : User). record r { system = cond (M.can_step p) (theory.goes M (W r) v p r.system) (theory.waits M (W r) v p r.system) }) (at_user nobody r.system.users v.user h)
+pub attended_steps : (v : Service) (r : Run) → 0 < v.user → must_load r.system.plan v.user (blocks_of (user_at v.user r.system.users).inner) ≡ false → can_step (user_at v.user r.system.users) ≡ true → attended v r ≡ stepped v r
+unfolding stepped can_step step ending asks_clock
+attended_steps v r h loaded can =
+    attended_in_core v r h loaded
+    ∙ ap (λ (b : Bool). record r { system = cond b (theory.goes M (W r) v (user_at v.user r.system.users) r.system) (theory.waits M (W r) v (user_at v.user r.system.users) r.system) }) can
+    ∙ goes_is
+  where
+    p : User
+    p = user_at v.user r.system.users
+
+    -- what a cause does to the plan
+    planned : (o : Option Cause) (q : User) (t : Ending) →
+        (W r).gave_up (theory.plan_after M (W r) (record r.system.plan { levels = charged v.user r.system.plan.levels }) v.user o q (suc r.system.clock)) v.user q t (suc r.system.clock)
+        ≡ record { levels = levels_after o v.user q (charged v.user r.system.plan.levels); places = places_after t v.user (blocks_of q.inner) r.system.plan.places }
+    planned None q t = refl
+    planned (Some cause) q t = refl
+
+    goes_is : record r { system = theory.goes M (W r) v (user_at v.user r.system.users) r.system } ≡ stepped v r
+    goes_is = λ j. record r {
+      system = record (theory.goes M (W r) v (user_at v.user r.system.users) r.system) {
+        users = put_user r.system.users v.user (step r.system.clock (user_at v.user r.system.users)) h j;
+        plan = planned (theory.cause_of (ending r.system.clock p) (has_time r.system.plan.levels)) (step r.system.clock p) (ending r.system.clock p) j;
+      };
+    }
+
+pub attended_waits : (v : Service) (r : Run) → 0 < v.user → must_load r.system.plan v.user (blocks_of (user_at v.user r.system.users).inner) ≡ false → can_step (user_at v.user r.system.users) ≡ false → attended v r ≡ waited v r
+unfolding waited can_step
+attended_waits v r h loaded cannot =
+    attended_in_core v r h loaded
     ∙ ap (λ (b : Bool). record r { system = cond b (theory.goes M (W r) v (user_at v.user r.system.users) r.system) (theory.waits M (W r) v (user_at v.user r.system.users) r.system) }) cannot
 
 pub in_dials : (c u : ℕ) (r : Run) → 0 < u → at_console c (Session u) Dials r ≡ dial_taken c u r
@@ -367,7 +404,7 @@ pub preempts_none : (limit : ℕ) (v : Service) (r : Run) → otherwise limit No
 unfolding otherwise served
 preempts_none limit v r = refl
 
-pub begins : (limit u : ℕ) (r : Run) → otherwise limit (Some u) None r ≡ attended (record { tick = r.system.clock; user = u; level = level_in (chosen r.system.plan); ran = 0 }) r
+pub begins : (limit u : ℕ) (r : Run) → otherwise limit (Some u) None r ≡ attended (record { tick = r.system.clock; user = u; level = level_in (chosen r.system.plan.levels); ran = 0 }) r
 unfolding otherwise attended
 begins limit u r = refl
 

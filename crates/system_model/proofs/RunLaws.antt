@@ -1,4 +1,5 @@
-use Rattle.std.proofs.Common.{◌≡◌, ℕ, suc, ◌+◌, ◌<◌, ◌≤◌, ◌^◌, List, [], ◌∷◌, ◌++◌, Option, Some, None, ap, refl, sym, ◌∙◌, append_assoc, lt-ltb, le-ltb}
+use Rattle.std.specs.Prelude.{slice_index_or}
+use Rattle.std.proofs.Common.{Bool, true, false, not, nat_eq, zero, drop, replicate, eq-eqb, arith, ◌≡◌, ℕ, suc, ◌+◌, ◌<◌, ◌≤◌, ◌^◌, List, [], ◌∷◌, ◌++◌, Option, Some, None, ap, refl, sym, ◌∙◌, append_assoc, lt-ltb, le-ltb}
 use Rattle.ctss_types.specs.declared.script.Account.{Account}
 use Rattle.time_sharing.specs.Rows.{machine}
 use Rattle.time_sharing.specs.System as theory
@@ -7,31 +8,47 @@ use Rattle.time_sharing.specs.Record as whole
 use Rattle.time_sharing.proofs.RepeatLaws as laws
 use Rattle.time_sharing.proofs.Ending as ending
 use Rattle.user_model.specs.Session.{user_rows, nobody}
+use Rattle.user_model.specs.Inner.{blocks_of}
+use Rattle.plan_model.specs.Loads.{count_below}
+use Rattle.plan_model.specs.Plan.{Plan, must_load, with_load}
 use Rattle.system_model.specs.Round.{round}
 use Rattle.system_model.specs.Run.{Run, State, next, run_to, measure, AfterSteps}
 
-pub ends : (accounts : List Account) → whole.Ends (round accounts)
-ends accounts = record { loaded = λ q u p now. refl; same_choice = λ q u p now. refl }
+-- a load is done once
+own_front : (n b u : ℕ) (xs : List ℕ) → b < n → slice_index_or (replicate n u ++ xs) b 0 ≡ u
+own_front zero b u xs h = absurd (omega arith)
+own_front (suc n) zero u xs h = refl
+own_front (suc n) (suc b) u xs h = own_front n b u xs (omega arith)
+
+none_below : (n : ℕ) (test : ℕ → Bool) → ((b : ℕ) → b < n → test b ≡ false) → count_below n test ≡ 0
+none_below zero test h = refl
+none_below (suc n) test h = rw (h n (omega arith), none_below n test (λ b k. h b (omega arith))) refl
+
+load_is_done : (q : Plan) (u n : ℕ) → must_load (with_load q u n) u n ≡ false
+load_is_done q u n = ap (λ (k : ℕ). not (nat_eq k 0)) (none_below n _ (λ b h. ap (λ (v : ℕ). not (nat_eq v u)) (own_front n b u (drop n q.places.owners) h) ∙ ap not (eq-eqb u u refl)))
+
+pub ends : (swap : ℕ) (accounts : List Account) → whole.Ends (round swap accounts)
+ends swap accounts = record { loaded = λ q u p now. load_is_done q u (blocks_of p.inner); same_choice = λ q u p now. refl }
 
 before : Run → ℕ → State → Rattle.std.specs.Prelude.Bool
-before r limit s = whole.before (machine user_rows) (round r.accounts) limit s
+before r limit s = whole.before (machine user_rows) (round r.swap r.accounts) limit s
 
 pub measure_next : (limit : ℕ) (r : Run) → r.system.clock < limit → measure limit (next limit r) < measure limit r
 unfolding next measure
-measure_next limit r h = ending.falls (machine user_rows) (round r.accounts) (ends r.accounts) limit r.system (lt-ltb r.system.clock limit h)
+measure_next limit r h = ending.falls (machine user_rows) (round r.swap r.accounts) (ends r.swap r.accounts) limit r.system (lt-ltb r.system.clock limit h)
 
 pub run_to_next : (limit : ℕ) (r : Run) → r.system.clock < limit → run_to limit (next limit r) ≡ run_to limit r
 unfolding next run_to measure
 run_to_next limit r h = λ i. record r {
   system =
-      laws.whole-step (whole.before (machine user_rows) (round r.accounts) limit) (theory.next (machine user_rows) (round r.accounts) limit) (whole.measure (machine user_rows) (round r.accounts) limit) (ending.falls (machine user_rows) (round r.accounts) (ends r.accounts) limit) r.system (lt-ltb r.system.clock limit h) i;
+      laws.whole-step (whole.before (machine user_rows) (round r.swap r.accounts) limit) (theory.next (machine user_rows) (round r.swap r.accounts) limit) (whole.measure (machine user_rows) (round r.swap r.accounts) limit) (ending.falls (machine user_rows) (round r.swap r.accounts) (ends r.swap r.accounts) limit) r.system (lt-ltb r.system.clock limit h) i;
 }
 
 pub run_to_done : (limit : ℕ) (r : Run) → limit ≤ r.system.clock → run_to limit r ≡ r
 unfolding run_to measure
 run_to_done limit r h = λ i. record r {
   system =
-      laws.whole-done (whole.before (machine user_rows) (round r.accounts) limit) (theory.next (machine user_rows) (round r.accounts) limit) (whole.measure (machine user_rows) (round r.accounts) limit) (ending.falls (machine user_rows) (round r.accounts) (ends r.accounts) limit) r.system (le-ltb r.system.clock limit h) i;
+      laws.whole-done (whole.before (machine user_rows) (round r.swap r.accounts) limit) (theory.next (machine user_rows) (round r.swap r.accounts) limit) (whole.measure (machine user_rows) (round r.swap r.accounts) limit) (ending.falls (machine user_rows) (round r.swap r.accounts) (ends r.swap r.accounts) limit) r.system (le-ltb r.system.clock limit h) i;
 }
 
 pub after_next : (limit : ℕ) (old r : Run) → AfterSteps limit old r → r.system.clock < limit → AfterSteps limit old (next limit r)
@@ -39,8 +56,8 @@ unfolding next AfterSteps
 after_next limit old r h up = (
   suc h.0,
   ap (next limit) h.1 ∙ (λ i. record old {
-    system = sym (laws.repeat-last (whole.before (machine user_rows) (round old.accounts) limit) (theory.next (machine user_rows) (round old.accounts) limit) (whole.measure (machine user_rows) (round old.accounts) limit) (ending.falls (machine user_rows) (round old.accounts) (ends old.accounts) limit) h.0 old.system
-        (ap (λ (q : Run). whole.before (machine user_rows) (round old.accounts) limit q.system) (sym h.1) ∙ lt-ltb r.system.clock limit up)) i;
+    system = sym (laws.repeat-last (whole.before (machine user_rows) (round old.swap old.accounts) limit) (theory.next (machine user_rows) (round old.swap old.accounts) limit) (whole.measure (machine user_rows) (round old.swap old.accounts) limit) (ending.falls (machine user_rows) (round old.swap old.accounts) (ends old.swap old.accounts) limit) h.0 old.system
+        (ap (λ (q : Run). whole.before (machine user_rows) (round old.swap old.accounts) limit q.system) (sym h.1) ∙ lt-ltb r.system.clock limit up)) i;
   }),
 )
 

@@ -17,8 +17,9 @@ use Rattle.user_model.specs.User.{User, typed, opened, cut, can_step, step, endi
 use Rattle.system_model.specs.Round.{round, asked, check, account_in, account_with, password_by}
 use Rattle.ctss_types.specs.Words.{words_of}
 use Rattle.ctss_types.specs.declared.script.Account.{Account}
-use Rattle.system_model.proofs.CaseLaws.{next_due, taken_at, off_dials, off_types, off_quits, off_hangs, on_dials, on_no_name, on_name, on_quits, on_hangs, asked_dials, wrong_word, already_on, logs_in, asked_quits, asked_hangs, in_dials, in_types, in_spends, in_quits, in_hangs, idles, preempts_none, begins, goes_on, preempts, attended_steps, attended_waits}
-use Rattle.system_model.specs.Cases.{user_at, heard, line_taken, quit_taken, hang_taken, spent_taken, cut_taken, login_taken, dial_taken, idled, served, stepped, waited, not_served}
+use Rattle.system_model.proofs.CaseLaws.{next_due, taken_at, off_dials, off_types, off_quits, off_hangs, on_dials, on_no_name, on_name, on_quits, on_hangs, asked_dials, wrong_word, already_on, logs_in, asked_quits, asked_hangs, in_dials, in_types, in_spends, in_quits, in_hangs, idles, preempts_none, begins, goes_on, preempts, attended_loads, attended_steps, attended_waits}
+use Rattle.plan_model.specs.Plan.{must_load}
+use Rattle.system_model.specs.Cases.{brought, levels_after, user_at, heard, line_taken, quit_taken, hang_taken, spent_taken, cut_taken, login_taken, dial_taken, idled, served, stepped, waited, not_served}
 use Rattle.system_model.specs.Sound.{Sound, IsUser, HasSeat}
 
 first_holds : (rows : List (List Waiting)) (l m : ℕ) (x : Waiting) → first_of l rows ≡ Some (m, x) → is_in x.user rows ≡ true
@@ -29,9 +30,9 @@ first_holds ((y ∷ row) ∷ rows) l m x h =
     let t : nat_eq y.user x.user ≡ true = grind (arith, nat_tests) in
     ap (λ (b : Bool). (b || list_any (is_user x.user) row) || is_in x.user rows) t
 
-pub first_user : (r : Run) (m : ℕ) (x : Waiting) → Sound r → chosen r.system.plan ≡ Some (m, x) → IsUser x.user r
+pub first_user : (r : Run) (m : ℕ) (x : Waiting) → Sound r → chosen r.system.plan.levels ≡ Some (m, x) → IsUser x.user r
 unfolding chosen waits
-first_user r m x sound h = sound.queued x.user (first_holds r.system.plan.rows 0 m x h)
+first_user r m x sound h = sound.queued x.user (first_holds r.system.plan.levels.rows 0 m x h)
 
 pub seat_user : (r : Run) (k u : ℕ) (d : Console) → Sound r → k < length r.system.consoles → Session u ≡ get_or r.system.consoles k d → IsUser u r
 seat_user r k u d sound h e = sound.sits k u (sym (e ∙ any_default r.system.consoles k d Off h))
@@ -151,28 +152,28 @@ again_user : (b : Bool) (u : ℕ) (q : Levels) (v : ℕ) → waits v (entered_ag
 again_user false u q v h = inr (dropped_user u q v h)
 again_user true u q v h = entered_user command_blocks u q v h
 
-left_user : (r : Run) (o : Option Cause) (u : ℕ) (p : User) (q : Levels) (t v : ℕ) → waits v (theory.plan_after (machine user_rows) (round r.accounts) q u o p t) ≡ true → (u ≡ v) ⊎ (waits v q ≡ true)
-left_user r None u p q t v h = inr h
-left_user r (Some Time) u p q t v h = inr h
-left_user r (Some Wait) u p q t v h = inr (dropped_user u q v h)
-left_user r (Some Stop) u p q t v h = again_user (some_line p.unread) u q v h
-left_user r (Some Size) u p q t v h = entered_user (blocks_of p.inner) u q v h
-left_user r (Some Preempt) u p q t v h = inr h
-left_user r (Some AtEnd) u p q t v h = inr h
+left_user : (o : Option Cause) (u : ℕ) (p : User) (q : Levels) (v : ℕ) → waits v (levels_after o u p q) ≡ true → (u ≡ v) ⊎ (waits v q ≡ true)
+left_user None u p q v h = inr h
+left_user (Some Time) u p q v h = inr h
+left_user (Some Wait) u p q v h = inr (dropped_user u q v h)
+left_user (Some Stop) u p q v h = again_user (some_line p.unread) u q v h
+left_user (Some Size) u p q v h = entered_user (blocks_of p.inner) u q v h
+left_user (Some Preempt) u p q v h = inr h
+left_user (Some AtEnd) u p q v h = inr h
 
 -- a state with as many users and consoles, and the same accounts
-record Alike (r s : Run) : Type 0 where
-  users : length s.system.users ≡ length r.system.users
-  accounts : s.accounts ≡ r.accounts
-  consoles : length s.system.consoles ≡ length r.system.consoles
+pub record Alike (r s : Run) : Type 0 where
+  pub users : length s.system.users ≡ length r.system.users
+  pub accounts : s.accounts ≡ r.accounts
+  pub consoles : length s.system.consoles ≡ length r.system.consoles
 
-user_too : (r s : Run) (u : ℕ) → Alike r s → IsUser u r → IsUser u s
+pub user_too : (r s : Run) (u : ℕ) → Alike r s → IsUser u r → IsUser u s
 user_too r s u same h = let e = same.users in let a = h.some in let b = h.within in record { some = a; within = omega (arith, e, b) }
 
 seat_too : (r s : Run) → Alike r s → (x : Timed) → HasSeat x r → HasSeat x s
 seat_too r s same x h = let e = same.consoles in let a = h.some in let b = h.within in record { some = a; within = omega (arith, e, b) }
 
-seats_too : (r s : Run) (es : List Timed) → Alike r s → All (λ (x : Timed). HasSeat x r) es → All (λ (x : Timed). HasSeat x s) es
+pub seats_too : (r s : Run) (es : List Timed) → Alike r s → All (λ (x : Timed). HasSeat x r) es → All (λ (x : Timed). HasSeat x s) es
 seats_too r s es same h = All-weaker (λ (x : Timed). HasSeat x r) (λ (x : Timed). HasSeat x s) (seat_too r s same) es h
 
 -- users and consoles that may have changed, and the rest as it was
@@ -180,7 +181,7 @@ sound_by : (r s : Run) → Alike r s → Sound r
     → All (λ (x : Timed). HasSeat x r) s.system.events
     → ((k u : ℕ) → get_or s.system.consoles k Off ≡ Session u → IsUser u r)
     → ((v : Service) → s.system.service ≡ Some v → IsUser v.user r × (v.ran ≤ s.system.clock))
-    → ((u : ℕ) → waits u s.system.plan ≡ true → IsUser u r)
+    → ((u : ℕ) → waits u s.system.plan.levels ≡ true → IsUser u r)
     → ((k : ℕ) → (get_or s.system.users k nobody).own ≤ s.system.clock)
     → Sound s
 sound_by r s same sound events sits serves queued owns =
@@ -224,7 +225,7 @@ sound_line c u l r sound who =
     sound_by r (line_taken c u l r) (record { users = length-set _ _ _; accounts = refl; consoles = refl }) sound (seats_left r sound)
     sound.sits
     (still r sound)
-    (λ v h. elim (wakes_user command_blocks u r.system.plan v h) [ inl e ↦ subst (λ (w : ℕ). IsUser w r) e who | inr k ↦ sound.queued v k ])
+    (λ v h. elim (wakes_user _ u r.system.plan.levels v h) [ inl e ↦ subst (λ (w : ℕ). IsUser w r) e who | inr k ↦ sound.queued v k ])
     (put_own r u r.system.clock _ (sound.owns (u - 1)) sound.owns)
 
 pub sound_quit : (c u : ℕ) (r : Run) → Sound r → Sound (quit_taken c u r)
@@ -232,7 +233,7 @@ unfolding quit_taken cut
 sound_quit c u r sound =
     sound_by r (quit_taken c u r) (record { users = length-set _ _ _; accounts = refl; consoles = refl }) sound (seats_left r sound)
     sound.sits (not_still r u sound)
-    (λ v h. sound.queued v (dropped_user u r.system.plan v h))
+    (λ v h. sound.queued v (dropped_user u r.system.plan.levels v h))
     (put_own r u r.system.clock _ (sound.owns (u - 1)) sound.owns)
 
 pub sound_hang : (c u : ℕ) (r : Run) → Sound r → Sound (hang_taken c u r)
@@ -241,7 +242,7 @@ sound_hang c u r sound =
     sound_by r (hang_taken c u r) (record { users = length-set _ _ _; accounts = refl; consoles = simp (length-set, length-map) }) sound (seats_left r sound)
     (λ k v. get-set (λ (x : Console). x ≡ Session v → IsUser v r) (without u r.system.consoles) (c - 1) k Off Off (λ e. cc) (λ e. sound.sits k v (get-map u k v r.system.consoles e)))
     (not_still r u sound)
-    (λ v h. sound.queued v (dropped_user u r.system.plan v h))
+    (λ v h. sound.queued v (dropped_user u r.system.plan.levels v h))
     (put_own r u r.system.clock _ (sound.owns (u - 1)) sound.owns)
 
 pub sound_spent : (c u : ℕ) (r : Run) → Sound r → Sound (spent_taken c u r)
@@ -250,7 +251,7 @@ sound_spent c u r sound =
     sound_by r (spent_taken c u r) (record { users = length-set _ _ _; accounts = refl; consoles = simp length-map }) sound (seats_left r sound)
     (λ k v e. sound.sits k v (get-map u k v r.system.consoles e))
     (not_still r u sound)
-    (λ v h. sound.queued v (dropped_user u r.system.plan v h))
+    (λ v h. sound.queued v (dropped_user u r.system.plan.levels v h))
     (put_own r u r.system.clock _ (sound.owns (u - 1)) sound.owns)
 
 pub sound_login : (c u : ℕ) (r : Run) → Sound r → IsUser u r → Sound (login_taken c u r)
@@ -290,15 +291,15 @@ sound_idled limit r sound on =
     (λ k. let h = sound.owns k in omega (arith, h, on))
 
 -- a charged user and the others in the queues are users
-queued_charged : (v : Service) (r : Run) (u : ℕ) → Sound r → IsUser v.user r → waits u (charged v.user r.system.plan) ≡ true → IsUser u r
-queued_charged v r u sound who h = elim (charged_user v.user r.system.plan u h) [ inl e ↦ subst (λ (w : ℕ). IsUser w r) e who | inr k ↦ sound.queued u k ]
+queued_charged : (v : Service) (r : Run) (u : ℕ) → Sound r → IsUser v.user r → waits u (charged v.user r.system.plan.levels) ≡ true → IsUser u r
+queued_charged v r u sound who h = elim (charged_user v.user r.system.plan.levels u h) [ inl e ↦ subst (λ (w : ℕ). IsUser w r) e who | inr k ↦ sound.queued u k ]
 
 pub sound_waited : (v : Service) (r : Run) → Sound r → IsUser v.user r → Sound (waited v r)
 unfolding waited
 sound_waited v r sound who =
     sound_by r (waited v r) (record { users = refl; accounts = refl; consoles = refl }) sound sound.seats
     sound.sits (λ w h. cc)
-    (λ u h. queued_charged v r u sound who (dropped_user v.user (charged v.user r.system.plan) u h))
+    (λ u h. queued_charged v r u sound who (dropped_user v.user (charged v.user r.system.plan.levels) u h))
     (λ k. let h = sound.owns k in omega (arith, h))
 
 behind_service : (v : Service) (o : Option Cause) (w : Service) → service_after v o ≡ Some w → (v.user ≡ w.user) × (suc v.ran ≡ w.ran)
@@ -325,7 +326,7 @@ sound_stepped v r sound who ran =
     sound_by r (stepped v r) (record { users = length-set _ _ _; accounts = refl; consoles = as_many _ v.user r.system.consoles }) sound sound.seats
     (λ k u h. left_seats r _ v.user k u sound h)
     (λ w h. let e = behind_service v _ w h in (subst (λ (u : ℕ). IsUser u r) e.0 who, (let f = e.1 in omega (arith, f, ran))))
-    (λ u h. elim (left_user r (theory.cause_of (ending r.system.clock (user_at v.user r.system.users)) (has_time r.system.plan)) v.user (step r.system.clock (user_at v.user r.system.users)) (charged v.user r.system.plan) (suc r.system.clock) u h)
+    (λ u h. elim (left_user (theory.cause_of (ending r.system.clock (user_at v.user r.system.users)) (has_time r.system.plan.levels)) v.user (step r.system.clock (user_at v.user r.system.users)) (charged v.user r.system.plan.levels) u h)
     [ inl e ↦ subst (λ (w : ℕ). IsUser w r) e who | inr k ↦ queued_charged v r u sound who k ])
     (put_own r v.user (suc r.system.clock) _ (let h = sound.owns (v.user - 1) in omega (arith, h)) (λ k. let h = sound.owns k in omega (arith, h)))
 
@@ -381,6 +382,12 @@ checked_user accounts name word u h = by_password (password_by (words_of word)) 
     by_password None h = cc
     by_password (Some password) h = account_user 1 accounts name password u h
 
+pub checked_is_user : (name : ℕ) (word : Line) (u : ℕ) (r : Run) → Sound r → check r.accounts name word ≡ Some u → IsUser u r
+checked_is_user name word u r sound e =
+    let p = checked_user r.accounts name word u e in
+    let a = p.0 in let b = p.1 in let d = sound.accounts in
+    record { some = omega (arith, a); within = omega (arith, b, d) }
+
 pub sound_asked : (c : ℕ) (name : ℕ) (e : Event) (r : Run) → 0 < c → Sound r → Sound (at_console c (Password name) e r)
 sound_asked c name Dials r h sound = subst Sound (sym (asked_dials c name r h)) (sound_heard c DialTaken (Password name) [] r sound (λ u e. cc))
 sound_asked c name Quits r h sound = subst Sound (sym (asked_quits c name r h)) (sound_heard c QuitTaken On [] r sound (λ u e. cc))
@@ -413,28 +420,39 @@ sound_at c (Session u) e r h who sound = sound_in c u e r h (who u refl) sound
 pub sound_taken : (e : Timed) (r : Run) → HasSeat e r → Sound r → Sound (taken e r)
 sound_taken e r seat sound = subst Sound (sym (taken_at e r seat.some)) (sound_at e.console (get_or r.system.consoles (e.console - 1) Off) e.event r seat.some (sound.sits (e.console - 1)) sound)
 
+pub sound_brought : (u : ℕ) (r : Run) → Sound r → Sound (brought u r)
+unfolding brought
+sound_brought u r sound =
+    sound_by r (brought u r) (record { users = refl; accounts = refl; consoles = refl }) sound sound.seats
+    sound.sits (λ v h. let k = sound.ran v h in (sound.served v h, omega (arith, k))) sound.queued
+    (λ k. let h = sound.owns k in omega (arith, h))
+
 pub sound_attended : (v : Service) (r : Run) → Sound r → IsUser v.user r → v.ran ≤ r.system.clock → Sound (attended v r)
-sound_attended v r sound who ran = by_test (can_step (user_at v.user r.system.users)) refl
+sound_attended v r sound who ran = by_load (must_load r.system.plan v.user (blocks_of (user_at v.user r.system.users).inner)) refl
   where
-    by_test : (b : Bool) → can_step (user_at v.user r.system.users) ≡ b → Sound (attended v r)
-    by_test true e = subst Sound (sym (attended_steps v r who.some e)) (sound_stepped v r sound who ran)
-    by_test false e = subst Sound (sym (attended_waits v r who.some e)) (sound_waited v r sound who)
+    by_step : (b : Bool) → must_load r.system.plan v.user (blocks_of (user_at v.user r.system.users).inner) ≡ false → can_step (user_at v.user r.system.users) ≡ b → Sound (attended v r)
+    by_step true m e = subst Sound (sym (attended_steps v r who.some m e)) (sound_stepped v r sound who ran)
+    by_step false m e = subst Sound (sym (attended_waits v r who.some m e)) (sound_waited v r sound who)
+
+    by_load : (b : Bool) → must_load r.system.plan v.user (blocks_of (user_at v.user r.system.users).inner) ≡ b → Sound (attended v r)
+    by_load true m = subst Sound (sym (attended_loads v r who.some m)) (sound_brought v.user r sound)
+    by_load false m = by_step (can_step (user_at v.user r.system.users)) m refl
 
 -- the user that comes first
-first_chosen : (r : Run) (u : ℕ) → Sound r → user_of (chosen r.system.plan) ≡ Some u → IsUser u r
-first_chosen r u sound h = by_first (chosen r.system.plan) refl h
+first_chosen : (r : Run) (u : ℕ) → Sound r → user_of (chosen r.system.plan.levels) ≡ Some u → IsUser u r
+first_chosen r u sound h = by_first (chosen r.system.plan.levels) refl h
   where
-    by_first : (o : Option (ℕ × Waiting)) → chosen r.system.plan ≡ o → user_of o ≡ Some u → IsUser u r
+    by_first : (o : Option (ℕ × Waiting)) → chosen r.system.plan.levels ≡ o → user_of o ≡ Some u → IsUser u r
     by_first None e h = cc
     by_first (Some x) e h = let p : (x.1).user ≡ u = cc in subst (λ (w : ℕ). IsUser w r) p (first_user r x.0 x.1 sound e)
 
-pub sound_otherwise : (limit : ℕ) (r : Run) → r.system.clock ≤ next_tick limit r.system.events → Sound r → Sound (otherwise limit (user_of (chosen r.system.plan)) r.system.service r)
-sound_otherwise limit r on sound = by_both (user_of (chosen r.system.plan)) r.system.service refl refl
+pub sound_otherwise : (limit : ℕ) (r : Run) → r.system.clock ≤ next_tick limit r.system.events → Sound r → Sound (otherwise limit (user_of (chosen r.system.plan.levels)) r.system.service r)
+sound_otherwise limit r on sound = by_both (user_of (chosen r.system.plan.levels)) r.system.service refl refl
   where
-    by_both : (o : Option ℕ) (v : Option Service) → user_of (chosen r.system.plan) ≡ o → r.system.service ≡ v → Sound (otherwise limit o v r)
+    by_both : (o : Option ℕ) (v : Option Service) → user_of (chosen r.system.plan.levels) ≡ o → r.system.service ≡ v → Sound (otherwise limit o v r)
     by_both None None a b = subst Sound (sym (idles limit r)) (sound_idled limit r sound on)
     by_both None (Some v) a b = subst Sound (sym (preempts_none limit v r)) (sound_served Preempt v r sound)
-    by_both (Some u) None a b = subst Sound (sym (begins limit u r)) (sound_attended (record { tick = r.system.clock; user = u; level = level_in (chosen r.system.plan); ran = 0 }) r sound (first_chosen r u sound a) (omega arith))
+    by_both (Some u) None a b = subst Sound (sym (begins limit u r)) (sound_attended (record { tick = r.system.clock; user = u; level = level_in (chosen r.system.plan.levels); ran = 0 }) r sound (first_chosen r u sound a) (omega arith))
     by_both (Some u) (Some v) a b = elim (same_or_not v.user u) [ inl e ↦ subst Sound (sym (goes_on limit u v r e)) (sound_attended v r sound (sound.served v b) (sound.ran v b)) | inr n ↦ subst Sound (sym (preempts limit u v r n)) (sound_served Preempt v r sound) ]
 
 pub sound_next : (limit : ℕ) (r : Run) → r.system.clock < limit → Sound r → Sound (next limit r)

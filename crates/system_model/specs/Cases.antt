@@ -2,12 +2,14 @@
 use Rattle.std.specs.Prelude.{ℕ, suc, ◌+◌, ◌-◌, Bool, true, false, if◌then◌else◌, nat_eq, List, [], ◌∷◌, ◌++◌, Option, Some, None, drop, set, get_or}
 use Rattle.time_sharing.specs.Machine.{Line, CutKind, Quit, Hang, Spent, Ending}
 use Rattle.time_sharing.specs.Rows.{machine}
-use Rattle.time_sharing.specs.System.{SystemState, Timed, Service, Console, Session, Entry, Taken, Login, Idle, Serve, EventKind, LineTaken, DialTaken, kind_of, Cause, Stop, Wait, AtEnd, without, Off, consoles_after, cause_of, service_after, service_entry, clock_entry, next_tick}
+use Rattle.time_sharing.specs.System.{SystemState, Timed, Service, Console, Session, Entry, Taken, Login, Idle, Swap, Serve, EventKind, LineTaken, DialTaken, kind_of, Cause, Stop, Wait, AtEnd, without, Off, consoles_after, cause_of, service_after, service_entry, clock_entry, next_tick}
 use Rattle.user_model.specs.Session.{user_rows, nobody}
+use Rattle.user_model.specs.Inner.{blocks_of}
 use Rattle.user_model.specs.User.{User, typed, opened, cut, can_step, step, ending, asks_clock}
-use Rattle.plan_model.specs.Levels.{Levels, chosen, has_time, charged, dropped, woken, command_blocks}
+use Rattle.plan_model.specs.Levels.{Levels, chosen, has_time, charged, dropped, woken}
+use Rattle.plan_model.specs.Plan.{with_load, move_of, places_after, places_cut}
 use Rattle.time_sharing.specs.System as theory
-use Rattle.system_model.specs.Round.{round}
+use Rattle.system_model.specs.Round.{leaves, line_blocks}
 use Rattle.system_model.specs.Run.{Run, State}
 
 abbrev pub user_at : ℕ → List User → User
@@ -51,7 +53,7 @@ line_taken c u l r =
     record r {
       system = record r.system {
         users = with_user u (typed l (user_at u r.system.users)) r.system.users;
-        plan = woken command_blocks u r.system.plan;
+        plan = record r.system.plan { levels = woken (line_blocks (user_at u r.system.users)) u r.system.plan.levels };
         events = drop 1 r.system.events;
         idling = None;
         entries = r.system.entries ++ (idle_notes r.system.idling r.system.clock ++ Taken r.system.clock c LineTaken u (user_at u r.system.users).own ∷ []);
@@ -64,7 +66,7 @@ cut_taken kind c u consoles r =
     record r {
       system = record r.system {
         users = with_user u (cut kind (user_at u r.system.users)) r.system.users;
-        plan = dropped u r.system.plan;
+        plan = record r.system.plan { levels = dropped u r.system.plan.levels; places = places_cut kind u r.system.plan.places };
         consoles = consoles;
         events = drop 1 r.system.events;
         idling = None;
@@ -114,6 +116,24 @@ idled limit r = record r { system = record r.system { clock = next_tick limit r.
 unfoldable pub served : Cause → Service → Run → Run
 served cause v r = record r { system = record r.system { service = None; entries = r.system.entries ++ Serve v.tick v.user v.level v.ran cause ∷ [] } }
 
+-- the queues behind a step that ends a service by this cause, if any
+abbrev pub levels_after : Option Cause → ℕ → User → Levels → Levels
+levels_after None u p q = q
+levels_after (Some cause) u p q = leaves q u cause p
+
+-- a user's blocks are brought into core
+unfoldable pub brought : ℕ → Run → Run
+brought u r =
+    let n = blocks_of (user_at u r.system.users).inner in
+    let o = move_of r.swap r.system.plan.places u n in
+    record r {
+      system = record r.system {
+        plan = with_load r.system.plan u n;
+        clock = r.system.clock + o.ticks;
+        entries = r.system.entries ++ Swap r.system.clock u o.dumped o.read o.fresh ∷ [];
+      };
+    }
+
 -- a user step that ends a service by this cause, if any
 abbrev pub stepped_by : Option Cause → Service → Run → Run
 stepped_by cause v r =
@@ -121,7 +141,10 @@ stepped_by cause v r =
     record r {
       system = record r.system {
         users = with_user v.user (step r.system.clock p) r.system.users;
-        plan = theory.plan_after (machine user_rows) (round r.accounts) (charged v.user r.system.plan) v.user cause (step r.system.clock p) (suc r.system.clock);
+        plan = record {
+          levels = levels_after cause v.user (step r.system.clock p) (charged v.user r.system.plan.levels);
+          places = places_after (ending r.system.clock p) v.user (blocks_of (step r.system.clock p).inner) r.system.plan.places;
+        };
         consoles = consoles_after (ending r.system.clock p) v.user r.system.consoles;
         clock = suc r.system.clock;
         service = service_after v cause;
@@ -130,14 +153,14 @@ stepped_by cause v r =
     }
 
 unfoldable pub stepped : Service → Run → Run
-stepped v r = stepped_by (cause_of (ending r.system.clock (user_at v.user r.system.users)) (has_time r.system.plan)) v r
+stepped v r = stepped_by (cause_of (ending r.system.clock (user_at v.user r.system.users)) (has_time r.system.plan.levels)) v r
 
 -- a chosen user that can't step
 unfoldable pub waited : Service → Run → Run
 waited v r =
     record r {
       system = record r.system {
-        plan = dropped v.user (charged v.user r.system.plan);
+        plan = record r.system.plan { levels = dropped v.user (charged v.user r.system.plan.levels) };
         clock = suc r.system.clock;
         service = None;
         entries = r.system.entries ++ Serve v.tick v.user v.level (suc v.ran) Wait ∷ [];

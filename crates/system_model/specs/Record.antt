@@ -11,13 +11,10 @@ use Rattle.time_sharing.specs.Rows.{machine}
 use Rattle.time_sharing.specs.Record as whole
 use Rattle.user_model.specs.Session.{user_rows, first_state, no_account}
 use Rattle.user_model.specs.User.{User}
-use Rattle.plan_model.specs.Levels.{empty_levels}
+use Rattle.plan_model.specs.Plan.{first_plan}
+use Rattle.file_model.specs.Owned.{files_of}
 use Rattle.system_model.specs.Round.{round}
 use Rattle.system_model.specs.Run.{Run, run_to, ended}
-
--- the first files of a user, in the order of the script
-abbrev pub files_of : ℕ → List OwnedFile → List FileBody
-files_of u owned = map (λ f. f.body) (filter (λ f. nat_eq f.owner u) owned)
 
 -- the users of the accounts, numbered from u on
 abbrev pub users_from : ℕ → List Account → List OwnedFile → List User
@@ -31,8 +28,9 @@ consoles = 32
 unfoldable pub start_of : Script → Run
 start_of script =
     record {
+      swap = script.params.swap;
       accounts = script.accounts;
-      system = whole.start (machine user_rows) (round script.accounts) (users_from 1 script.accounts script.files) [] (empty_levels script.params.wq script.params.quantum) consoles script.events;
+      system = whole.start (machine user_rows) (round script.params.swap script.accounts) (users_from 1 script.accounts script.files) [] (first_plan script.params.wq script.params.quantum) consoles script.events;
     }
 
 -- what a run leaves

@@ -1,4 +1,4 @@
--- What is round the users: the queues, the logins, the common files.
+-- What is round the users: the queues, the loads, the logins, the common files.
 use Rattle.std.specs.Prelude.{ℕ, suc, Bool, true, false, if◌then◌else◌, ◌&&◌, nat_eq, nat_le, List, [], ◌∷◌, Option, Some, None, bytes_eq, codes, length}
 use Rattle.ctss_types.specs.declared.script.Account.{Account}
 use Rattle.ctss_types.specs.declared.file.FileBody.{FileBody}
@@ -7,18 +7,23 @@ use Rattle.time_sharing.specs.Machine.{Line, CutKind, Done}
 use Rattle.time_sharing.specs.Rows.{some_line}
 use Rattle.time_sharing.specs.System.{World, Cause, Time, Wait, Stop, Size, Preempt, AtEnd}
 use Rattle.user_model.specs.Inner.{Inner, blocks_of}
-use Rattle.user_model.specs.Session.{nobody}
+use Rattle.user_model.specs.Session.{nobody, is_command_in}
 use Rattle.user_model.specs.User.{User}
 use Rattle.plan_model.specs.Levels.{Levels, chosen, user_of, level_in, has_time, charged, dropped, woken, entered, entered_again, command_blocks}
+use Rattle.plan_model.specs.Plan.{Plan, must_load, with_load, move_of, places_after, places_cut}
 
 -- where a user goes whose service has ended; at the end of its time it has sunk already
-abbrev pub leaves : Levels → ℕ → Cause → User → ℕ → Levels
-leaves q u Time p now = q
-leaves q u Wait p now = dropped u q
-leaves q u Stop p now = entered_again (some_line p.unread) u (dropped u q)
-leaves q u Size p now = entered (blocks_of p.inner) u (dropped u q)
-leaves q u Preempt p now = q
-leaves q u AtEnd p now = q
+abbrev pub leaves : Levels → ℕ → Cause → User → Levels
+leaves q u Time p = q
+leaves q u Wait p = dropped u q
+leaves q u Stop p = entered_again (some_line p.unread) u (dropped u q)
+leaves q u Size p = entered (blocks_of p.inner) u (dropped u q)
+leaves q u Preempt p = q
+leaves q u AtEnd p = q
+
+-- as how many blocks a user enters that gets a line: as a command's, or as its program's where that works
+abbrev pub line_blocks : User → ℕ
+line_blocks p = if is_command_in p.inner.state then command_blocks else blocks_of p.inner
 
 -- a word of at most six characters is a name
 abbrev pub name_in : Line → Option ℕ
@@ -53,22 +58,23 @@ password_by (w ∷ x ∷ ws) = None
 unfoldable pub check : List Account → ℕ → Line → Option ℕ
 check accounts name l = account_with accounts name (password_by (words_of l))
 
--- no program runs yet, so nothing is loaded, and no step makes a common operation
-abbrev pub round : List Account → World User Levels (List FileBody)
-round accounts =
+-- the queues, the blocks in core and on the drum, a move of which costs so many ticks a block, and the accounts; no step makes
+-- a common operation yet
+abbrev pub round : ℕ → List Account → World User Plan (List FileBody)
+round swap accounts =
     record {
-      choose = λ q. user_of (chosen q);
-      level = λ q u. level_in (chosen q);
-      time_left = λ q u. has_time q;
-      must_load = λ q u p. false;
-      load = λ q u p now. q;
-      move = λ q u p. record { ticks = 0; dumped = 0; read = 0; fresh = 0 };
-      charged = λ q u now. charged u q;
+      choose = λ q. user_of (chosen q.levels);
+      level = λ q u. level_in (chosen q.levels);
+      time_left = λ q u. has_time q.levels;
+      must_load = λ q u p. must_load q u (blocks_of p.inner);
+      load = λ q u p now. with_load q u (blocks_of p.inner);
+      move = λ q u p. move_of swap q.places u (blocks_of p.inner);
+      charged = λ q u now. record q { levels = charged u q.levels };
       preempted = λ q u now. q;
-      leaves = leaves;
-      gave_up = λ q u p ending now. q;
-      line_came = λ q u was p now. woken command_blocks u q;
-      cut_came = λ q u kind p now. dropped u q;
+      leaves = λ q u cause p now. record q { levels = leaves q.levels u cause p };
+      gave_up = λ q u p ending now. record q { places = places_after ending u (blocks_of p.inner) q.places };
+      line_came = λ q u was p now. record q { levels = woken (line_blocks was) u q.levels };
+      cut_came = λ q u kind p now. record q { levels = dropped u q.levels; places = places_cut kind u q.places };
       files_after = λ f op. f;
       reply_to = λ f op. Done;
       asked = asked;

@@ -21,5 +21,5 @@ pub record Sound (r : Run) : Type 0 where
   pub sits : (k u : ℕ) → get_or r.system.consoles k Off ≡ Session u → IsUser u r
   pub served : (v : Service) → r.system.service ≡ Some v → IsUser v.user r
   pub ran : (v : Service) → r.system.service ≡ Some v → v.ran ≤ r.system.clock
-  pub queued : (u : ℕ) → waits u r.system.plan ≡ true → IsUser u r
+  pub queued : (u : ℕ) → waits u r.system.plan.levels ≡ true → IsUser u r
   pub owns : (k : ℕ) → (get_or r.system.users k nobody).own ≤ r.system.clock

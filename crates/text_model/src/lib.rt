@@ -5,13 +5,13 @@
 #![tactic(auto)]
 
 ghost use Rattle.text_model.specs.Reading.{ScriptsAreInRange};
-ghost use Rattle.text_model.specs.Rows.{RowOfScript, RowOfRefusals, RowOfReport};
+ghost use Rattle.text_model.specs.Rows.{RowOfScript, RowOfRefusals, RowOfFile, RowOfFileRefusals, RowOfTrack, RowOfReport};
 
 mod mode;
 
 pub use mode::Mode;
 
-/// Every script that is read has its numbers in range, and no first files yet.
+/// Every script that is read has its numbers in range, and its files fit their accounts.
 pub fn scripts_are_in_range()
     ensures { ScriptsAreInRange }
 {}
@@ -26,6 +26,24 @@ pub fn row_of_script()
 #[tactic(auto, using(crate::proofs::RowsComputed::row_of_refusals))]
 pub fn row_of_refusals()
     ensures { RowOfRefusals }
+{}
+
+/// The cards of a file, written and read.
+#[tactic(auto, using(crate::proofs::RowsComputed::row_of_file))]
+pub fn row_of_file()
+    ensures { RowOfFile }
+{}
+
+/// Files that their account doesn't take, and cards of words that are none.
+#[tactic(auto, using(crate::proofs::RowsComputed::row_of_file_refusals))]
+pub fn row_of_file_refusals()
+    ensures { RowOfFileRefusals }
+{}
+
+/// The last word of a track.
+#[tactic(auto, using(crate::proofs::RowsComputed::row_of_track))]
+pub fn row_of_track()
+    ensures { RowOfTrack }
 {}
 
 /// The report of a record.

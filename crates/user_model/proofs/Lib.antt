@@ -1,1 +1,4 @@
 pub mod StepLaws
+pub mod CoreLaws
+pub mod TurnLaws
+pub mod WentLaws

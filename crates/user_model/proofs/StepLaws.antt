@@ -1,140 +1,311 @@
--- What a step is, command by command.
-use Rattle.std.proofs.Common.{◌≡◌, ◌≢◌, ℕ, suc, ◌-◌, Bool, true, false, not, ◌&&◌, ◌||◌, cond, List, [], ◌∷◌, ◌++◌, codes, drop, Some, refl, sym, ap, ◌∙◌, arith}
-use Rattle.std.specs.Prelude.{slice_get}
-use Rattle.time_sharing.specs.Machine.{Line, In, Out, Ending, Stopped, LoggedOut}
-use Rattle.time_sharing.specs.Rows.{Outcome, some_line, is_logout, out_all, done}
+-- What a step is: a command's, a fill, a program's.
+use Rattle.std.proofs.Common.{◌≡◌, ℕ, suc, ◌-◌, ◌+◌, Bool, true, false, not, ◌&&◌, ◌||◌, cond, List, [], ◌∷◌, ◌++◌, length, Option, Some, None, Ok, Err, refl, sym, ap, ◌∙◌, zero-add, arith}
+use Rattle.std.specs.Prelude.{slice_get, if◌then◌else◌, nat_eq, nat_lt, zero}
+use Rattle.std.specs.declared.result.Result.{Result}
+use Rattle.time_sharing.specs.Machine.{Line, Item, Ending, Went, Stopped, Resized, Replaced, LoggedOut, Done}
+use Rattle.time_sharing.specs.Rows.{Outcome, some_line, is_logout, out_all, in_line, behind, one_less, first_line, line_of, before_of, done}
+use Rattle.time_sharing.specs.System.{clock_for}
 use Rattle.ctss_types.specs.declared.session.Command.{Command}
-use Rattle.ctss_types.specs.declared.session.Command.TheVariants.{Empty, Logout, BadArguments, Unknown}
-use Rattle.user_model.specs.Inner.{Inner, lasting}
-use Rattle.user_model.specs.Texts.{time_text, ready_text, logged_out_text}
-use Rattle.user_model.specs.Commands.{command_of, command_row}
-use Rattle.user_model.specs.Session.{user_rows}
+use Rattle.ctss_types.specs.declared.session.Command.TheVariants.{Empty, Logout, LoadGo, BadArguments, Unknown}
+use Rattle.file_model.specs.Files.{got}
+use Rattle.machine_model.specs.Step.{Step, went, halt, entry, illegal, outside}
+use Rattle.machine_model.specs.Machine.{table}
+use Rattle.program_model.specs.declared.Call.{Call}
+use Rattle.program_model.specs.declared.Call.TheVariants.{ReadLine, WriteLine, GetTime, GetMemory, SetMemory, Dead as EndsDead, Dormant as EndsDormant}
+use Rattle.program_model.specs.declared.EntryFault.{EntryFault}
+use Rattle.program_model.specs.declared.EntryFault.TheVariants.{NoSuchEntry, Outside}
+use Rattle.program_model.specs.declared.LoadFault.{LoadFault}
+use Rattle.program_model.specs.declared.Deck.{Deck}
+use Rattle.program_model.specs.declared.Fill.{Fill}
+use Rattle.program_model.specs.declared.ProgramState.{ProgramState}
+use Rattle.program_model.specs.declared.ProgramState.TheVariants.{Dead, Dormant, Working}
+use Rattle.program_model.specs.Calls.{call_of, is_line_count}
+use Rattle.program_model.specs.Decks.{deck_of, deck_name}
+use Rattle.user_model.specs.Inner.{Inner}
+use Rattle.user_model.specs.Commands.{command_of, command_row, prepared}
+use Rattle.user_model.specs.Programs.{step_row, entry_row, call_row, read_line, set_memory, program_row, program_reads, program_asks, reads_line, is_read, is_clock, asks_time, filled_program, goes}
+use Rattle.user_model.specs.Session.{user_rows, is_command_in, act_in, asks_clock_in, takes_line_in}
 use Rattle.user_model.specs.User.{User, can_step, step, ending, asks_clock}
+use Rattle.user_model.specs.Steps.{left}
 
-both : (a b : Bool) → (a && b) ≡ true → (a ≡ true) × (b ≡ true)
-both true b h = (refl, h)
-both false b h = cc
+-- no row puts lines before the unread ones
 
-on_is : (p : User) → can_step p ≡ true → p.on ≡ true
-unfolding can_step
-on_is p can = (both p.on (some_line p.unread) can).0
+if_front : (b : Bool) (x y : Outcome Inner) → x.front ≡ [] → y.front ≡ [] → (if b then x else y).front ≡ []
+if_front true x y one other = one
+if_front false x y one other = other
 
--- a state with its first line in sight
-shown : User → Line → List Line → User
-shown p l rest = record p { unread = l ∷ rest; given = 0 }
+call_front : (c : Call) (i : Inner) (l : Option Line) (n t : ℕ) → (call_row c i l n t).front ≡ []
+call_front (ReadLine at count) i None n t = if_front (is_line_count count) _ _ refl refl
+call_front (ReadLine at count) i (Some l) n t = if_front (is_line_count count) _ _ refl refl
+call_front (WriteLine at count) i l n t = if_front (is_line_count count) _ _ refl refl
+call_front GetTime i l n t = refl
+call_front GetMemory i l n t = refl
+call_front (SetMemory blocks) i l n t = if_front (nat_eq blocks 0 || nat_lt i.account.blocks blocks) _ _ refl (if_front (nat_eq blocks i.blocks) _ _ refl refl)
+call_front EndsDead i l n t = refl
+call_front EndsDormant i l n t = refl
 
-seen : (p : User) (l : Line) (rest : List Line) → p.unread ≡ l ∷ rest → p.given ≡ 0 → p ≡ shown p l rest
-unfolding shown
-seen p l rest is none = λ j. record p { unread = is j; given = none j }
+entry_front : (call : Result Call EntryFault) (i : Inner) (l : Option Line) (n t : ℕ) → (entry_row call i l n t).front ≡ []
+entry_front (Ok call) i l n t = call_front call i l n t
+entry_front (Err NoSuchEntry) i l n t = refl
+entry_front (Err (Outside a)) i l n t = refl
 
--- what a command leaves
-left_by : Outcome Inner → Line → List Line → User → User
-left_by o l rest p =
-    record p {
+step_front : (s : Step) (i : Inner) (l : Option Line) (n t : ℕ) → (step_row s i l n t).front ≡ []
+step_front (went r core) i l n t = refl
+step_front (halt r core) i l n t = refl
+step_front (entry w) i l n t = entry_front (call_of i.regs i.core w) i l n t
+step_front illegal i l n t = refl
+step_front (outside a) i l n t = refl
+
+program_front : (f : Option Fill) (i : Inner) (l : Option Line) (n t : ℕ) → (program_row f i l n t).front ≡ []
+program_front (Some f) i l n t = refl
+program_front None i l n t = step_front (table i.regs i.core) i l n t
+
+prepared_front : (name : ℕ) (deck : Result Deck LoadFault) (i : Inner) (n t : ℕ) → (prepared name deck i n t).front ≡ []
+prepared_front name (Ok deck) i n t = refl
+prepared_front name (Err fault) i n t = refl
+
+command_front : (c : Command) (i : Inner) (n t : ℕ) → (command_row c i n t).front ≡ []
+command_front Empty i n t = refl
+command_front Logout i n t = refl
+command_front (LoadGo name) i n t = prepared_front name (deck_of i.account.blocks (got (deck_name name) i.files)) i n t
+command_front BadArguments i n t = refl
+command_front Unknown i n t = refl
+
+-- what the frame does with an outcome that puts no lines in front
+frame : (p : User) (line : Option Line) (o : Outcome Inner) → line_of user_rows p ≡ line → o.front ≡ [] → p.given ≡ 0 →
+    done user_rows p o ≡ left (is_command_in p.inner.state) line o p
+unfolding left
+frame p line o is none zero_given =
+    λ j. record p {
       inner = o.inner;
       on = not (is_logout o.ending);
-      unread = cond (is_logout o.ending) [] rest;
-      given = 0;
-      transcript = p.transcript ++ (In l ∷ out_all o.written);
+      unread = if is_logout o.ending then [] else none j ++ behind (is j) p.unread;
+      given = given_is (is_logout o.ending) j;
+      transcript = p.transcript ++ (in_line (is j) ++ out_all o.written);
       own = suc p.own;
-      before = p.own;
+      before = before_of user_rows p;
     }
+  where
+    one_less_none : (l : Option Line) (k : ℕ) → k ≡ 0 → one_less l k ≡ 0
+    one_less_none None k e = e
+    one_less_none (Some l) k e = ap (λ (n : ℕ). n - 1) e
+
+    given_is : (b : Bool) → (if b then 0 else length o.front + one_less (line_of user_rows p) p.given) ≡ 0
+    given_is true = refl
+    given_is false = ap (λ (ls : List Line). length ls + one_less (line_of user_rows p) p.given) none ∙ zero-add (one_less (line_of user_rows p) p.given) ∙ one_less_none (line_of user_rows p) p.given zero_given
+
+-- the clock matters only where it is asked for
+
+call_clock : (c : Call) (i : Inner) (l : Option Line) (n t : ℕ) → call_row c i l n (clock_for (is_clock (Ok c)) t) ≡ call_row c i l n t
+call_clock (ReadLine at count) i l n t = refl
+call_clock (WriteLine at count) i l n t = refl
+call_clock GetTime i l n t = refl
+call_clock GetMemory i l n t = refl
+call_clock (SetMemory blocks) i l n t = refl
+call_clock EndsDead i l n t = refl
+call_clock EndsDormant i l n t = refl
+
+entry_clock : (call : Result Call EntryFault) (i : Inner) (l : Option Line) (n t : ℕ) → entry_row call i l n (clock_for (is_clock call) t) ≡ entry_row call i l n t
+entry_clock (Ok call) i l n t = call_clock call i l n t
+entry_clock (Err NoSuchEntry) i l n t = refl
+entry_clock (Err (Outside a)) i l n t = refl
+
+step_clock : (s : Step) (i : Inner) (l : Option Line) (n t : ℕ) → step_row s i l n (clock_for (asks_time s i) t) ≡ step_row s i l n t
+step_clock (went r core) i l n t = refl
+step_clock (halt r core) i l n t = refl
+step_clock (entry w) i l n t = entry_clock (call_of i.regs i.core w) i l n t
+step_clock illegal i l n t = refl
+step_clock (outside a) i l n t = refl
+
+program_clock : (f : Option Fill) (i : Inner) (l : Option Line) (n t : ℕ) → program_row f i l n (clock_for (program_asks f i) t) ≡ program_row f i l n t
+program_clock (Some f) i l n t = refl
+program_clock None i l n t = step_clock (table i.regs i.core) i l n t
+
+-- commands
 
 first_step : (n : ℕ) → suc n - n ≡ 1
 first_step n = omega arith
 
--- the step, by its command
-row_is : (c : Command) (t : ℕ) (p : User) (l : Line) (rest : List Line) → p.unread ≡ l ∷ rest → p.given ≡ 0 → command_of l ≡ c →
-    step t p ≡ left_by (command_row c p.inner 1 t) l rest p
-unfolding step shown left_by
-row_is c t p l rest is none e =
-    ap (step t) (seen p l rest is none)
-    ∙ ap (λ (d : Command). done user_rows (shown p l rest) (command_row d p.inner (suc p.own - p.own) t)) e
-    ∙ ap (λ (n : ℕ). done user_rows (shown p l rest) (command_row c p.inner n t)) (first_step p.own)
-    ∙ by_case c
-  where
-    by_case : (c : Command) → done user_rows (shown p l rest) (command_row c p.inner 1 t) ≡ left_by (command_row c p.inner 1 t) l rest p
-    by_case Empty = refl
-    by_case Logout = refl
-    by_case BadArguments = refl
-    by_case Unknown = refl
-
--- a command that says some lines and is done
-said : List Line → ℕ → Line → List Line → User → User
-said lines t l rest p =
-    record p { unread = rest; given = 0; transcript = p.transcript ++ (In l ∷ Out (time_text t) ∷ (out_all lines ++ Out (ready_text 1) ∷ [])); own = suc p.own; before = p.own }
-
-stays_on : (lines : List Line) (t : ℕ) (l : Line) (rest : List Line) (p : User) → p.on ≡ true → record (said lines t l rest p) { on = true } ≡ said lines t l rest p
-unfolding said
-stays_on lines t l rest p on = λ j. record (said lines t l rest p) { on = sym on j }
-
-step_empty : (t : ℕ) (p : User) (l : Line) (rest : List Line) → can_step p ≡ true → p.unread ≡ l ∷ rest → p.given ≡ 0 → command_of l ≡ Empty →
-    step t p ≡ record p { unread = rest; given = 0; transcript = p.transcript ++ In l ∷ Out (time_text t) ∷ Out (ready_text 1) ∷ []; own = suc p.own; before = p.own }
-unfolding left_by said
-step_empty t p l rest can is none e = row_is Empty t p l rest is none e ∙ stays_on [] t l rest p (on_is p can)
-
-step_bad : (t : ℕ) (p : User) (l : Line) (rest : List Line) → can_step p ≡ true → p.unread ≡ l ∷ rest → p.given ≡ 0 → command_of l ≡ BadArguments →
-    step t p ≡ record p { unread = rest; given = 0; transcript = p.transcript ++ In l ∷ Out (time_text t) ∷ Out (codes "BAD ARGUMENTS") ∷ Out (ready_text 1) ∷ []; own = suc p.own; before = p.own }
-unfolding left_by said
-step_bad t p l rest can is none e = row_is BadArguments t p l rest is none e ∙ stays_on (codes "BAD ARGUMENTS" ∷ []) t l rest p (on_is p can)
-
-step_unknown : (t : ℕ) (p : User) (l : Line) (rest : List Line) → can_step p ≡ true → p.unread ≡ l ∷ rest → p.given ≡ 0 → command_of l ≡ Unknown →
-    step t p ≡ record p { unread = rest; given = 0; transcript = p.transcript ++ In l ∷ Out (time_text t) ∷ Out (codes "NOT A COMMAND") ∷ Out (ready_text 1) ∷ []; own = suc p.own; before = p.own }
-unfolding left_by said
-step_unknown t p l rest can is none e = row_is Unknown t p l rest is none e ∙ stays_on (codes "NOT A COMMAND" ∷ []) t l rest p (on_is p can)
-
-step_logout : (t : ℕ) (p : User) (l : Line) (rest : List Line) → p.unread ≡ l ∷ rest → p.given ≡ 0 → command_of l ≡ Logout →
-    step t p ≡ record p { inner = record p.inner { files = lasting p.inner.files }; on = false; unread = []; given = 0; transcript = p.transcript ++ In l ∷ Out (time_text t) ∷ Out (logged_out_text p.inner.account.name) ∷ []; own = suc p.own; before = p.own }
-unfolding left_by
-step_logout t p l rest is none e = row_is Logout t p l rest is none e
-
--- how a step with a line ends
-ending_is : (c : Command) (t : ℕ) (p : User) (l : Line) (rest : List Line) → p.unread ≡ l ∷ rest → p.given ≡ 0 → command_of l ≡ c → ending t p ≡ (command_row c p.inner 1 t).ending
-unfolding ending shown
-ending_is c t p l rest is none e =
-    ap (ending t) (seen p l rest is none)
-    ∙ ap (λ (d : Command). (command_row d p.inner (suc p.own - p.own) t).ending) e
-    ∙ ap (λ (n : ℕ). (command_row c p.inner n t).ending) (first_step p.own)
-
-asks_with_line : (p : User) (l : Line) (rest : List Line) → p.unread ≡ l ∷ rest → asks_clock p ≡ true
-unfolding asks_clock
-asks_with_line p l rest is = ap (λ (ls : List Line). asks_clock (record p { unread = ls })) is
-
--- the same by what a look at the unread lines says
-
-front_is : (xs : List Line) (l : Line) → slice_get xs 0 ≡ Some l → xs ≡ l ∷ drop 1 xs
+front_is : (xs : List Line) (l : Line) → slice_get xs 0 ≡ Some l → first_line true xs ≡ Some l
 front_is [] l h = cc
-front_is (x ∷ xs) l h = let e : x ≡ l = cc in ap (λ (y : Line). y ∷ xs) e
+front_is (x ∷ xs) l h = h
 
-pub empty_done : (t : ℕ) (p : User) (l : Line) → can_step p ≡ true → slice_get p.unread 0 ≡ Some l → p.given ≡ 0 → command_of l ≡ Empty →
-    step t p ≡ record p { unread = drop 1 p.unread; given = 0; transcript = p.transcript ++ In l ∷ Out (time_text t) ∷ Out (ready_text 1) ∷ []; own = suc p.own; before = p.own }
-empty_done t p l can is none e = step_empty t p l (drop 1 p.unread) can (front_is p.unread l is) none e
+-- the program's state in sight
+with_state : User → ProgramState → User
+with_state p s = record p { inner = record p.inner { state = s } }
 
-pub bad_done : (t : ℕ) (p : User) (l : Line) → can_step p ≡ true → slice_get p.unread 0 ≡ Some l → p.given ≡ 0 → command_of l ≡ BadArguments →
-    step t p ≡ record p { unread = drop 1 p.unread; given = 0; transcript = p.transcript ++ In l ∷ Out (time_text t) ∷ Out (codes "BAD ARGUMENTS") ∷ Out (ready_text 1) ∷ []; own = suc p.own; before = p.own }
-bad_done t p l can is none e = step_bad t p l (drop 1 p.unread) can (front_is p.unread l is) none e
+line_in_command : (s : ProgramState) (p : User) (l : Line) → is_command_in s ≡ true → slice_get p.unread 0 ≡ Some l → first_line (takes_line_in s p.inner) p.unread ≡ Some l
+line_in_command Dead p l h is = front_is p.unread l is
+line_in_command Dormant p l h is = front_is p.unread l is
+line_in_command Working p l h is = cc
 
-pub unknown_done : (t : ℕ) (p : User) (l : Line) → can_step p ≡ true → slice_get p.unread 0 ≡ Some l → p.given ≡ 0 → command_of l ≡ Unknown →
-    step t p ≡ record p { unread = drop 1 p.unread; given = 0; transcript = p.transcript ++ In l ∷ Out (time_text t) ∷ Out (codes "NOT A COMMAND") ∷ Out (ready_text 1) ∷ []; own = suc p.own; before = p.own }
-unknown_done t p l can is none e = step_unknown t p l (drop 1 p.unread) can (front_is p.unread l is) none e
+act_command : (s : ProgramState) (i : Inner) (c : Command) (l : Line) (n t : ℕ) → is_command_in s ≡ true → command_of l ≡ c →
+    act_in s i (Some l) n (clock_for (asks_clock_in s i (Some l)) t) ≡ command_row c i n t
+act_command Dead i c l n t h e = ap (λ (d : Command). command_row d i n t) e
+act_command Dormant i c l n t h e = ap (λ (d : Command). command_row d i n t) e
+act_command Working i c l n t h e = cc
 
-pub logout_done : (t : ℕ) (p : User) (l : Line) → slice_get p.unread 0 ≡ Some l → p.given ≡ 0 → command_of l ≡ Logout →
-    step t p ≡ record p { inner = record p.inner { files = lasting p.inner.files }; on = false; unread = []; given = 0; transcript = p.transcript ++ In l ∷ Out (time_text t) ∷ Out (logged_out_text p.inner.account.name) ∷ []; own = suc p.own; before = p.own }
-logout_done t p l is none e = step_logout t p l (drop 1 p.unread) (front_is p.unread l is) none e
+since : (b : Bool) (own before : ℕ) → b ≡ true → suc own - (if b then own else before) ≡ 1
+since true own before h = first_step own
+since false own before h = cc
 
-pub empty_ends : (t : ℕ) (p : User) (l : Line) → slice_get p.unread 0 ≡ Some l → p.given ≡ 0 → command_of l ≡ Empty → ending t p ≡ Stopped
-empty_ends t p l is none e = ending_is Empty t p l (drop 1 p.unread) (front_is p.unread l is) none e
+command_outcome : (t : ℕ) (p : User) (l : Line) (c : Command) → is_command_in p.inner.state ≡ true → slice_get p.unread 0 ≡ Some l → command_of l ≡ c →
+    act_in p.inner.state p.inner (line_of user_rows p) (suc p.own - before_of user_rows p) (clock_for (asks_clock_in p.inner.state p.inner (line_of user_rows p)) t) ≡ command_row c p.inner 1 t
+command_outcome t p l c h is e =
+    ap (λ (line : Option Line). act_in p.inner.state p.inner line (suc p.own - before_of user_rows p) (clock_for (asks_clock_in p.inner.state p.inner line) t)) (line_in_command p.inner.state p l h is)
+    ∙ act_command p.inner.state p.inner c l (suc p.own - before_of user_rows p) t h e
+    ∙ ap (λ (n : ℕ). command_row c p.inner n t) (since (is_command_in p.inner.state) p.own p.before h)
 
-pub bad_ends : (t : ℕ) (p : User) (l : Line) → slice_get p.unread 0 ≡ Some l → p.given ≡ 0 → command_of l ≡ BadArguments → ending t p ≡ Stopped
-bad_ends t p l is none e = ending_is BadArguments t p l (drop 1 p.unread) (front_is p.unread l is) none e
+-- a command's step
+pub command_left : (t : ℕ) (p : User) (l : Line) (c : Command) → is_command_in p.inner.state ≡ true → slice_get p.unread 0 ≡ Some l → p.given ≡ 0 → command_of l ≡ c →
+    step t p ≡ left true (Some l) (command_row c p.inner 1 t) p
+unfolding step
+command_left t p l c h is none e =
+    ap (done user_rows p) (command_outcome t p l c h is e)
+    ∙ frame p (Some l) (command_row c p.inner 1 t) (line_in_command p.inner.state p l h is) (command_front c p.inner 1 t) none
+    ∙ ap (λ (b : Bool). left b (Some l) (command_row c p.inner 1 t) p) h
 
-pub unknown_ends : (t : ℕ) (p : User) (l : Line) → slice_get p.unread 0 ≡ Some l → p.given ≡ 0 → command_of l ≡ Unknown → ending t p ≡ Stopped
-unknown_ends t p l is none e = ending_is Unknown t p l (drop 1 p.unread) (front_is p.unread l is) none e
+pub command_ends : (t : ℕ) (p : User) (l : Line) (c : Command) → is_command_in p.inner.state ≡ true → slice_get p.unread 0 ≡ Some l → command_of l ≡ c →
+    ending t p ≡ (command_row c p.inner 1 t).ending
+unfolding ending
+command_ends t p l c h is e = ap (λ (o : Outcome Inner). o.ending) (command_outcome t p l c h is e)
 
-pub logout_ends : (t : ℕ) (p : User) (l : Line) → slice_get p.unread 0 ≡ Some l → p.given ≡ 0 → command_of l ≡ Logout → ending t p ≡ LoggedOut
-logout_ends t p l is none e = ending_is Logout t p l (drop 1 p.unread) (front_is p.unread l is) none e
+asks_in : (s : ProgramState) (i : Inner) (l : Line) → is_command_in s ≡ true → asks_clock_in s i (Some l) ≡ true
+asks_in Dead i l h = refl
+asks_in Dormant i l h = refl
+asks_in Working i l h = cc
 
-pub asks_at : (p : User) (l : Line) → slice_get p.unread 0 ≡ Some l → asks_clock p ≡ true
-asks_at p l is = asks_with_line p l (drop 1 p.unread) (front_is p.unread l is)
+pub command_asks : (p : User) (l : Line) → is_command_in p.inner.state ≡ true → slice_get p.unread 0 ≡ Some l → asks_clock p ≡ true
+unfolding asks_clock
+command_asks p l h is =
+    ap (λ (line : Option Line). asks_clock_in p.inner.state p.inner line) (line_in_command p.inner.state p l h is) ∙ asks_in p.inner.state p.inner l h
 
-pub ruleset command_laws = (empty_done, bad_done, unknown_done, logout_done, empty_ends, bad_ends, unknown_ends, logout_ends, asks_at)
+takes_in : (s : ProgramState) (i : Inner) → is_command_in s ≡ true → takes_line_in s i ≡ true
+takes_in Dead i h = refl
+takes_in Dormant i h = refl
+takes_in Working i h = cc
+
+some_at : (xs : List Line) (l : Line) → slice_get xs 0 ≡ Some l → some_line xs ≡ true
+some_at [] l h = cc
+some_at (x ∷ xs) l h = refl
+
+none_at : (xs : List Line) → slice_get xs 0 ≡ None → some_line xs ≡ false
+none_at [] h = refl
+none_at (x ∷ xs) h = cc
+
+-- a session without a program that works can step where a line is unread
+pub command_can : (p : User) → is_command_in p.inner.state ≡ true → can_step p ≡ (p.on && some_line p.unread)
+unfolding can_step
+command_can p h = ap (λ (b : Bool). p.on && (not b || some_line p.unread)) (takes_in p.inner.state p.inner h)
+
+-- programs
+
+act_program : (s : ProgramState) (i : Inner) (line : Option Line) (n t : ℕ) → is_command_in s ≡ false →
+    act_in s i line n (clock_for (asks_clock_in s i line) t) ≡ program_row i.fill i line n t
+act_program Dead i line n t h = cc
+act_program Dormant i line n t h = cc
+act_program Working i line n t h = program_clock i.fill i line n t
+
+takes_program : (s : ProgramState) (i : Inner) → is_command_in s ≡ false → takes_line_in s i ≡ program_reads i.fill i
+takes_program Dead i h = cc
+takes_program Dormant i h = cc
+takes_program Working i h = refl
+
+asks_program : (s : ProgramState) (i : Inner) (line : Option Line) → is_command_in s ≡ false → asks_clock_in s i line ≡ program_asks i.fill i
+asks_program Dead i line h = cc
+asks_program Dormant i line h = cc
+asks_program Working i line h = refl
+
+-- the line that a program's step takes
+abbrev program_line : User → Option Line
+program_line p = first_line (program_reads p.inner.fill p.inner) p.unread
+
+line_in_program : (p : User) → is_command_in p.inner.state ≡ false → line_of user_rows p ≡ program_line p
+line_in_program p h = ap (λ (b : Bool). first_line b p.unread) (takes_program p.inner.state p.inner h)
+
+since_before : (b : Bool) (own before : ℕ) → b ≡ false → suc own - (if b then own else before) ≡ suc own - before
+since_before true own before h = cc
+since_before false own before h = refl
+
+program_outcome : (t : ℕ) (p : User) → is_command_in p.inner.state ≡ false →
+    act_in p.inner.state p.inner (line_of user_rows p) (suc p.own - before_of user_rows p) (clock_for (asks_clock_in p.inner.state p.inner (line_of user_rows p)) t)
+    ≡ program_row p.inner.fill p.inner (program_line p) (suc p.own - p.before) t
+program_outcome t p h =
+    act_program p.inner.state p.inner (line_of user_rows p) (suc p.own - before_of user_rows p) t h
+    ∙ ap (λ (line : Option Line). program_row p.inner.fill p.inner line (suc p.own - before_of user_rows p) t) (line_in_program p h)
+    ∙ ap (λ (n : ℕ). program_row p.inner.fill p.inner (program_line p) n t) (since_before (is_command_in p.inner.state) p.own p.before h)
+
+program_step : (t : ℕ) (p : User) → is_command_in p.inner.state ≡ false → p.given ≡ 0 →
+    step t p ≡ left false (program_line p) (program_row p.inner.fill p.inner (program_line p) (suc p.own - p.before) t) p
+unfolding step
+program_step t p h none =
+    ap (done user_rows p) (program_outcome t p h)
+    ∙ frame p (program_line p) (program_row p.inner.fill p.inner (program_line p) (suc p.own - p.before) t) (line_in_program p h) (program_front p.inner.fill p.inner (program_line p) (suc p.own - p.before) t) none
+    ∙ ap (λ (b : Bool). left b (program_line p) (program_row p.inner.fill p.inner (program_line p) (suc p.own - p.before) t) p) h
+
+program_ends : (t : ℕ) (p : User) → is_command_in p.inner.state ≡ false → ending t p ≡ (program_row p.inner.fill p.inner (program_line p) (suc p.own - p.before) t).ending
+unfolding ending
+program_ends t p h = ap (λ (o : Outcome Inner). o.ending) (program_outcome t p h)
+
+program_can : (p : User) → is_command_in p.inner.state ≡ false → can_step p ≡ (p.on && (not (program_reads p.inner.fill p.inner) || some_line p.unread))
+unfolding can_step
+program_can p h = ap (λ (b : Bool). p.on && (not b || some_line p.unread)) (takes_program p.inner.state p.inner h)
+
+program_asks_clock : (p : User) → is_command_in p.inner.state ≡ false → asks_clock p ≡ program_asks p.inner.fill p.inner
+unfolding asks_clock
+program_asks_clock p h = asks_program p.inner.state p.inner (line_of user_rows p) h
+
+-- a program that is still to be filled
+
+pub fill_left : (t : ℕ) (p : User) (f : Fill) → is_command_in p.inner.state ≡ false → p.inner.fill ≡ Some f → p.given ≡ 0 →
+    step t p ≡ left false None (goes (filled_program f p.inner)) p
+fill_left t p f h is none =
+    program_step t p h none
+    ∙ ap (λ (fill : Option Fill). left false (first_line (program_reads fill p.inner) p.unread) (program_row fill p.inner (first_line (program_reads fill p.inner) p.unread) (suc p.own - p.before) t) p) is
+
+pub fill_ends : (t : ℕ) (p : User) (f : Fill) → is_command_in p.inner.state ≡ false → p.inner.fill ≡ Some f → ending t p ≡ Went
+fill_ends t p f h is =
+    program_ends t p h
+    ∙ ap (λ (fill : Option Fill). (program_row fill p.inner (first_line (program_reads fill p.inner) p.unread) (suc p.own - p.before) t).ending) is
+
+pub fill_asks : (p : User) (f : Fill) → is_command_in p.inner.state ≡ false → p.inner.fill ≡ Some f → asks_clock p ≡ false
+fill_asks p f h is = program_asks_clock p h ∙ ap (λ (fill : Option Fill). program_asks fill p.inner) is
+
+or_true : (b : Bool) → (b && true) ≡ b
+or_true true = refl
+or_true false = refl
+
+pub fill_can : (p : User) (f : Fill) → is_command_in p.inner.state ≡ false → p.inner.fill ≡ Some f → can_step p ≡ p.on
+fill_can p f h is =
+    program_can p h ∙ ap (λ (fill : Option Fill). p.on && (not (program_reads fill p.inner) || some_line p.unread)) is ∙ or_true p.on
+
+-- a program that runs, by what its machine's step gives
+
+-- the line that it takes
+abbrev line_at : Step → User → Option Line
+line_at s p = first_line (reads_line s p.inner) p.unread
+
+pub run_left : (t : ℕ) (p : User) (s : Step) → is_command_in p.inner.state ≡ false → p.inner.fill ≡ None → table p.inner.regs p.inner.core ≡ s → p.given ≡ 0 →
+    step t p ≡ left false (first_line (reads_line s p.inner) p.unread) (step_row s p.inner (first_line (reads_line s p.inner) p.unread) (suc p.own - p.before) t) p
+run_left t p s h is e none =
+    program_step t p h none
+    ∙ ap (λ (fill : Option Fill). left false (first_line (program_reads fill p.inner) p.unread) (program_row fill p.inner (first_line (program_reads fill p.inner) p.unread) (suc p.own - p.before) t) p) is
+    ∙ ap (λ (u : Step). left false (line_at u p) (step_row u p.inner (line_at u p) (suc p.own - p.before) t) p) e
+
+pub run_ends : (t : ℕ) (p : User) (s : Step) → is_command_in p.inner.state ≡ false → p.inner.fill ≡ None → table p.inner.regs p.inner.core ≡ s →
+    ending t p ≡ (step_row s p.inner (first_line (reads_line s p.inner) p.unread) (suc p.own - p.before) t).ending
+run_ends t p s h is e =
+    program_ends t p h
+    ∙ ap (λ (fill : Option Fill). (program_row fill p.inner (first_line (program_reads fill p.inner) p.unread) (suc p.own - p.before) t).ending) is
+    ∙ ap (λ (u : Step). (step_row u p.inner (line_at u p) (suc p.own - p.before) t).ending) e
+
+pub run_asks : (p : User) (s : Step) → is_command_in p.inner.state ≡ false → p.inner.fill ≡ None → table p.inner.regs p.inner.core ≡ s → asks_clock p ≡ asks_time s p.inner
+run_asks p s h is e =
+    program_asks_clock p h ∙ ap (λ (fill : Option Fill). program_asks fill p.inner) is ∙ ap (λ (u : Step). asks_time u p.inner) e
+
+pub run_can : (p : User) (s : Step) → is_command_in p.inner.state ≡ false → p.inner.fill ≡ None → table p.inner.regs p.inner.core ≡ s →
+    can_step p ≡ (p.on && (not (reads_line s p.inner) || some_line p.unread))
+run_can p s h is e =
+    program_can p h
+    ∙ ap (λ (fill : Option Fill). p.on && (not (program_reads fill p.inner) || some_line p.unread)) is
+    ∙ ap (λ (u : Step). p.on && (not (reads_line u p.inner) || some_line p.unread)) e

@@ -1,16 +1,36 @@
 -- One user's inner state: all of a user but the unread lines, the transcript and the counts.
-use Rattle.std.specs.Prelude.{ℕ, Bool, not, nat_eq, List, filter}
+use Rattle.std.specs.Prelude.{ℕ, ◌-◌, ◌*◌, List, [], ◌++◌, length, take, replicate, Option, None}
 use Rattle.ctss_types.specs.declared.script.Account.{Account}
 use Rattle.ctss_types.specs.declared.file.FileBody.{FileBody}
+use Rattle.cpu_regs.specs.declared.regs.Regs.{Regs}
+use Rattle.cpu_regs.specs.Registers.{no_registers}
+use Rattle.program_model.specs.declared.ProgramState.{ProgramState}
+use Rattle.program_model.specs.declared.ProgramState.TheVariants.{Dead}
+use Rattle.program_model.specs.declared.Fill.{Fill}
 
 pub record Inner : Type 0 where
   pub account : Account
   pub files : List FileBody
-
--- the files that stay when a session ends: those of mode 0 are temporary
-abbrev pub lasting : List FileBody → List FileBody
-lasting files = filter (λ f. not (nat_eq f.mode 0)) files
+  pub state : ProgramState
+  pub regs : Regs
+  -- the program's size in blocks, and its words, 256 a block
+  pub blocks : ℕ
+  pub core : List ℕ
+  -- what is still to be stored into the core
+  pub fill : Option Fill
 
 -- the size of the user's program in blocks; no program is 0
 abbrev pub blocks_of : Inner → ℕ
-blocks_of i = 0
+blocks_of i = i.blocks
+
+-- a core of so many plus zeros
+abbrev pub zeros : ℕ → List ℕ
+zeros blocks = replicate (256 * blocks) 0
+
+-- a core cut to so many blocks, or extended to them by plus zeros
+abbrev pub recut : ℕ → List ℕ → List ℕ
+recut blocks core = take (256 * blocks) core ++ replicate (256 * blocks - length core) 0
+
+-- no program is left
+abbrev pub without_program : Inner → Inner
+without_program i = record i { state = Dead; regs = no_registers; blocks = 0; core = []; fill = None }

@@ -2,46 +2,93 @@
 use Rattle.std.specs.Prelude.{ℕ, Bool, true, false, List, [], ◌∷◌, Option, Some, None, codes}
 use Rattle.ctss_types.specs.declared.script.Account.{Account}
 use Rattle.ctss_types.specs.declared.file.FileBody.{FileBody}
-use Rattle.time_sharing.specs.Machine.{Line, CutKind, Quit, Hang, Spent, End, Went}
+use Rattle.time_sharing.specs.Machine.{Line, CutKind, Quit, Hang, Spent, End}
 use Rattle.time_sharing.specs.Rows.{Rows, Outcome, Private}
-use Rattle.user_model.specs.Inner.{Inner, lasting}
-use Rattle.user_model.specs.Texts.{logged_in_text}
+use Rattle.file_model.specs.Files.{lasting}
+use Rattle.cpu_regs.specs.Registers.{no_registers}
+use Rattle.program_model.specs.declared.ProgramState.{ProgramState}
+use Rattle.program_model.specs.declared.ProgramState.TheVariants.{Dead, Dormant, Working}
+use Rattle.user_model.specs.Inner.{Inner, without_program}
+use Rattle.user_model.specs.Texts.{logged_in_text, ready_text}
 use Rattle.user_model.specs.Commands.{command_of, command_row}
+use Rattle.user_model.specs.Programs.{goes, program_row, program_reads, program_asks}
 
--- a step with the line that it takes; without a program each step is a command and takes one
-abbrev pub act : Inner → Option Line → ℕ → ℕ → Outcome Inner
-act i None n t = record { inner = i; written = []; front = []; ending = Went }
-act i (Some l) n t = command_row (command_of l) i n t
+-- without a program that works each step is a command, and takes a line
+abbrev pub command_step : Inner → Option Line → ℕ → ℕ → Outcome Inner
+command_step i None n t = goes i
+command_step i (Some l) n t = command_row (command_of l) i n t
+
+-- a step with the line that it takes
+abbrev pub act_in : ProgramState → Inner → Option Line → ℕ → ℕ → Outcome Inner
+act_in Dead i l n t = command_step i l n t
+act_in Dormant i l n t = command_step i l n t
+act_in Working i l n t = program_row i.fill i l n t
+
+abbrev pub takes_line_in : ProgramState → Inner → Bool
+takes_line_in Dead i = true
+takes_line_in Dormant i = true
+takes_line_in Working i = program_reads i.fill i
+
+abbrev pub is_command_in : ProgramState → Bool
+is_command_in Dead = true
+is_command_in Dormant = true
+is_command_in Working = false
 
 abbrev pub some_text : Option Line → Bool
 some_text None = false
 some_text (Some l) = true
 
--- what a cut does to the inner state: files of mode 0 go with the session
+abbrev pub asks_clock_in : ProgramState → Inner → Option Line → Bool
+asks_clock_in Dead i l = some_text l
+asks_clock_in Dormant i l = some_text l
+asks_clock_in Working i l = program_asks i.fill i
+
+-- a quit stops a program that works
+abbrev pub quitted : ProgramState → ProgramState
+quitted Dead = Dead
+quitted Dormant = Dormant
+quitted Working = Dormant
+
+-- what a quit says: where a program stopped by it, R n too
+abbrev pub quit_text : ProgramState → ℕ → List Line
+quit_text Dead n = codes "QUIT," ∷ []
+quit_text Dormant n = codes "QUIT," ∷ []
+quit_text Working n = codes "QUIT," ∷ ready_text n ∷ []
+
+-- what a cut does to the inner state: with the session its program and its files of mode 0 go
 abbrev pub inner_cut : CutKind → Inner → Inner
-inner_cut Quit i = i
-inner_cut Hang i = record i { files = lasting i.files }
-inner_cut Spent i = record i { files = lasting i.files }
+inner_cut Quit i = record i { state = quitted i.state; fill = None }
+inner_cut Hang i = without_program (record i { files = lasting i.files })
+inner_cut Spent i = without_program (record i { files = lasting i.files })
 inner_cut End i = i
 
 abbrev pub user_rows : Rows Inner
 user_rows =
     record {
-      takes_line = λ i. true;
-      is_command = λ i. true;
-      asks_clock = λ i l. some_text l;
+      takes_line = λ i. takes_line_in i.state i;
+      is_command = λ i. is_command_in i.state;
+      asks_clock = λ i l. asks_clock_in i.state i l;
       asks_common = λ i l. None;
-      act = λ i l n k t r. act i l n t;
+      act = λ i l n k t r. act_in i.state i l n t;
       opened = λ i. i;
       opened_text = λ i. logged_in_text i.account.name ∷ [];
       cut = inner_cut;
-      cut_text = λ kind i n. codes "QUIT," ∷ [];
+      cut_text = λ kind i n. quit_text i.state n;
     }
 
 -- a user of an account with its first files, before any session
 abbrev pub first_state : Account → List FileBody → Private Inner
 first_state account files =
-    record { inner = record { account = account; files = files }; on = false; unread = []; lines = 0; given = 0; transcript = []; own = 0; before = 0 }
+    record {
+      inner = record { account = account; files = files; state = Dead; regs = no_registers; blocks = 0; core = []; fill = None };
+      on = false;
+      unread = [];
+      lines = 0;
+      given = 0;
+      transcript = [];
+      own = 0;
+      before = 0;
+    }
 
 -- what stands for a number that is no user's
 abbrev pub no_account : Account

@@ -2,6 +2,7 @@
 use Rattle.std.specs.Prelude.{ℕ, ◌+◌, ◌/◌, ◌%◌, List, [], ◌∷◌, ◌++◌, codes}
 use Rattle.std.specs.Fmt.{decimal}
 use Rattle.time_sharing.specs.Machine.{Line}
+use Rattle.word36.specs.Octal.{octal_digits}
 use Rattle.ctss_types.specs.Words.{text_of_name}
 
 -- the last digit of a number
@@ -22,3 +23,7 @@ logged_in_text name = text_of_name name ++ codes " LOGGED IN"
 
 unfoldable pub logged_out_text : ℕ → Line
 logged_out_text name = text_of_name name ++ codes " LOGGED OUT"
+
+-- why a program stopped, and the place of the instruction in five octal digits
+unfoldable pub stop_text : Line → ℕ → Line
+stop_text why place = why ++ (codes " AT " ++ octal_digits 5 place)

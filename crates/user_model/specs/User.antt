@@ -1,9 +1,9 @@
 -- One user's machine, closed: what contracts cite.
-use Rattle.std.specs.Prelude.{ℕ, Bool, if◌then◌else◌}
-use Rattle.time_sharing.specs.Machine.{Machine, Line, CutKind, Ending, Done}
+use Rattle.std.specs.Prelude.{◌≡◌, ℕ, Bool, true, List}
+use Rattle.time_sharing.specs.Machine.{Machine, Line, CutKind, Ending, Went, Stopped, Resized, Replaced, LoggedOut, Done}
 use Rattle.time_sharing.specs.Rows.{Private, machine}
 use Rattle.time_sharing.specs.System.{clock_for}
-use Rattle.user_model.specs.Inner.{Inner}
+use Rattle.user_model.specs.Inner.{Inner, zeros, recut}
 use Rattle.user_model.specs.Session.{user_rows}
 
 abbrev pub User : Type 0
@@ -31,3 +31,24 @@ step t p = (machine user_rows).step p (clock_for ((machine user_rows).asks_clock
 
 unfoldable pub ending : ℕ → User → Ending
 ending t p = (machine user_rows).ending p (clock_for ((machine user_rows).asks_clock p) t) Done
+
+-- the user with these words in core
+abbrev pub in_core : List ℕ → User → User
+in_core core p = record p { inner = record p.inner { core = core } }
+
+-- The words behind a step, of which so many blocks are left: a program that was replaced has plus zeros, and a core of
+-- another size is cut or extended.
+abbrev pub core_after : Ending → ℕ → List ℕ → List ℕ
+core_after Replaced blocks core = zeros blocks
+core_after Went blocks core = recut blocks core
+core_after Stopped blocks core = recut blocks core
+core_after Resized blocks core = recut blocks core
+core_after LoggedOut blocks core = recut blocks core
+
+-- A step that ends so, and takes the clock or not: of a user with these words before it, which is then this user with
+-- these words.
+pub record IsStep (e : Ending) (asked : Bool) (t : ℕ) (old new : User) (before after : List ℕ) : Type 0 where
+  pub can : can_step (in_core before old) ≡ true
+  pub left : in_core (core_after e new.inner.blocks after) new ≡ step t (in_core before old)
+  pub ends : e ≡ ending t (in_core before old)
+  pub asks : asked ≡ asks_clock (in_core before old)

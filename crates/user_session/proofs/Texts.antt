@@ -1,9 +1,8 @@
 -- Texts of numbers are of the 48 characters.
-use Rattle.std.proofs.Common.{◌≡◌, ◌<◌, ◌≤◌, ◌%◌, ◌+◌, ◌-◌, ◌/◌, ℕ, zero, suc, Bool, true, false, ◌&&◌, List, [], ◌∷◌, ◌++◌, refl, ap, ◌∙◌, arith, ◌^◌}
-use Rattle.std.specs.Prelude.{codes}
+use Rattle.std.proofs.Common.{◌≡◌, ◌<◌, ◌%◌, ◌+◌, ◌/◌, ℕ, zero, suc, true, [], ◌∷◌, refl, ◌∙◌, arith, ◌^◌}
 use Rattle.std.specs.List.{list_all}
 use Rattle.std.specs.Fmt.{decimal}
-use Rattle.std.proofs.lemmas.Fmt.{decimal_by_steps, length-decimal-le}
+use Rattle.std.proofs.lemmas.Fmt.{decimal_by_steps}
 use Rattle.std.proofs.lemmas.List.Folds.{list_all-append}
 use Rattle.bcd48.specs.Characters.{is_character}
 use Rattle.user_model.specs.Texts.{digit, time_text}
@@ -33,3 +32,9 @@ pub decimal_is : (n : ℕ) → n < 2 ^ 64 → list_all is_character (decimal n) 
 decimal_is n h =
     decimal_by_steps (λ n ds. list_all is_character ds ≡ true) (λ n k. rw (below_ten n k) refl)
     (λ n ds k rest. list_all-append is_character ds ((48 + n % 10) ∷ []) ∙ rw (rest, digit_is n) refl) n h
+
+octal_digit : (n : ℕ) → is_character (48 + n % 8) ≡ true
+octal_digit n = below_ten (n % 8) (omega arith)
+
+pub place_is_line : (n : ℕ) → list_all is_character (32 ∷ 65 ∷ 84 ∷ 32 ∷ (48 + n / 4096 % 8) ∷ (48 + n / 512 % 8) ∷ (48 + n / 64 % 8) ∷ (48 + n / 8 % 8) ∷ (48 + n % 8) ∷ []) ≡ true
+place_is_line n = rw (octal_digit (n / 4096), octal_digit (n / 512), octal_digit (n / 64), octal_digit (n / 8), octal_digit n) refl

@@ -1,11 +1,19 @@
 //! One user's session: what a user's lines, quits, hangs and steps do to the user's state.
+//!
+//! A step is a command, the storing of a deck, an instruction or a supervisor entry. The words of the user's program
+//! lie elsewhere: a step reaches them through a port.
 #![tactic(auto)]
 
+mod command;
+mod entry;
+mod program;
 mod session;
 mod text;
+mod turn;
 
 pub use line_buffer::Put;
-pub use session::{Session, Step};
+pub use session::Session;
+pub use turn::{Step, Turn};
 
 #[cfg(test)]
 mod tests;

@@ -1,44 +1,58 @@
-ghost use Rattle.std.specs.Prelude.{◌≡◌, ◌<◌, ◌≤◌, ◌+◌, ◌-◌, ◌^◌, ◌++◌, ◌∷◌, ◌↔◌, [], ℕ, true, false, OnOk, OnErr, IfOk, vec_len, vec_capacity};
-ghost use Rattle.user_model.specs.Session.{first_state};
+ghost use Rattle.std.specs.Prelude.{◌≡◌, ◌<◌, ◌≤◌, ◌+◌, ◌-◌, ◌^◌, ◌++◌, ◌∷◌, ◌↔◌, [], ℕ, true, false, OnOk, OnErr, IfOk, vec_len, vec_capacity, slice_get};
+ghost use Rattle.file_model.specs.Files.{tracks_of};
+ghost use Rattle.file_map.specs.Directory.{NamesDiffer};
+ghost use Rattle.user_model.specs.Session.{first_state, is_command_in};
 ghost use Rattle.user_model.specs.Inner.{blocks_of};
-ghost use Rattle.user_model.specs.User.{typed, opened, cut, can_step, step, ending, asks_clock};
+ghost use Rattle.user_model.specs.User.{typed, opened, cut};
 ghost use Rattle.time_sharing.specs.Machine.{Quit, Hang, Spent};
 ghost use Rattle.time_sharing.specs.Rows.{some_line};
 
-use crate::text::{command_of, logged_in_text, logged_out_text, ready_text, time_text};
-use ctss_types::{Account, Command, Ending, FileList, Item, Items, LineText, NoMemory, Sequence};
+use crate::text::{logged_in_text, ready_text};
+use cpu_regs::Regs;
+use ctss_types::{Account, FileBody, FileList, Item, Items, LineText, NoMemory, Sequence};
+use file_map::{FilePort, Files};
 use line_buffer::{Lines, Put};
+use program_model::{Fill, ProgramState};
 use std::alloc::Global;
 use std::marker::Model;
 
-/// What a step that was done did, and whether it took the clock.
-#[derive(Clone, Copy, Debug, PartialEq, Eq)]
-pub struct Step {
-    pub ending: Ending,
-    pub clock: bool,
-}
-
-/// A user's state: account, session, lines typed ahead, transcript, own steps. It lasts over all sessions of the user.
+/// A user's state: account, files, session, lines typed ahead, transcript, own steps, and its program but for the words
+/// of its core. It lasts over all sessions of the user.
+///
+/// In clauses it is the user of the definitions with no word in core; `in_core` adds the words.
 #[derive(Drop)]
 pub struct Session {
-    account: Account,
-    open: bool,
-    lines: Lines,
-    items: Vec<Item>,
-    own: u64,
-    before: u64,
+    pub(crate) account: Account,
+    pub(crate) files: Files,
+    pub(crate) on: bool,
+    pub(crate) lines: Lines,
+    pub(crate) items: Vec<Item>,
+    pub(crate) own: u64,
+    pub(crate) before: u64,
+    pub(crate) state: ProgramState,
+    pub(crate) regs: Regs,
+    pub(crate) blocks: u8,
+    pub(crate) fill: Option<Fill>,
 }
 
 impl Model for Session {
-    ghost use Rattle.std.specs.Prelude.{◌≤◌, []};
+    ghost use Rattle.std.specs.Prelude.{◌≡◌, ◌≤◌, ◌<◌, ◌^◌, [], IfSome};
     ghost use Rattle.time_sharing.specs.Rows.{Private};
     ghost use Rattle.user_model.specs.Inner.{Inner};
 
     ghost Value = { Private Inner };
 
     ghost view = { λ s. record {
-      inner = record { account = s.account; files = [] };
-      on = s.open;
+      inner = record {
+        account = s.account;
+        files = s.files.files;
+        state = s.state;
+        regs = s.regs;
+        blocks = s.blocks;
+        core = [];
+        fill = s.fill;
+      };
+      on = s.on;
       unread = s.lines.lines;
       lines = s.lines.count;
       given = 0;
@@ -47,11 +61,12 @@ impl Model for Session {
       before = s.before;
     } };
 
-    ghost invariant = { λ s. s.before ≤ s.own };
+    ghost invariant = { λ s. (s.before ≤ s.own) × (s.regs.ic < 2 ^ 15) × (s.blocks ≤ s.account.blocks)
+        × (s.account.blocks ≤ 128) × IfSome s.fill (λ f. f.start < 2 ^ 15) };
 }
 
 /// An item more, where there is room.
-fn note(items: &mut Vec<Item>, item: Item)
+pub(crate) fn note(items: &mut Vec<Item>, item: Item)
     requires { vec_len items.old < vec_capacity items.old }
     ensures items { items.new.items ≡ items.old.items ++ item ∷ [] }
     ensures len { vec_len items.new ≡ vec_len items.old + 1 }
@@ -60,19 +75,38 @@ fn note(items: &mut Vec<Item>, item: Item)
     let _ = items.push(item);
 }
 
+/// Whether a user's next step is a command.
+pub(crate) fn is_command_in(state: ProgramState) -> bool
+    ensures { result ≡ is_command_in state }
+{
+    match state {
+        ProgramState::Working => false,
+        ProgramState::Dead | ProgramState::Dormant => true,
+    }
+}
+
 impl Session {
-    /// A user of this account that never logged in. It takes the room for the lines typed ahead.
-    pub fn new(alloc: Global, account: &Account) -> Result<Session, NoMemory>
-        ensures { IfOk result (λ s. s ≡ first_state account.now []) }
+    /// A user of this account with its first files, that never logged in. It takes the room for the lines typed ahead.
+    pub fn new(alloc: Global, account: &Account, files: &[FileBody]) -> Result<Session, NoMemory>
+        requires blocks { account.now.blocks ≤ 128 }
+        requires names { NamesDiffer files.now }
+        requires tracks { tracks_of files.now ≤ account.now.tracks }
+        ensures { IfOk result (λ s. s ≡ first_state account.now files.now) }
     {
         let lines = Lines::new(alloc)?;
+        let files = Files::with_first(alloc, account.tracks, files)?;
         Ok(Session {
             account: *account,
-            open: false,
+            files,
+            on: false,
             lines,
             items: Vec::new(alloc),
             own: 0,
             before: 0,
+            state: ProgramState::Dead,
+            regs: Regs::new(),
+            blocks: 0,
+            fill: None,
         })
     }
 
@@ -87,15 +121,23 @@ impl Session {
     pub fn is_open(&self) -> bool
         ensures { result ≡ self.now.on }
     {
-        self.open
+        self.on
+    }
+
+    /// Whether the next step is a command.
+    pub fn takes_commands(&self) -> bool
+        ensures { result ≡ is_command_in self.now.inner.state }
+    {
+        is_command_in(self.state)
     }
 
     /// The size of the user's program in blocks.
     pub fn blocks(&self) -> u8
         ensures value { result ≡ blocks_of self.now.inner }
+        ensures quota { result ≤ self.now.inner.account.blocks }
         ensures few { result ≤ 128 }
     {
-        0
+        self.blocks
     }
 
     /// How many lines were typed in the session.
@@ -112,6 +154,13 @@ impl Session {
         !self.lines.is_empty()
     }
 
+    /// The first unread line, which stays.
+    pub(crate) fn first_line(&self) -> Option<LineText>
+        ensures { result ≡ slice_get self.now.unread 0 }
+    {
+        self.lines.first()
+    }
+
     /// The transcript so far.
     pub fn items(&self) -> &[Item]
         ensures { result.now ≡ self.now.transcript }
@@ -119,20 +168,13 @@ impl Session {
         &self.items
     }
 
-    /// The whole transcript and the files, without taking memory.
-    pub fn into_parts(self, alloc: Global) -> (Items, FileList)
-        ensures items { result.0 ≡ self.transcript }
-        ensures files { result.1 ≡ self.inner.files }
+    /// The whole transcript and the files.
+    pub fn into_parts(self) -> Result<(Items, FileList), NoMemory>
+        ensures items { IfOk result (λ p. p.0 ≡ self.transcript) }
+        ensures files { IfOk result (λ p. p.1 ≡ self.inner.files) }
     {
-        (Sequence::from_vec(self.items), Sequence::new(alloc))
-    }
-
-    /// Whether a step can be done.
-    #[tactic(auto, unfolding(user_model::specs::User::can_step))]
-    pub fn can_step(&self) -> bool
-        ensures { result ≡ can_step self.now }
-    {
-        self.open && !self.lines.is_empty()
+        let files = self.files.into_list()?;
+        Ok((Sequence::from_vec(self.items), files))
     }
 
     /// A line is typed.
@@ -156,25 +198,31 @@ impl Session {
             &mut self.items,
             Item::Out(logged_in_text(self.account.name)),
         );
-        self.open = true;
+        self.on = true;
         self.lines.restart();
         Ok(())
     }
 
-    /// A quit: the unread lines go.
+    /// A quit: the unread lines go, and a program that works stops.
     #[tactic(auto, unfolding(user_model::specs::User::cut))]
     pub fn quit(&mut self) -> Result<(), NoMemory>
         ensures ok { OnOk result (self.new ≡ cut Quit self.old) }
         ensures err { OnErr result (self.new ≡ self.old) }
     {
-        self.items.reserve(2)?;
+        self.items.reserve(3)?;
         note(&mut self.items, Item::Quit);
         note(&mut self.items, Item::Out(LineText::of(b"QUIT,")));
+        if self.state == ProgramState::Working {
+            self.state = ProgramState::Dormant;
+            let n = self.own - self.before;
+            note(&mut self.items, Item::Out(ready_text(n)));
+        }
         self.lines.drop_all();
+        self.fill = None;
         Ok(())
     }
 
-    /// A hang: the session is over.
+    /// A hang: the session is over. Its program and its files of mode 0 go.
     #[tactic(auto, unfolding(user_model::specs::User::cut))]
     pub fn hang(&mut self) -> Result<(), NoMemory>
         ensures ok { OnOk result (self.new ≡ cut Hang self.old) }
@@ -182,8 +230,13 @@ impl Session {
     {
         self.items.reserve(1)?;
         note(&mut self.items, Item::Hang);
-        self.open = false;
+        let _ = self.files.drop_temporary();
+        self.on = false;
         self.lines.drop_all();
+        self.state = ProgramState::Dead;
+        self.regs = Regs::new();
+        self.blocks = 0;
+        self.fill = None;
         Ok(())
     }
 
@@ -194,53 +247,5 @@ impl Session {
         ensures err { OnErr result (self.new ≡ self.old) }
     {
         self.hang()
-    }
-
-    /// A step at a tick: the command of the first unread line.
-    #[tactic(auto, using(user_model::proofs::StepLaws::command_laws), unfolding(user_model::specs::User::can_step))]
-    pub fn step(&mut self, now: u64) -> Result<Step, NoMemory>
-        requires can { can_step self.old ≡ true }
-        requires fits { self.old.own < 2 ^ 64 - 1 }
-        ensures ok { OnOk result (self.new ≡ step now self.old) }
-        ensures says { IfOk result (λ s. s ≡ record { ending = ending now self.old; clock = asks_clock self.old }) }
-        ensures err { OnErr result (self.new ≡ self.old) }
-    {
-        self.items.reserve(4)?;
-        let Some(line) = self.lines.take() else {
-            unreachable!()
-        };
-        self.before = self.own;
-        self.own += 1;
-        note(&mut self.items, Item::In(line));
-        note(&mut self.items, Item::Out(time_text(now)));
-        let ending = match command_of(&line) {
-            Command::Empty => {
-                note(&mut self.items, Item::Out(ready_text(1)));
-                Ending::Stopped
-            }
-            Command::Logout => {
-                note(
-                    &mut self.items,
-                    Item::Out(logged_out_text(self.account.name)),
-                );
-                self.open = false;
-                self.lines.drop_all();
-                Ending::LoggedOut
-            }
-            Command::BadArguments => {
-                note(&mut self.items, Item::Out(LineText::of(b"BAD ARGUMENTS")));
-                note(&mut self.items, Item::Out(ready_text(1)));
-                Ending::Stopped
-            }
-            Command::Unknown => {
-                note(&mut self.items, Item::Out(LineText::of(b"NOT A COMMAND")));
-                note(&mut self.items, Item::Out(ready_text(1)));
-                Ending::Stopped
-            }
-        };
-        Ok(Step {
-            ending,
-            clock: true,
-        })
     }
 }

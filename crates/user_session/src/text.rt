@@ -1,11 +1,15 @@
 //! The lines that a session writes.
 ghost use Rattle.std.specs.Prelude.{◌≡◌, ◌<◌, ◌≤◌, ◌^◌, length};
-ghost use Rattle.user_model.specs.Texts.{digit, time_text, ready_text, logged_in_text, logged_out_text};
-ghost use Rattle.user_model.specs.Commands.{command_of, alone};
+ghost use Rattle.std.specs.List.{list_all};
+ghost use Rattle.std.specs.Prelude.{true};
+ghost use Rattle.bcd48.specs.Characters.{is_character};
+ghost use Rattle.user_model.specs.Texts.{digit, time_text, ready_text, logged_in_text, logged_out_text, stop_text};
+ghost use Rattle.user_model.specs.Commands.{command_of, alone, with_name, load_text};
 ghost use Rattle.ctss_types.specs.Words.{words_of};
 
-use ctss_types::{Command, LineText, first_word, name_text};
+use ctss_types::{Command, LineText, first_word, name_text, name_word};
 use itoa::Buffer;
+use program_model::LoadFault;
 use word36::Word;
 
 /// The last digit of a number.
@@ -59,6 +63,38 @@ pub fn logged_out_text(name: Word) -> LineText
     LineText::joined(name.as_slice(), b" LOGGED OUT")
 }
 
+/// Why a program stopped, and where, in five octal digits.
+#[tactic(auto, using(crate::proofs::Texts::place_is_line), unfolding(user_model::specs::Texts::stop_text, word36::specs::Octal::octal_digits))]
+pub fn stop_text(why: &[u8], place: u16) -> LineText
+    requires short { length why.now ≤ 70 }
+    requires characters { list_all is_character why.now ≡ true }
+    ensures { result ≡ stop_text why.now place }
+{
+    let place = [
+        b' ',
+        b'A',
+        b'T',
+        b' ',
+        b'0' + (place / 0o10000 % 8) as u8,
+        b'0' + (place / 0o1000 % 8) as u8,
+        b'0' + (place / 0o100 % 8) as u8,
+        b'0' + (place / 0o10 % 8) as u8,
+        b'0' + (place % 8) as u8,
+    ];
+    LineText::joined(why, &place)
+}
+
+/// Why a program isn't loaded.
+pub fn load_text(fault: LoadFault) -> LineText
+    ensures { result ≡ load_text fault }
+{
+    match fault {
+        LoadFault::NoFile => LineText::of(b"FILE NOT FOUND"),
+        LoadFault::BadDeck => LineText::of(b"BAD DECK"),
+        LoadFault::TooLarge => LineText::of(b"TOO LARGE"),
+    }
+}
+
 /// What a line asks for.
 #[tactic(auto, unfolding(user_model::specs::Commands::command_of))]
 pub fn command_of(line: &LineText) -> Command
@@ -69,6 +105,8 @@ pub fn command_of(line: &LineText) -> Command
         Command::Empty
     } else if first == b"LOGOUT".as_slice() {
         alone(Command::Logout, rest)
+    } else if first == b"LOADGO".as_slice() {
+        load_go(rest)
     } else {
         Command::Unknown
     }
@@ -81,6 +119,22 @@ fn alone(command: Command, rest: &[u8]) -> Command
     let (word, _) = first_word(rest);
     if word.is_empty() {
         command
+    } else {
+        Command::BadArguments
+    }
+}
+
+/// LOADGO with just one name of at most six characters behind it.
+fn load_go(rest: &[u8]) -> Command
+    ensures { result ≡ with_name (λ name. Command.LoadGo name) (words_of rest.now) }
+{
+    let (word, rest) = first_word(rest);
+    if word.is_empty() || word.len() > 6 {
+        return Command::BadArguments;
+    }
+    let (more, _) = first_word(rest);
+    if more.is_empty() {
+        Command::LoadGo(name_word(word))
     } else {
         Command::BadArguments
     }

@@ -1,21 +1,25 @@
-use Rattle.std.proofs.Common.{◌≡◌, sym, ◌∙◌, ap, subst, IfOk}
-use Rattle.ctss_types.specs.declared.history.Record.{Record}
-use Rattle.system_model.specs.Run.{given}
-use Rattle.ctss_top.proofs.Runs.{console_of, seated, one_more, whole_run}
+use Rattle.std.proofs.Common.{◌≡◌, ◌≤◌, ℕ, List, ◌∷◌, map, refl, sym, ap, subst, ◌∙◌}
+use Rattle.ctss_types.specs.declared.script.Account.{Account}
+use Rattle.drum_slots.specs.Keys.{quota_of}
+use Rattle.plan_model.specs.Loads.{no_places}
+use Rattle.system_model.specs.Run.{Run, run_to, ended}
+use Rattle.system_model.specs.Record.{record_from}
+use Rattle.ctss_top.proofs.Playing.{has_cores, quota_most, record_is}
 use Rattle.ctss_top.proofs.record.record_script.Goals as goal
 
-pub take-requires : goal.take-requires
-take-requires c =
-    let fits = console_of c.as_slice-event-items.result.now c.args.script.now.events c.loop-event.event-index c.event-item.result c.as_slice-event-items.ensures c.event-item.is c.loop-event-test.true c.requires.seats in
-    record { seat = rw c.loop-event.invariant (seated _ c.args.script.now c.event-item.result fits.0 fits.1) }
+pub run_to-requires-clause-most : goal.run_to-requires-clause-most
+run_to-requires-clause-most g c = λ u.
+    let are : c.in_ok-slots.slots.quotas.items ≡ 0 ∷ map (λ (a : Account). a.blocks) c.args.script.now.accounts =
+    c.in_ok-slots.ensures.quotas ∙ ap (λ (ns : List ℕ). 0 ∷ ns) (c.deref.ensures.value ∙ c.in_ok-quotas.ensures ∙ ap (map (λ (a : Account). a.blocks)) c.as_slice-accounts.ensures) in
+    subst (λ (ns : List ℕ). quota_of ns u ≤ 128) (sym are) (quota_most c.args.script.now.accounts c.requires.range.blocks u)
 
-pub loop-event-preserved : goal.loop-event-preserved
-loop-event-preserved c =
-    c.in_ok-take.ensures.ok
-    ∙ ap (given c.event-item.result) c.loop-event.invariant
-    ∙ one_more c.as_slice-event-items.result.now c.loop-event.event-index c.event-item.result c.args.script.now c.loop-event-test.true c.event-item.is
+pub run_to-requires-clause-cores : goal.run_to-requires-clause-cores
+run_to-requires-clause-cores g c =
+    let are : c.in_ok-slots.slots.quotas.items ≡ 0 ∷ map (λ (a : Account). a.blocks) c.args.script.now.accounts =
+    c.in_ok-slots.ensures.quotas ∙ ap (λ (ns : List ℕ). 0 ∷ ns) (c.deref.ensures.value ∙ c.in_ok-quotas.ensures ∙ ap (map (λ (a : Account). a.blocks)) c.as_slice-accounts.ensures) in
+    has_cores c.args.script.now c.in_ok-supervisor.supervisor c.in_ok-slots.slots.quotas.items (map (λ (a : Account). a.blocks) c.args.script.now.accounts) c.in_ok-supervisor.ensures are refl
 
-pub returns : goal.returns
-returns c =
-    let same = whole_run c.as_slice-event-items.result.now c.loop-event.event-index c.args.script.now c.loop-event.supervisor c.advance.new.self c.as_slice-event-items.ensures c.loop-event-test.false c.loop-event.invariant c.in_ok-advance.ensures.ok in
-    subst (λ (x : Record). IfOk c.close.result (λ rec. rec ≡ x)) same c.close.ensures
+pub returns-in_ok-close-in-Ok-clause-played : goal.returns-in_ok-close-in-Ok-clause-played
+returns-in_ok-close-in-Ok-clause-played g c = λ told.
+    c.in_ok-close-in-Ok.ensures no_places ∙ c.in-Ok.ensures.ended told no_places
+    ∙ ap (λ (r : Run). record_from (ended (run_to c.args.script.now.end r))) c.in_ok-supervisor.ensures ∙ record_is c.args.script.now

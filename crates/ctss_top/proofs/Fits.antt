@@ -1,0 +1,71 @@
+-- Scripts that are read fit what a supervisor asks.
+use Rattle.std.proofs.Common.{◌≡◌, ℕ, zero, suc, ◌+◌, ◌-◌, ◌<◌, ◌≤◌, Bool, true, false, not, ◌&&◌, ◌||◌, List, [], ◌∷◌, map, length, get_or, refl, sym, ap, subst, ◌∙◌, arith}
+use Rattle.std.specs.Prelude.{sum}
+use Rattle.std.specs.List.{All, IsDistinct, AllByRecursion, list_any}
+use Rattle.ctss_types.specs.declared.script.Script.{Script}
+use Rattle.ctss_types.specs.declared.script.Account.{Account}
+use Rattle.ctss_types.specs.declared.file.FileBody.{FileBody}
+use Rattle.ctss_types.specs.declared.file.OwnedFile.{OwnedFile}
+use Rattle.file_model.specs.Files.{same_name, tracks_of}
+use Rattle.file_model.specs.Owned.{files_of}
+use Rattle.file_map.specs.Directory.{NamesDiffer}
+use Rattle.text_model.specs.Reading.{IsInRange, names_differ, quota_of}
+use Rattle.supervisor.specs.Seen.{AreFit}
+
+first_false : (a b : Bool) → (not a && b) ≡ true → a ≡ false
+first_false false b h = refl
+first_false true b h = cc
+
+second_true : (a b : Bool) → (not a && b) ≡ true → b ≡ true
+second_true false b h = h
+second_true true b h = cc
+
+left_false : (a b : Bool) → (a || b) ≡ false → a ≡ false
+left_false false b h = refl
+left_false true b h = cc
+
+right_false : (a b : Bool) → (a || b) ≡ false → b ≡ false
+right_false false b h = h
+right_false true b h = cc
+
+none_same : (f : FileBody) (fs : List FileBody) → list_any (λ (g : FileBody). same_name f.name g.name) fs ≡ false → AllByRecursion (λ (n : _). same_name f.name n ≡ false) (map (λ (g : FileBody). g.name) fs)
+none_same f [] h = tt
+none_same f (g ∷ fs) h = (left_false (same_name f.name g.name) _ h, none_same f fs (right_false (same_name f.name g.name) _ h))
+
+differ : (fs : List FileBody) → names_differ fs ≡ true → NamesDiffer fs
+unfolding IsDistinct
+differ [] h = tt
+differ (f ∷ fs) h =
+    (none_same f fs (first_false (list_any (λ (g : FileBody). same_name f.name g.name) fs) (names_differ fs) h), differ fs (second_true (list_any (λ (g : FileBody). same_name f.name g.name) fs) (names_differ fs) h))
+
+fit_from : (u : ℕ) (accounts : List Account) (files : List OwnedFile) → ((k : ℕ) (d : Account) → k < length accounts → (get_or accounts k d).blocks ≤ 128)
+    → ((v : ℕ) → names_differ (files_of v files) ≡ true)
+    → ((k : ℕ) (d : Account) → k < length accounts → tracks_of (files_of (u + k) files) ≤ (get_or accounts k d).tracks) → AreFit u accounts files
+fit_from u [] files blocks names tracks = tt
+fit_from u (a ∷ accounts) files blocks names tracks =
+    let here : u + 0 ≡ u = omega arith in (
+      blocks 0 a (omega arith),
+      differ (files_of u files) (names u),
+      subst (λ (v : ℕ). tracks_of (files_of v files) ≤ a.tracks) here (tracks 0 a (omega arith)),
+      fit_from (suc u) accounts files (λ k d h. blocks (suc k) d (omega (arith, h))) names
+          (λ k d h. let e : u + suc k ≡ suc u + k = omega arith in subst (λ (v : ℕ). tracks_of (files_of v files) ≤ (get_or accounts k d).tracks) e (tracks (suc k) d (omega (arith, h)))),
+    )
+
+any_default : (accounts : List Account) (k : ℕ) (d e : Account) → k < length accounts → get_or accounts k d ≡ get_or accounts k e
+any_default [] k d e h = absurd (omega arith)
+any_default (a ∷ accounts) zero d e h = refl
+any_default (a ∷ accounts) (suc k) d e h = any_default accounts k d e (omega (arith, h))
+
+pub fits : (script : Script) → IsInRange script → AreFit 1 script.accounts script.files
+fits script range =
+    fit_from 1 script.accounts script.files (λ k d h. range.blocks k d h) range.names
+    (λ k d h.
+    let some : 1 ≤ 1 + k = omega arith in
+    let within : 1 + k ≤ length script.accounts = omega (arith, h) in
+    let back : 1 + k - 1 ≡ k = omega arith in
+    subst (λ (n : ℕ). tracks_of (files_of (1 + k) script.files) ≤ n)
+    (ap (λ (i : ℕ). (get_or script.accounts i nobody_account).tracks) back ∙ ap (λ (a : Account). a.tracks) (any_default script.accounts k nobody_account d h))
+    (range.tracks (1 + k) some within))
+  where
+    nobody_account : Account
+    nobody_account = record { name = 0; password = 0; blocks = 0; tracks = 0 }

@@ -1,0 +1,145 @@
+-- From the run of the supervisor over users' cores to the record of a script.
+use Rattle.std.proofs.Common.{◌≡◌, ◌≢◌, ℕ, zero, suc, ◌+◌, ◌-◌, ◌<◌, ◌≤◌, Bool, true, false, not, ◌&&◌, List, [], ◌∷◌, ◌++◌, map, length, replicate, get_or, Option, Some, None, Ok, Err, refl, sym, ap, subst, ◌∙◌, arith, sum}
+use Rattle.std.specs.Prelude.{⊤, slice_index_or, nat_eq}
+use Rattle.std.specs.List.{All, IsDistinct, list_any}
+use Rattle.std.specs.declared.result.Result.{Result}
+use Rattle.std.proofs.lemmas.List.{length-map}
+use Rattle.ctss_types.specs.declared.fault.RunFault.{RunFault}
+use Rattle.ctss_types.specs.declared.fault.RunFault.TheVariants.{Drum, Disk, NoMemory}
+use Rattle.ctss_types.specs.declared.script.Script.{Script}
+use Rattle.ctss_types.specs.declared.script.Account.{Account}
+use Rattle.ctss_types.specs.declared.file.FileBody.{FileBody}
+use Rattle.ctss_types.specs.declared.file.OwnedFile.{OwnedFile}
+use Rattle.ctss_types.specs.declared.history.Record.{Record}
+use Rattle.time_sharing.specs.Machine.{Item}
+use Rattle.drum_slots.specs.Keys.{quota_of}
+use Rattle.image_map.specs.Images.{size_of}
+use Rattle.image_map.proofs.Moves.{none_in}
+use Rattle.user_model.specs.Session.{first_state, nobody}
+use Rattle.user_model.specs.Inner.{blocks_of}
+use Rattle.user_model.specs.User.{User}
+use Rattle.plan_model.specs.Loads.{Places, no_places}
+use Rattle.system_model.specs.Run.{Run, run_to, AfterSteps, ended}
+use Rattle.system_model.specs.Cases.{user_at, closed}
+use Rattle.system_model.specs.Joined.{joined, with_cores}
+use Rattle.system_model.specs.Record.{start_of, record_of, record_from, users_from}
+use Rattle.system_model.proofs.CaseLaws.{closes}
+use Rattle.system_model.proofs.JoinedLaws.{joined_same}
+use Rattle.user_cores.specs.Memory.{Memory}
+use Rattle.supervisor.specs.Seen.{Bare, run_with, record_so_far}
+use Rattle.supervisor.specs.Steps.{IsTied, HasRun, HasRunPart, HasRunToLoad, StopsAtLoad, Ends, Fails}
+use Rattle.supervisor.proofs.Running.{transcripts_same}
+use Rattle.supervisor.proofs.Serving.{ends_map}
+use Rattle.file_model.specs.Owned.{files_of}
+use Rattle.std.proofs.lemmas.List.Elements.{All-nil, All-cons}
+use Rattle.ctss_top.specs.Played.{IsStopped, HasCores, Reaches, Stops}
+
+-- the start
+
+no_cores : (k u : ℕ) (accounts : List Account) (files : List OwnedFile) → with_cores k (λ v. []) (users_from u accounts files) ≡ users_from u accounts files
+no_cores k u [] files = refl
+no_cores k u (a ∷ accounts) files = ap (λ (ps : List User). first_state a (files_of u files) ∷ ps) (no_cores (suc k) (suc u) accounts files)
+
+joined_start : (script : Script) → joined (λ v. []) (start_of script) ≡ start_of script
+unfolding joined start_of
+joined_start script = ap (λ (ps : List User). record (start_of script) { system = record (start_of script).system { users = ps } }) (no_cores 1 1 script.accounts script.files)
+
+users_at_start : (script : Script) → (start_of script).system.users ≡ users_from 1 script.accounts script.files
+unfolding start_of
+users_at_start script = refl
+
+quotas_of_users : (u : ℕ) (accounts : List Account) (files : List OwnedFile) → map (λ (p : User). p.inner.account.blocks) (users_from u accounts files) ≡ map (λ (a : Account). a.blocks) accounts
+quotas_of_users u [] files = refl
+quotas_of_users u (a ∷ accounts) files = ap (λ (ns : List ℕ). a.blocks ∷ ns) (quotas_of_users (suc u) accounts files)
+
+no_blocks : (u : ℕ) (accounts : List Account) (files : List OwnedFile) → All (λ (p : User). blocks_of p.inner ≡ 0) (users_from u accounts files)
+no_blocks u [] files = All-nil (λ (p : User). blocks_of p.inner ≡ 0)
+no_blocks u (a ∷ accounts) files = All-cons (λ (p : User). blocks_of p.inner ≡ 0) (first_state a (files_of u files)) (users_from (suc u) accounts files) refl (no_blocks (suc u) accounts files)
+
+pub has_cores : (script : Script) (b : Bare) (quotas blocks : List ℕ) → run_with no_places b ≡ start_of script → quotas ≡ 0 ∷ blocks → blocks ≡ map (λ (a : Account). a.blocks) script.accounts → HasCores b quotas
+has_cores script b quotas blocks is are same =
+    record {
+      words = subst (λ (r : Run). joined (λ v. []) r ≡ r) (sym is) (joined_start script);
+      quotas_are = are ∙ ap (λ (ns : List ℕ). 0 ∷ ns) (same ∙ sym (quotas_of_users 1 script.accounts script.files) ∙ ap (map (λ (p : User). p.inner.account.blocks)) (sym users));
+      empty = subst (All (λ (p : User). blocks_of p.inner ≡ 0)) (sym users) (no_blocks 1 script.accounts script.files);
+    }
+  where
+    users : b.users ≡ users_from 1 script.accounts script.files
+    users = ap (λ (r : Run). r.system.users) is ∙ users_at_start script
+
+blocks_at : (accounts : List Account) → ((k : ℕ) (d : Account) → k < length accounts → (get_or accounts k d).blocks ≤ 128) → (i : ℕ) → slice_index_or (map (λ (a : Account). a.blocks) accounts) i 0 ≤ 128
+blocks_at [] most i = omega arith
+blocks_at (a ∷ accounts) most zero = most 0 a (omega arith)
+blocks_at (a ∷ accounts) most (suc i) = blocks_at accounts (λ k d h. most (suc k) d (omega (arith, h))) i
+
+-- no quota is above 128 blocks
+pub quota_most : (accounts : List Account) → All (λ (a : Account). a.blocks ≤ 128) accounts → (u : ℕ) → quota_of (0 ∷ map (λ (a : Account). a.blocks) accounts) u ≤ 128
+quota_most accounts all zero = omega arith
+quota_most accounts all (suc i) = blocks_at accounts (λ k d h. all k d h) i
+
+pub record_is : (script : Script) → record_from (ended (run_to script.end (start_of script))) ≡ record_of script
+unfolding record_of
+record_is script = refl
+
+-- users without blocks agree with cores without blocks
+
+quota_at : (users : List User) (i : ℕ) (d : User) → i < length users → slice_index_or (map (λ (p : User). p.inner.account.blocks) users) i 0 ≡ (get_or users i d).inner.account.blocks
+quota_at [] i d h = absurd (omega arith)
+quota_at (p ∷ users) zero d h = refl
+quota_at (p ∷ users) (suc i) d h = quota_at users i d (omega (arith, h))
+
+quota_behind : (ns : List ℕ) (u : ℕ) → 1 ≤ u → quota_of (0 ∷ ns) u ≡ slice_index_or ns (u - 1) 0
+quota_behind ns zero h = absurd (omega arith)
+quota_behind ns (suc i) h = let e : i ≡ suc i - 1 = omega arith in ap (λ (k : ℕ). slice_index_or ns k 0) e
+
+length-fill : (n : ℕ) → length {A = ℕ} (replicate n 0) ≡ n
+length-fill zero = refl
+length-fill (suc n) = ap suc (length-fill n)
+
+pub tied_first : (b : Bare) (quotas : List ℕ) (m : Memory) → HasCores b quotas → m.sizes ≡ replicate (length quotas) 0 → m.quotas ≡ quotas → IsTied b.users m
+tied_first b quotas m has sizes are =
+    record {
+      many = ap length sizes ∙ length-fill (length quotas) ∙ ap length has.quotas_are ∙ ap suc (length-map b.users (λ (p : User). p.inner.account.blocks));
+      has = λ u pos within. ap (λ (s : List ℕ). size_of s u) sizes ∙ none_in (length quotas) u ∙ sym (has.empty (u - 1) nobody (omega (arith, pos, within)));
+      may = λ u pos within.
+          ap (λ (q : List ℕ). quota_of q u) (are ∙ has.quotas_are)
+          ∙ quota_behind (map (λ (p : User). p.inner.account.blocks) b.users) u pos
+          ∙ quota_at b.users (u - 1) nobody (omega (arith, pos, within));
+    }
+
+-- the record doesn't look at words and places
+
+files_same : (k : ℕ) (f : ℕ → List ℕ) (ps : List User) → map (λ (p : User). p.inner.files) ps ≡ map (λ (p : User). p.inner.files) (with_cores k f ps)
+files_same k f [] = refl
+files_same k f (p ∷ ps) = ap (λ (fs : List (List FileBody)). p.inner.files ∷ fs) (files_same (suc k) f ps)
+
+closed_apart : (f : ℕ → List ℕ) (p q : Places) (b : Bare) → record_from (closed (run_with p b)) ≡ record_from (closed (joined f (run_with q b)))
+unfolding closed joined
+closed_apart f p q b = λ j. record (record_from (closed (run_with p b))) { transcripts = transcripts_same 1 f b.users j; files = files_same 1 f b.users j }
+
+record_apart : (f : ℕ → List ℕ) (p q : Places) (b : Bare) → record_from (ended (run_with p b)) ≡ record_from (ended (joined f (run_with q b)))
+record_apart f p q b = ap record_from (closes (run_with p b)) ∙ closed_apart f p q b ∙ ap record_from (sym (closes (joined f (run_with q b))))
+
+-- the run as it is seen from the start
+pub played : {T : Type 0} (r : Result T RunFault) (limit : ℕ) (old new : Bare) (quotas : List ℕ) (words words' : ℕ → List ℕ) (places places' : Places) (told part rose : Type 0) → HasCores old quotas
+    → ((u : ℕ) → 1 ≤ u → words u ≡ []) → places ≡ no_places → told
+    → Ends r (told → joined words' (run_with places' new) ≡ run_to limit (joined words (run_with places old))) part
+    ((told → StopsAtLoad limit (joined words (run_with places old)) (run_with no_places new)) × rose)
+    → Ends r (Reaches limit (run_with no_places old) new) ⊤ (Stops limit (run_with no_places old) new)
+played r limit old new quotas words words' places places' told part rose cores none nowhere is_told h =
+    ends_map r _ _ _ (Reaches limit (run_with no_places old) new) ⊤ (Stops limit (run_with no_places old) new) (λ run. reaches (run is_told)) (λ some. tt) (λ f. stops (f.0 is_told)) h
+  where
+    start : joined words (run_with places old) ≡ run_with no_places old
+    start = ap (λ (p : Places). joined words (run_with p old)) nowhere ∙ joined_same words (λ u. []) (run_with no_places old) none ∙ cores.words
+
+    reaches : joined words' (run_with places' new) ≡ run_to limit (joined words (run_with places old)) → Reaches limit (run_with no_places old) new
+    reaches run = λ p. record_apart words' p places' new ∙ ap (λ (x : Run). record_from (ended x)) (run ∙ ap (run_to limit) start)
+
+    stops : StopsAtLoad limit (joined words (run_with places old)) (run_with no_places new) → Stops limit (run_with no_places old) new
+    stops s =
+        record {
+          at = s.at;
+          part = subst (λ (x : Run). AfterSteps limit x s.at) start s.part;
+          load = s.load;
+          shown = λ j. record { entries = s.shown.entries j; transcripts = s.shown.transcripts j; files = []; common = []; clock = s.shown.clock j };
+        }

@@ -1,0 +1,27 @@
+use Rattle.std.proofs.Common.{◌≡◌, List, take_all, sym, ◌∙◌, ap, subst}
+use Rattle.plan_model.specs.Loads.{no_places}
+use Rattle.time_sharing.specs.System.{Timed}
+use Rattle.system_model.specs.Run.{given, given_all}
+use Rattle.ctss_top.proofs.Fits.{fits}
+use Rattle.ctss_top.proofs.Runs.{at_start, all_given, console_of, seated, one_more}
+use Rattle.ctss_top.proofs.record.opened.Goals as goal
+
+pub take-requires : goal.take-requires
+take-requires c =
+    let fits = console_of c.as_slice-event-items.result.now c.args.script.now.events c.loop-event.event-index c.event-item.result c.as_slice-event-items.ensures c.event-item.is c.loop-event-test.true c.requires.seats in
+    record { seat = rw c.loop-event.invariant (seated _ c.args.script.now c.event-item.result fits.0 fits.1) }
+
+pub loop-event-preserved : goal.loop-event-preserved
+loop-event-preserved c =
+    c.in_ok-take.ensures.ok no_places
+    ∙ ap (given c.event-item.result) c.loop-event.invariant
+    ∙ one_more c.as_slice-event-items.result.now c.loop-event.event-index c.event-item.result c.args.script.now c.loop-event-test.true c.event-item.is
+
+pub returns : goal.returns
+returns c =
+    c.loop-event.invariant
+    ∙ ap (λ (es : List Timed). given_all es (at_start c.args.script.now)) (take_all c.loop-event.event-index c.as_slice-event-items.result.now c.loop-event-test.false ∙ c.as_slice-event-items.ensures)
+    ∙ all_given c.args.script.now
+
+pub new-requires-clause-fit : goal.new-requires-clause-fit
+new-requires-clause-fit c = fits c.args.script.now c.requires

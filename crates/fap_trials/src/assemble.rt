@@ -1,0 +1,97 @@
+use ctss_types::Sequence;
+use fap_assemble::{AsmFault, CardFault, Deck, FaultList, assemble};
+use fap_read::cards_of_text;
+use std::test::Fail;
+use word36::Word;
+
+const GREETING: &[u8] = b"       ORG     8\n\
+    GO     TSX     PRINT,4\n\
+    \x20      PZE     TEXT,,1\n\
+    \x20      TSX     STOP,4\n\
+    TEXT   BCI     1,HELLO\n\
+    BUF    BSS     2\n\
+    PRINT  TIA     =HWRFLX\n\
+    STOP   TIA     =HDEAD\n\
+    \x20      END     GO\n";
+
+const LITERALS: &[u8] = b"ONE    EQU     1\n\
+    \x20      CLA     =1,ONE\n\
+    \x20      ADD*    =O1\n\
+    \x20      TRA     *-1\n\
+    \x20      BSS     ONE+1\n\
+    \x20      END\n";
+
+const FAULTS: &[u8] = b"A      PZE     B\n\
+    A      PZE     0\n\
+    \x20      CLX     1\n";
+
+static DECKS: [(&[u8], &[u64]); 2] = [
+    (
+        GREETING,
+        &[
+            0o000010000001,
+            0o000004000010,
+            0o007400400016,
+            0o000001000013,
+            0o007400400017,
+            0o302543434660,
+            0o000004000016,
+            0o010100000020,
+            0o010100000021,
+            0o665126436760,
+            0o242521246060,
+        ],
+    ),
+    (
+        LITERALS,
+        &[
+            1,
+            0o000003000000,
+            0o050000100005,
+            0o040060000005,
+            0o002000000001,
+            0o000001000005,
+            1,
+        ],
+    ),
+];
+
+#[test]
+fn makes_decks(rt: HostRuntime) -> Result<(), Fail> {
+    for (text, want) in DECKS {
+        let cards = cards_of_text(rt.alloc(), text)?;
+        assert!(rt; cards.len() < 100);
+        let deck = assemble(rt.alloc(), cards.as_slice())?;
+        let mut words = Sequence::new(rt.alloc());
+        for bits in want {
+            words.push(Word::from_bits(*bits)?)?;
+        }
+        assert_eq!(rt; deck.words.as_slice(), words.as_slice());
+    }
+    Ok(())
+}
+
+// Cards at fault with their faults.
+static FOUND: [(u32, u8); 4] = [(1, 3), (2, 4), (3, 1), (4, 6)];
+
+fn faults_in(answer: Result<Deck, AsmFault>) -> Option<FaultList> {
+    match answer {
+        Err(AsmFault::Faults(faults)) => Some(faults),
+        _ => None,
+    }
+}
+
+#[test]
+fn finds_faults(rt: HostRuntime) -> Result<(), Fail> {
+    let cards = cards_of_text(rt.alloc(), FAULTS)?;
+    assert!(rt; cards.len() < 100);
+    let mut want = Sequence::new(rt.alloc());
+    for (card, number) in FOUND {
+        want.push(CardFault { card, number })?;
+    }
+    match faults_in(assemble(rt.alloc(), cards.as_slice())) {
+        Some(faults) => assert_eq!(rt; faults.as_slice(), want.as_slice()),
+        None => assert!(rt; false),
+    }
+    Ok(())
+}

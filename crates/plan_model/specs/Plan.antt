@@ -1,0 +1,46 @@
+-- Whom to serve, and what of each user is where.
+use Rattle.std.specs.Prelude.{ℕ, ◌+◌, ◌*◌, List, not, Bool}
+use Rattle.time_sharing.specs.Machine.{CutKind, Quit, Hang, Spent, End, Ending, Went, Stopped, Resized, Replaced, LoggedOut}
+use Rattle.time_sharing.specs.System.{Move}
+use Rattle.plan_model.specs.Levels.{Levels, empty_levels}
+use Rattle.plan_model.specs.Loads.{Places, no_places, loaded, given_up, is_loaded, is_dumped, is_read, is_fresh, count_below}
+
+pub record Plan : Type 0 where
+  pub levels : Levels
+  pub places : Places
+
+abbrev pub first_plan : ℕ → ℕ → Plan
+first_plan wq quantum = record { levels = empty_levels wq quantum; places = no_places }
+
+-- whether some of a user's n blocks are not in core
+abbrev pub must_load : Plan → ℕ → ℕ → Bool
+must_load q u n = not (is_loaded q.places u n)
+
+-- all of them are
+abbrev pub with_load : Plan → ℕ → ℕ → Plan
+with_load q u n = record q { places = loaded q.places u n }
+
+-- what that moves; each block that goes to the drum or comes from it costs ticks
+abbrev pub move_of : ℕ → Places → ℕ → ℕ → Move
+move_of swap places u n =
+    record {
+      ticks = swap * (count_below n (is_dumped places u) + count_below n (is_read places u));
+      dumped = count_below n (is_dumped places u);
+      read = count_below n (is_read places u);
+      fresh = count_below n (is_fresh places u);
+    }
+
+-- a user that has n blocks behind a step gives up the others, and all where its program was replaced
+abbrev pub places_after : Ending → ℕ → ℕ → Places → Places
+places_after Went u n places = places
+places_after Stopped u n places = given_up places u n
+places_after Resized u n places = given_up places u n
+places_after Replaced u n places = given_up places u 0
+places_after LoggedOut u n places = given_up places u n
+
+-- a session that is over leaves nothing
+abbrev pub places_cut : CutKind → ℕ → Places → Places
+places_cut Quit u places = places
+places_cut Hang u places = given_up places u 0
+places_cut Spent u places = given_up places u 0
+places_cut End u places = places

@@ -1,0 +1,19 @@
+use Rattle.std.proofs.Common.{sym, ap, ◌∙◌}
+use Rattle.text_model.specs.Reading.{octal_in}
+use Rattle.script_read.proofs.CardWords.{word_more, card_read, card_refused}
+use Rattle.script_read.proofs.words.add_words.Goals as goal
+
+pub returns-in_default : goal.returns-in_default
+returns-in_default c =
+    card_refused c.args.words.now c.words.words c.args.text.now c.words.rest.now 5 c.words.left c.words.invariant (sym c.if-is_over.ensures)
+    c.if-left-eq0.false (sym c.words-test.ensures) (ap octal_in (sym c.first_word.ensures.word) ∙ sym c.octal.ensures ∙ c.in_default.is)
+
+pub words-preserved : goal.words-preserved
+words-preserved c =
+    rw (c.in_ok-push.ensures.ok, c.first_word.ensures.behind)
+    (word_more c.words.left c.words.words c.words.rest.now c.in-Some.word c.if-left-eq0.false (sym c.words-test.ensures)
+    (ap octal_in (sym c.first_word.ensures.word) ∙ sym c.octal.ensures ∙ c.in-Some.is)
+    ∙ c.words.invariant)
+
+pub returns : goal.returns
+returns c = card_read c.args.words.now c.words.words c.args.text.now c.words.rest.now 5 c.words.left c.words.invariant (sym c.if-is_over.ensures) (sym c.words-test.ensures)

@@ -1,0 +1,117 @@
+-- Whole runs: what the loop over steps keeps, and what it ends with.
+use Rattle.std.proofs.Common.{◌≡◌, ℕ, zero, suc, ◌+◌, ◌-◌, ◌<◌, ◌≤◌, Bool, true, false, List, [], ◌∷◌, ◌++◌, map, Option, Some, None, length, refl, sym, ◌∙◌, ap, subst, arith}
+use Rattle.std.specs.Prelude.{Ok, Err}
+use Rattle.std.specs.declared.result.Result.{Result}
+use Rattle.ctss_types.specs.declared.fault.RunFault.{RunFault}
+use Rattle.ctss_types.specs.declared.fault.RunFault.TheVariants.{Drum, Disk, NoMemory}
+use Rattle.time_sharing.specs.Machine.{Item}
+use Rattle.user_model.specs.User.{User}
+use Rattle.system_model.specs.Run.{Run, next, run_to, AfterSteps}
+use Rattle.system_model.specs.Joined.{joined, with_cores, at_places}
+use Rattle.system_model.specs.Sound.{Sound, IsUser}
+use Rattle.plan_model.specs.Loads.{Places}
+use Rattle.plan_model.specs.Levels.{chosen, user_of}
+use Rattle.ctss_types.specs.declared.session.Waiting.{Waiting}
+use Rattle.system_model.proofs.SoundLaws.{first_user, Alike, user_too, seats_too}
+use Rattle.system_model.proofs.JoinedLaws.{joined_same, must_same}
+use Rattle.system_model.proofs.RunLaws.{run_to_next, run_to_done, after_next, after_none}
+use Rattle.user_cores.specs.Memory.{Memory}
+use Rattle.supervisor.specs.Steps.{Does, Stays, IsTied, IsHeld, LoadIsDue, LoadIsNext, Shows, StopsAtLoad, HasRun, HasRunPart, HasRunToLoad, Ends, Lasts}
+use Rattle.supervisor.proofs.Doing.{does_sound}
+
+-- a step of users joined with their words
+joined_next : (limit : ℕ) (old new : Run) (had has : Memory) → Does (next limit) old new had has → had.tells ≡ true → joined has.words new ≡ next limit (joined had.words old)
+joined_next limit old new had has d told =
+    joined_same has.words d.after new (λ u h. sym (d.now told u h)) ∙ d.is ∙ ap (next limit) (joined_same d.before had.words old (d.was told))
+
+-- what is to come of a run is the same behind a step
+abbrev pub Leads : ℕ → (start now : Run) → (first has : Memory) → Type 0
+Leads limit start now first has = first.tells ≡ true → run_to limit (joined has.words now) ≡ run_to limit (joined first.words start)
+
+pub leads_on : (limit : ℕ) (start old new : Run) (first had has : Memory) → had.tells ≡ first.tells → old.system.clock < limit → Does (next limit) old new had has → Leads limit start old first had → Leads limit start new first has
+unfolding joined
+leads_on limit start old new first had has tells up d leads = λ told.
+    ap (run_to limit) (joined_next limit old new had has d (tells ∙ told)) ∙ run_to_next limit (joined had.words old) up ∙ leads told
+
+pub part_on : (limit : ℕ) (start old new : Run) (first had has : Memory) → had.tells ≡ first.tells → old.system.clock < limit → Does (next limit) old new had has → HasRunPart limit start old first had → HasRunPart limit start new first has
+unfolding joined
+part_on limit start old new first had has tells up d part = λ told.
+    subst (AfterSteps limit (joined first.words start)) (sym (joined_next limit old new had has d (tells ∙ told))) (after_next limit (joined first.words start) (joined had.words old) (part told) up)
+
+pub part_none : (limit : ℕ) (start : Run) (first : Memory) → HasRunPart limit start start first first
+part_none limit start first = λ told. after_none limit (joined first.words start)
+
+pub run_done : (limit : ℕ) (start now : Run) (first has : Memory) → limit ≤ now.system.clock → Leads limit start now first has → HasRun limit start now first has
+unfolding joined
+run_done limit start now first has up leads = λ told. sym (run_to_done limit (joined has.words now) up) ∙ leads told
+
+pub held_on : (limit : ℕ) (old new : Run) (had has : Memory) → old.system.clock < limit → IsHeld old had → IsTied new.system.users has → Does (next limit) old new had has → IsHeld new has
+held_on limit old new had has up held tied d = record { sound = does_sound limit old new had has up held.sound d; tied = tied }
+
+pub held_still : (old new : Run) (had has : Memory) → IsHeld old had → IsTied new.system.users has → Stays old new had has → IsHeld new has
+held_still old new had has held tied s = record { sound = subst Sound (sym s.run) held.sound; tied = tied }
+
+pub part_still : (limit : ℕ) (start old new : Run) (first had has : Memory) → had.tells ≡ first.tells → Stays old new had has → HasRunPart limit start old first had → HasRunPart limit start new first has
+part_still limit start old new first had has tells s part = λ told.
+    subst (AfterSteps limit (joined first.words start)) (sym (joined_same has.words had.words new (s.words (tells ∙ told)) ∙ ap (joined had.words) s.run)) (part told)
+
+pub transcripts_same : (k : ℕ) (f : ℕ → List ℕ) (ps : List User) → map (λ (p : User). p.transcript) ps ≡ map (λ (p : User). p.transcript) (with_cores k f ps)
+transcripts_same k f [] = refl
+transcripts_same k f (p ∷ ps) = ap (λ (ts : List (List Item)). p.transcript ∷ ts) (transcripts_same (suc k) f ps)
+
+load_joined : (f : ℕ → List ℕ) (r : Run) → Sound r → LoadIsNext r → LoadIsNext (joined f r)
+unfolding joined
+load_joined f r sound load =
+    record {
+      quiet = load.quiet;
+      due = record {
+        user = load.due.user;
+        chosen_is = load.due.chosen_is;
+        served = load.due.served;
+        absent = must_same f load.due.user r (is_user (chosen r.system.plan.levels) refl) ∙ load.due.absent;
+      };
+    }
+  where
+    is_user : (x : Option (ℕ × Waiting)) → chosen r.system.plan.levels ≡ x → IsUser load.due.user r
+    is_user None e = let h = sym (ap user_of e) ∙ load.due.chosen_is in cc
+    is_user (Some x) e = let h = sym (ap user_of e) ∙ load.due.chosen_is in let same : (x.1).user ≡ load.due.user = cc in subst (λ (k : ℕ). IsUser k r) same (first_user r x.0 x.1 sound e)
+
+-- a run that stopped at a load
+pub stops_at_load : (limit : ℕ) (start old new : Run) (first had : Memory) → HasRunPart limit start old first had → Sound old → LoadIsNext old
+    → new.system.entries ≡ old.system.entries → new.system.users ≡ old.system.users → new.system.clock ≡ old.system.clock → HasRunToLoad limit start new first
+unfolding joined
+stops_at_load limit start old new first had part sound load entries users clock = λ told.
+    record {
+      at = joined had.words old;
+      part = part told;
+      load = load_joined had.words old sound load;
+      shown = record {
+        entries = entries;
+        transcripts = ap (λ (ps : List User). map (λ (p : User). p.transcript) ps) users ∙ transcripts_same 1 had.words old.system.users;
+        clock = clock;
+      };
+    }
+
+-- what holds by how a step ended
+pub lasts_by : {T : Type 0} (r : Result T RunFault) (A B C P : Type 0) → (A → P) → (B → P) → Ends r A B C → Lasts r P
+lasts_by (Ok x) A B C P done unchanged h = done h
+lasts_by (Err NoMemory) A B C P done unchanged h = unchanged h
+lasts_by (Err Drum) A B C P done unchanged h = tt
+lasts_by (Err Disk) A B C P done unchanged h = cc
+
+-- soundness doesn't look at the places of blocks
+pub sound_places : (places : Places) (r : Run) → Sound r → Sound (at_places places r)
+sound_places places r sound =
+    record {
+      few = sound.few;
+      accounts = sound.accounts;
+      seats = seats_too r (at_places places r) r.system.events same sound.seats;
+      sits = λ k u h. user_too r (at_places places r) u same (sound.sits k u h);
+      served = λ v h. user_too r (at_places places r) v.user same (sound.served v h);
+      ran = sound.ran;
+      queued = λ u h. user_too r (at_places places r) u same (sound.queued u h);
+      owns = sound.owns;
+    }
+  where
+    same : Alike r (at_places places r)
+    same = record { users = refl; accounts = refl; consoles = refl }

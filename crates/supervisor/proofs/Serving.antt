@@ -1,0 +1,112 @@
+-- Parts of what a step of the user that is served does.
+use Rattle.std.proofs.Common.{◌≡◌, ◌≢◌, ℕ, zero, suc, ◌+◌, ◌-◌, ◌*◌, ◌<◌, ◌≤◌, Bool, true, false, List, [], ◌∷◌, ◌++◌, length, take, replicate, refl, sym, ◌∙◌, ap, subst, arith}
+use Rattle.std.proofs.lemmas.List.{append-nil}
+use Rattle.std.proofs.Math.Seq.{take-length}
+use Rattle.time_sharing.specs.Machine.{Ending, Went, Stopped, Resized, Replaced, LoggedOut}
+use Rattle.time_sharing.specs.System.{Service, Entry, Cause}
+use Rattle.image_map.specs.Images.{size_of}
+use Rattle.user_model.specs.Inner.{blocks_of, recut, zeros}
+use Rattle.user_model.specs.User.{User, step, ending, in_core, core_after, IsStep}
+use Rattle.user_model.proofs.WentLaws.{went_stays}
+use Rattle.system_model.specs.Run.{Run}
+use Rattle.system_model.specs.Cases.{waited, idled, served}
+use Rattle.system_model.specs.Joined.{counted, moved}
+use Rattle.user_cores.specs.Memory.{Memory}
+use Rattle.std.specs.Prelude.{Ok, Err}
+use Rattle.std.specs.declared.result.Result.{Result}
+use Rattle.ctss_types.specs.declared.fault.RunFault.{RunFault}
+use Rattle.ctss_types.specs.declared.fault.RunFault.TheVariants.{Drum, Disk, NoMemory}
+use Rattle.supervisor.specs.Steps.{IsResized, settled, Ends, Fails}
+
+-- a step that goes on leaves as many blocks
+pub went_size : (e : Ending) (asked : Bool) (t : ℕ) (old new : User) (before after : List ℕ) → IsStep e asked t old new before after → e ≡ Went → blocks_of new.inner ≡ blocks_of old.inner
+went_size e asked t old new before after says is =
+    ap (λ (p : User). blocks_of p.inner) says.left ∙ went_stays t (in_core before old) (sym says.ends ∙ is)
+
+recut_whole : (n : ℕ) (core : List ℕ) → length core ≡ 256 * n → core ≡ recut n core
+recut_whole n core h =
+    sym (append-nil core)
+    ∙ (λ j. take_all j ++ rest j)
+  where
+    take_all : core ≡ take (256 * n) core
+    take_all = sym (take-length core) ∙ ap (λ (k : ℕ). take k core) h
+
+    none : 256 * n - length core ≡ zero
+    none = omega (arith, h)
+
+    rest : ◌≡◌ {A = List ℕ} [] (replicate (256 * n - length core) 0)
+    rest = ap (λ (k : ℕ). replicate k 0) (sym none)
+
+-- the words behind a step, where those of a step that goes on are as many as its blocks
+pub settled_is : (e : Ending) (n : ℕ) (core : List ℕ) → (e ≡ Went → length core ≡ 256 * n) → settled e n core ≡ core_after e n core
+settled_is Went n core h = recut_whole n core (h refl)
+settled_is Stopped n core h = refl
+settled_is Resized n core h = refl
+settled_is Replaced n core h = refl
+settled_is LoggedOut n core h = refl
+
+-- a new size, seen from before another change that left sizes and quotas
+pub resized_from : (u w n m : ℕ) (had mid has : Memory) → IsResized u n mid has → mid.sizes ≡ had.sizes → mid.quotas ≡ had.quotas → u ≡ w → n ≡ m → IsResized w m had has
+resized_from u w n m had mid has same sizes quotas uw nm =
+    record {
+      len = same.len ∙ ap length sizes;
+      mine = λ pos below.
+          ap (size_of has.sizes) (sym uw) ∙ same.mine (omega (arith, uw, pos)) (let e = ap length sizes in omega (arith, uw, e, below)) ∙ nm;
+      others = λ x pos other. same.others x pos (λ e. other (e ∙ uw)) ∙ ap (λ (s : List ℕ). size_of s x) sizes;
+      quotas = same.quotas ∙ quotas;
+    }
+
+-- no size has changed
+pub resized_none : (n : ℕ) (had has : Memory) → has.sizes ≡ had.sizes → has.quotas ≡ had.quotas → IsResized 0 n had has
+resized_none n had has sizes quotas =
+    record {
+      len = ap length sizes;
+      mine = λ pos below. absurd (omega (arith, pos));
+      others = λ u pos other. ap (λ (s : List ℕ). size_of s u) sizes;
+      quotas = quotas;
+    }
+
+-- users stay where the queues, the clock and the service change
+
+pub waited_users : (v : Service) (r : Run) → (waited v r).system.users ≡ r.system.users
+unfolding waited
+waited_users v r = refl
+
+pub counted_users : (v : Service) (t : Ending) (asked : Bool) (r : Run) → (counted v t asked r).system.users ≡ r.system.users
+unfolding counted
+counted_users v t asked r = refl
+
+pub moved_users : (u dumped read fresh : ℕ) (r : Run) → (moved u dumped read fresh r).system.users ≡ r.system.users
+unfolding moved
+moved_users u dumped read fresh r = refl
+
+-- a run with other users, and its entries said in other words
+abbrev pub with_users : Run → List User → List Entry → Run
+with_users r users entries = record r { system = record r.system { users = users; entries = entries } }
+
+pub idled_users : (limit : ℕ) (r : Run) → (idled limit r).system.users ≡ r.system.users
+unfolding idled
+idled_users limit r = refl
+
+pub served_users : (cause : Cause) (v : Service) (r : Run) → (served cause v r).system.users ≡ r.system.users
+unfolding served
+served_users cause v r = refl
+
+-- other words for how a step ended
+pub ends_map : {T : Type 0} (r : Result T RunFault) (A B C D E F : Type 0) → (A → D) → (B → E) → (C → F) → Ends r A B C → Ends r D E F
+ends_map (Ok x) A B C D E F done unchanged failed h = done h
+ends_map (Err NoMemory) A B C D E F done unchanged failed h = unchanged h
+ends_map (Err Drum) A B C D E F done unchanged failed h = failed h
+ends_map (Err Disk) A B C D E F done unchanged failed h = h
+
+-- the same, where it ended by a fault
+pub fails_map : (f : RunFault) (B C E F : Type 0) → (B → E) → (C → F) → Fails f B C → Fails f E F
+fails_map NoMemory B C E F unchanged failed h = unchanged h
+fails_map Drum B C E F unchanged failed h = failed h
+fails_map Disk B C E F unchanged failed h = h
+
+-- what follows from each fault
+pub fails_to : (f : RunFault) (B C P : Type 0) → (B → P) → (C → P) → Fails f B C → P
+fails_to NoMemory B C P unchanged failed h = unchanged h
+fails_to Drum B C P unchanged failed h = failed h
+fails_to Disk B C P unchanged failed h = cc

@@ -1,0 +1,87 @@
+use Rattle.std.proofs.Common.{rules, ◌≡◌, ◌<◌, ◌≤◌, ◌-◌, ◌+◌, ℕ, true, false, List, Option, Some, None, Ok, Err, refl, sym, ap, subst, ◌∙◌, arith}
+use Rattle.ctss_types.specs.declared.fault.RunFault.{RunFault}
+use Rattle.ctss_types.specs.declared.fault.RunFault.TheVariants.{Drum, Disk, NoMemory}
+use Rattle.system_model.specs.Run.{Run}
+use Rattle.system_model.specs.Sound.{Sound}
+use Rattle.plan_model.specs.Loads.{no_places}
+use Rattle.user_cores.specs.Memory.{Memory}
+use Rattle.supervisor.specs.Seen.{seen}
+use Rattle.supervisor.specs.Steps.{IsHeld, HasRunPart}
+use Rattle.supervisor.proofs.Doing.{does_fall}
+use Rattle.supervisor.proofs.Serving.{fails_map, fails_to}
+use Rattle.supervisor.proofs.Running.{sound_places, leads_on, part_on, part_none, run_done, held_on, part_still, stops_at_load}
+use Rattle.supervisor.proofs.state.State.advance.Goals as goal
+
+pub steps-init : goal.steps-init
+steps-init g c =
+    record {
+      leads = λ told. refl;
+      part = part_none c.args.limit (seen (g.C.Cores.memory c.args.cores.now).places c.args.self.now) (g.C.Cores.memory c.args.cores.now);
+      tells = refl;
+      held = c.requires.held;
+      works = c.requires.works;
+      keeps = search rules;
+      kept = omega arith;
+    }
+
+pub steps-smaller : goal.steps-smaller
+steps-smaller g c =
+    let had : Memory = g.C.Cores.memory c.steps.cores in
+    let has : Memory = g.C.Cores.memory c.step.new.cores in
+    does_fall c.args.limit (seen had.places c.steps.self) (seen has.places c.step.new.self) had has c.steps-test.true c.in-Ok.ensures.ended
+
+pub steps-preserved : goal.steps-preserved
+steps-preserved g c =
+    let first : Memory = g.C.Cores.memory c.args.cores.now in
+    let had : Memory = g.C.Cores.memory c.steps.cores in
+    let has : Memory = g.C.Cores.memory c.step.new.cores in
+    let start : Run = seen first.places c.args.self.now in
+    let old : Run = seen had.places c.steps.self in
+    let new : Run = seen has.places c.step.new.self in
+    let inv = c.steps.invariant in
+    let up = c.steps-test.true in
+    let done = c.in-Ok.ensures.ended in
+    record {
+      leads = leads_on c.args.limit start old new first had has inv.tells up done inv.leads;
+      part = part_on c.args.limit start old new first had has inv.tells up done inv.part;
+      tells = done.tells ∙ inv.tells;
+      held = held_on c.args.limit old new had has up inv.held c.in-Ok.ensures.tied done;
+      works = c.in-Ok.ensures.works;
+      keeps = search rules;
+      kept = let a = inv.kept in let b = c.in-Ok.ensures.kept in omega (arith, a, b);
+    }
+
+pub returns-in-Err-clause-ended : goal.returns-in-Err-clause-ended
+returns-in-Err-clause-ended g c =
+    let first : Memory = g.C.Cores.memory c.args.cores.now in
+    let had : Memory = g.C.Cores.memory c.steps.cores in
+    let has : Memory = g.C.Cores.memory c.step.new.cores in
+    let start : Run = seen first.places c.args.self.now in
+    let old : Run = seen had.places c.steps.self in
+    let new : Run = seen has.places c.step.new.self in
+    let inv = c.steps.invariant in
+    fails_map c.in-Err.fault _ _ _ _
+    (λ s. part_still c.args.limit start old new first had has inv.tells s inv.part)
+    (λ f. (stops_at_load c.args.limit start old (seen no_places c.step.new.self) first had inv.part inv.held.sound f.2 (ap (λ (r : Run). r.system.entries) f.0) (ap (λ (r : Run). r.system.users) f.0) (ap (λ (r : Run). r.system.clock) f.0), search rules))
+    c.in-Err.ensures.ended
+
+pub returns-clause-ended : goal.returns-clause-ended
+returns-clause-ended g c =
+    let first : Memory = g.C.Cores.memory c.args.cores.now in
+    let had : Memory = g.C.Cores.memory c.steps.cores in
+    run_done c.args.limit (seen first.places c.args.self.now) (seen had.places c.steps.self) first had (omega (arith, c.steps-test.false)) c.steps.invariant.leads
+
+pub returns-in-Err-clause-sound : goal.returns-in-Err-clause-sound
+returns-in-Err-clause-sound g c =
+    let had : Memory = g.C.Cores.memory c.steps.cores in
+    let has : Memory = g.C.Cores.memory c.step.new.cores in
+    let old : Run = seen had.places c.steps.self in
+    let new : Run = seen has.places c.step.new.self in
+    let held = c.steps.invariant.held in
+    fails_to c.in-Err.fault _ _ _
+    (λ s. sound_places no_places new (subst Sound (sym s.run) held.sound))
+    (λ f. subst Sound (sym f.0) (sound_places no_places old held.sound))
+    c.in-Err.ensures.ended
+
+pub returns-clause-sound : goal.returns-clause-sound
+returns-clause-sound g c = sound_places no_places (seen (g.C.Cores.memory c.steps.cores).places c.steps.self) c.steps.invariant.held.sound

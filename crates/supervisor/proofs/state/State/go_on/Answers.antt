@@ -1,0 +1,64 @@
+use Rattle.std.proofs.Common.{◌≡◌, ◌≤◌, ◌-◌, ◌+◌, ℕ, true, false, not, List, Option, Some, None, refl, sym, ap, subst, ◌∙◌, arith}
+use Rattle.user_model.specs.User.{User}
+use Rattle.system_model.specs.Run.{Run}
+use Rattle.user_cores.specs.Memory.{Memory}
+use Rattle.supervisor.specs.Seen.{seen}
+use Rattle.supervisor.specs.Steps.{IsTied}
+use Rattle.ctss_types.specs.declared.session.Waiting.{Waiting}
+use Rattle.time_sharing.specs.System.{Service}
+use Rattle.plan_model.specs.Loads.{is_loaded}
+use Rattle.image_map.specs.Images.{size_of}
+use Rattle.system_model.specs.Sound.{IsUser}
+use Rattle.system_model.proofs.SoundLaws.{first_user}
+use Rattle.supervisor.proofs.Doing.{go_begin, go_same, load_due}
+use Rattle.supervisor.proofs.Serving.{ends_map}
+use Rattle.supervisor.proofs.state.State.go_on.Goals as goal
+
+pub attend-requires-clause-user : goal.attend-requires-clause-user
+attend-requires-clause-user g c =
+    let had : Memory = g.C.Cores.memory c.args.cores.now in
+    let old : Run = seen had.places c.args.self.now in
+    subst (λ (k : ℕ). IsUser k old) (sym c.number.ensures.value) (first_user old c.in-Some-None.next.level _ c.requires.held.sound c.in-Some-None.ensures.some)
+
+pub returns-in-Some-None-clause-ended : goal.returns-in-Some-None-clause-ended
+returns-in-Some-None-clause-ended g c =
+    let had : Memory = g.C.Cores.memory c.args.cores.now in
+    let has : Memory = g.C.Cores.memory c.attend.new.cores in
+    let old : Run = seen had.places c.args.self.now in
+    let x : Waiting = record { user = c.in-Some-None.next.user; left = c.in-Some-None.next.left } in
+    let v : Service = record { tick = c.args.self.now.clock; user = c.number.result; level = c.in-Some-None.next.level; ran = 0 } in
+    let none = c.in-Some-None.is-1 in
+    ends_map c.attend.result _ _ _ _ _ _
+    (go_begin c.args.limit c.in-Some-None.next.level x v old (seen has.places c.attend.new.self) had has c.in-Some-None.ensures.some none
+    (λ j. record { tick = c.args.self.now.clock; user = c.number.ensures.value j; level = c.in-Some-None.next.level; ran = 0 }))
+    (λ h. h)
+    (λ f. (
+      f.0,
+      f.1,
+      load_due c.in-Some-None.next.level x old had c.in-Some-None.ensures.some (λ w h. let both = sym none ∙ h in cc) c.requires.held.tied
+          (first_user old c.in-Some-None.next.level x c.requires.held.sound c.in-Some-None.ensures.some)
+          (subst (λ (k : ℕ). is_loaded had.places k (size_of had.sizes k) ≡ false) c.number.ensures.value f.2),
+    ))
+    c.attend.ensures.ended
+
+pub returns-then-v-number-clause-ended : goal.returns-then-v-number-clause-ended
+returns-then-v-number-clause-ended g c =
+    let had : Memory = g.C.Cores.memory c.args.cores.now in
+    let has : Memory = g.C.Cores.memory c.attend-then-v-number.new.cores in
+    let old : Run = seen had.places c.args.self.now in
+    let x : Waiting = record { user = c.in-Some-Some.next.user; left = c.in-Some-Some.next.left } in
+    let v : Service = c.in-Some-Some.v in
+    let some = c.in-Some-Some.is-1 in
+    let same : v.user ≡ x.user = c.if-v-number.true ∙ c.number-in-Some-Some.ensures.value in
+    ends_map c.attend-then-v-number.result _ _ _ _ _ _
+    (go_same c.args.limit c.in-Some-Some.next.level x v old (seen has.places c.attend-then-v-number.new.self) had has c.in-Some-Some.ensures.some some same)
+    (λ h. h)
+    (λ f. (
+      f.0,
+      f.1,
+      load_due c.in-Some-Some.next.level x old had c.in-Some-Some.ensures.some
+          (λ w h. let both = sym h ∙ some in let e : w ≡ v = cc in ap (λ (s : Service). s.user) e ∙ same)
+          c.requires.held.tied (first_user old c.in-Some-Some.next.level x c.requires.held.sound c.in-Some-Some.ensures.some)
+          (subst (λ (k : ℕ). is_loaded had.places k (size_of had.sizes k) ≡ false) same f.2),
+    ))
+    c.attend-then-v-number.ensures.ended

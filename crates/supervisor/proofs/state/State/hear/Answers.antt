@@ -1,0 +1,40 @@
+use Rattle.std.proofs.Common.{◌≡◌, ◌≤◌, ◌-◌, ℕ, List, [], refl, sym, ap, subst, ◌∙◌}
+use Rattle.image_map.proofs.Calls.{on_err}
+use Rattle.user_model.specs.User.{User}
+use Rattle.plan_model.specs.Loads.{Places}
+use Rattle.system_model.specs.Run.{Run}
+use Rattle.system_model.specs.Joined.{with_core}
+use Rattle.user_cores.specs.Memory.{Memory}
+use Rattle.supervisor.specs.Seen.{seen}
+use Rattle.supervisor.specs.Steps.{IsTied, IsResized}
+use Rattle.supervisor.proofs.Doing.{does_taken}
+use Rattle.supervisor.proofs.Tied.{tied_taken}
+use Rattle.supervisor.proofs.state.State.hear.Goals as goal
+
+pub returns-in_err-cut-clause-err : goal.returns-in_err-cut-clause-err
+returns-in_err-cut-clause-err g c =
+    on_err c.from_residual.result _ (record { run = c.in_err-cut.ensures.err (g.C.Cores.memory c.args.cores.now).places; words = λ t u h. refl; tells = refl })
+
+pub returns-in_err-cut-clause-tied : goal.returns-in_err-cut-clause-tied
+returns-in_err-cut-clause-tied g c =
+    let had : Memory = g.C.Cores.memory c.args.cores.now in
+    subst (λ (us : List User). IsTied us had) (ap (λ (r : Run). r.system.users) (sym (c.in_err-cut.ensures.err had.places))) c.requires.held.tied
+
+pub returns-clause-ok : goal.returns-clause-ok
+returns-clause-ok g c =
+    let had : Memory = g.C.Cores.memory c.args.cores.now in
+    let has : Memory = g.C.Cores.memory c.give_up.new.cores in
+    let left = c.give_up.ensures.left in
+    does_taken c.args.e (seen had.places c.args.self.now) (seen has.places c.take_event.new.self) had has c.requires.seat c.requires.held.sound
+    (ap (λ (p : Places). seen p c.take_event.new.self) left.places ∙ c.in_ok-cut.ensures.ok had.places)
+    (λ t u h. left.words t u h ∙ ap (λ (k : ℕ). with_core k [] had.words u) c.in_ok-cut.ensures.cut)
+    left.tells
+
+pub returns-clause-tied : goal.returns-clause-tied
+returns-clause-tied g c =
+    let had : Memory = g.C.Cores.memory c.args.cores.now in
+    let has : Memory = g.C.Cores.memory c.give_up.new.cores in
+    let left = c.give_up.ensures.left in
+    let is = ap (λ (p : Places). seen p c.take_event.new.self) left.places ∙ c.in_ok-cut.ensures.ok had.places in
+    subst (λ (us : List User). IsTied us has) (ap (λ (r : Run). r.system.users) (sym is))
+    (tied_taken c.args.e (seen had.places c.args.self.now) had has c.requires.seat c.requires.held.sound c.requires.held.tied (subst (λ (k : ℕ). IsResized k 0 had has) c.in_ok-cut.ensures.cut left.sizes))

@@ -1,0 +1,33 @@
+use Rattle.std.proofs.Common.{◌≡◌, ◌≤◌, ◌-◌, ◌+◌, ℕ, true, false, not, List, Option, Some, None, refl, sym, ap, subst, ◌∙◌, arith}
+use Rattle.user_model.specs.User.{User}
+use Rattle.system_model.specs.Run.{Run}
+use Rattle.user_cores.specs.Memory.{Memory}
+use Rattle.supervisor.specs.Seen.{seen}
+use Rattle.supervisor.specs.Steps.{IsTied}
+use Rattle.image_map.proofs.Calls.{on_err}
+use Rattle.time_sharing.specs.System.{Preempt}
+use Rattle.system_model.specs.Cases.{served}
+use Rattle.system_model.proofs.JoinedLaws.{served_joined}
+use Rattle.supervisor.proofs.Doing.{does_apart}
+use Rattle.supervisor.proofs.Serving.{served_users}
+use Rattle.supervisor.proofs.state.State.preempt.Goals as goal
+
+pub returns-in_err-end_service-clause-err : goal.returns-in_err-end_service-clause-err
+returns-in_err-end_service-clause-err g c =
+    on_err c.from_residual.result _ (record { run = c.in_err-end_service.ensures.err (g.C.Cores.memory c.args.cores.now).places; words = λ t u h. refl; tells = refl })
+
+pub returns-in_err-end_service-clause-tied : goal.returns-in_err-end_service-clause-tied
+returns-in_err-end_service-clause-tied g c =
+    let had : Memory = g.C.Cores.memory c.args.cores.now in
+    subst (λ (us : List User). IsTied us had) (ap (λ (r : Run). r.system.users) (sym (c.in_err-end_service.ensures.err had.places))) c.requires.held.tied
+
+pub returns-clause-ok : goal.returns-clause-ok
+returns-clause-ok g c =
+    let had : Memory = g.C.Cores.memory c.args.cores.now in
+    let old : Run = seen had.places c.args.self.now in
+    does_apart (served Preempt c.args.v) old (seen had.places c.end_service.new.self) had had (c.in_ok-end_service.ensures.ok had.places) (λ w. served_joined w Preempt c.args.v old) (λ t u h. refl) refl
+
+pub returns-clause-tied : goal.returns-clause-tied
+returns-clause-tied g c =
+    let had : Memory = g.C.Cores.memory c.args.cores.now in
+    subst (λ (us : List User). IsTied us had) (sym (ap (λ (r : Run). r.system.users) (c.in_ok-end_service.ensures.ok had.places) ∙ served_users Preempt c.args.v (seen had.places c.args.self.now))) c.requires.held.tied

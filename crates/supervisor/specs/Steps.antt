@@ -1,0 +1,129 @@
+-- Steps of the machine of all users, between two states with what the users have in core and on the drum.
+use Rattle.std.specs.Prelude.{◌≡◌, ◌≢◌, ℕ, suc, ◌≤◌, ◌<◌, true, false, List, [], length, map, Option, Some, None, Ok, Err}
+use Rattle.std.specs.declared.result.Result.{Result}
+use Rattle.ctss_types.specs.declared.fault.RunFault.{RunFault}
+use Rattle.ctss_types.specs.declared.fault.RunFault.TheVariants.{Drum, Disk, NoMemory}
+use Rattle.time_sharing.specs.Machine.{Ending, Went, Stopped, Resized, Replaced, LoggedOut}
+use Rattle.time_sharing.specs.System.{Service}
+use Rattle.drum_slots.specs.Keys.{quota_of}
+use Rattle.image_map.specs.Images.{size_of}
+use Rattle.user_model.specs.Inner.{blocks_of, recut, zeros}
+use Rattle.user_model.specs.User.{User}
+use Rattle.plan_model.specs.Levels.{chosen, user_of}
+use Rattle.plan_model.specs.Plan.{must_load, places_after}
+use Rattle.user_cores.specs.Memory.{Memory}
+use Rattle.system_model.specs.Run.{Run, due_of, run_to, AfterSteps}
+use Rattle.system_model.specs.Cases.{user_at}
+use Rattle.system_model.specs.Joined.{joined, with_core}
+use Rattle.system_model.specs.Sound.{Sound}
+use Rattle.supervisor.specs.Seen.{number_of, left_places}
+
+-- What happened is what this function does to the users joined with words. Where the drum tells its records, these are
+-- the users' own words.
+pub record Does (f : Run → Run) (old new : Run) (had has : Memory) : Type 0 where
+  pub before : ℕ → List ℕ
+  pub after : ℕ → List ℕ
+  pub is : joined after new ≡ f (joined before old)
+  pub was : had.tells ≡ true → (u : ℕ) → 1 ≤ u → before u ≡ had.words u
+  pub now : had.tells ≡ true → (u : ℕ) → 1 ≤ u → after u ≡ has.words u
+  pub tells : has.tells ≡ had.tells
+
+-- nothing happened
+pub record Stays (old new : Run) (had has : Memory) : Type 0 where
+  pub run : new ≡ old
+  pub words : had.tells ≡ true → (u : ℕ) → 1 ≤ u → has.words u ≡ had.words u
+  pub tells : has.tells ≡ had.tells
+
+-- users and cores agree in each user's number of blocks and in its quota
+pub record IsTied (users : List User) (m : Memory) : Type 0 where
+  pub many : length m.sizes ≡ suc (length users)
+  pub has : (u : ℕ) → 1 ≤ u → u ≤ length users → size_of m.sizes u ≡ blocks_of (user_at u users).inner
+  pub may : (u : ℕ) → 1 ≤ u → u ≤ length users → quota_of m.quotas u ≡ (user_at u users).inner.account.blocks
+
+-- what holds at each moment
+pub record IsHeld (r : Run) (m : Memory) : Type 0 where
+  pub sound : Sound r
+  pub tied : IsTied r.system.users m
+
+-- the size of one user, if any (0 for nobody), is so many blocks now, and all else of sizes and quotas stays
+pub record IsResized (k n : ℕ) (had has : Memory) : Type 0 where
+  pub len : length has.sizes ≡ length had.sizes
+  pub mine : 0 < k → k < length had.sizes → size_of has.sizes k ≡ n
+  pub others : (u : ℕ) → 1 ≤ u → u ≢ k → size_of has.sizes u ≡ size_of had.sizes u
+  pub quotas : has.quotas ≡ had.quotas
+
+-- a user whose session is over has no core any more, and all else stays
+pub record IsLeft (cut : Option ℕ) (had has : Memory) : Type 0 where
+  pub words : had.tells ≡ true → (u : ℕ) → 1 ≤ u → has.words u ≡ with_core (number_of cut) [] had.words u
+  pub tells : has.tells ≡ had.tells
+  pub places : has.places ≡ left_places cut had.places
+  pub sizes : IsResized (number_of cut) 0 had has
+
+-- the words of a user behind a step of it that ended so and left it so many blocks
+abbrev pub settled : Ending → ℕ → List ℕ → List ℕ
+settled Went blocks core = core
+settled Stopped blocks core = recut blocks core
+settled Resized blocks core = recut blocks core
+settled Replaced blocks core = zeros blocks
+settled LoggedOut blocks core = recut blocks core
+
+-- a user has as many blocks as its step left it
+pub record IsSettled (e : Ending) (u n : ℕ) (had has : Memory) : Type 0 where
+  pub mine : had.tells ≡ true → has.words u ≡ settled e n (had.words u)
+  pub others : (w : ℕ) → 1 ≤ w → w ≢ u → has.words w ≡ had.words w
+  pub tells : has.tells ≡ had.tells
+  pub places : has.places ≡ places_after e u n had.places
+  pub sizes : IsResized u n had has
+
+-- some blocks of the user to be served are not in core
+pub record LoadIsDue (r : Run) : Type 0 where
+  pub user : ℕ
+  pub chosen_is : user_of (chosen r.system.plan.levels) ≡ Some user
+  pub served : (v : Service) → r.system.service ≡ Some v → v.user ≡ user
+  pub absent : must_load r.system.plan user (blocks_of (user_at user r.system.users).inner) ≡ true
+
+-- the next step brings them in
+pub record LoadIsNext (r : Run) : Type 0 where
+  pub quiet : due_of r.system.events r.system.clock ≡ None
+  pub due : LoadIsDue r
+
+-- what a run shows: the schedule, the transcripts and the clock
+pub record Shows (r s : Run) : Type 0 where
+  pub entries : s.system.entries ≡ r.system.entries
+  pub transcripts : map (λ (p : User). p.transcript) s.system.users ≡ map (λ (p : User). p.transcript) r.system.users
+  pub clock : s.system.clock ≡ r.system.clock
+
+-- What happened is the run to the limit, or a part of it, of the users joined with their words, where the drum tells them.
+abbrev pub HasRun : ℕ → (old new : Run) → (had has : Memory) → Type 0
+HasRun limit old new had has = had.tells ≡ true → joined has.words new ≡ run_to limit (joined had.words old)
+
+abbrev pub HasRunPart : ℕ → (old new : Run) → (had has : Memory) → Type 0
+HasRunPart limit old new had has = had.tells ≡ true → AfterSteps limit (joined had.words old) (joined has.words new)
+
+-- a part of the run, behind which a load is next, is shown
+pub record StopsAtLoad (limit : ℕ) (old new : Run) : Type 0 where
+  pub at : Run
+  pub part : AfterSteps limit old at
+  pub load : LoadIsNext at
+  pub shown : Shows at new
+
+abbrev pub HasRunToLoad : ℕ → (old new : Run) → (had : Memory) → Type 0
+HasRunToLoad limit old new had = had.tells ≡ true → StopsAtLoad limit (joined had.words old) new
+
+-- what holds by the fault that ended a step: want of memory, or the drum; the disk has no part in it
+abbrev pub Fails : RunFault → Type 0 → Type 0 → Type 0
+Fails NoMemory unchanged failed = unchanged
+Fails Drum unchanged failed = failed
+Fails Disk unchanged failed = true ≡ false
+
+-- what holds by how a step ended: well, or by a fault
+abbrev pub Ends : {T : Type 0} → Result T RunFault → Type 0 → Type 0 → Type 0 → Type 0
+Ends (Ok x) done unchanged failed = done
+Ends (Err fault) done unchanged failed = Fails fault unchanged failed
+
+-- what holds unless the drum failed
+abbrev pub Lasts : {T : Type 0} → Result T RunFault → Type 0 → Type 0
+Lasts (Ok x) P = P
+Lasts (Err NoMemory) P = P
+Lasts (Err Drum) P = Unit {0}
+Lasts (Err Disk) P = P

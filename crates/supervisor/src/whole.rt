@@ -1,0 +1,295 @@
+//! Steps of the state together with users' cores, one after another.
+ghost use Rattle.std.specs.Prelude.{◌≡◌, ◌<◌, ◌≤◌, ◌-◌, ◌^◌, length, true, false, OnOk, OnErr, IfOk};
+ghost use Rattle.faults.specs.Faults.{Rose};
+ghost use Rattle.drum_slots.specs.Keys.{quota_of};
+ghost use Rattle.image_map.specs.Images.{size_of};
+ghost use Rattle.plan_model.specs.Levels.{chosen, user_of};
+ghost use Rattle.plan_model.specs.Loads.{Places, is_loaded, no_places};
+ghost use Rattle.system_model.specs.Run.{next, taken, otherwise, attended};
+ghost use Rattle.system_model.specs.Cases.{served, idled};
+ghost use Rattle.system_model.specs.Sound.{HasSeat, IsUser, Sound};
+ghost use Rattle.time_sharing.specs.Machine.{Went};
+ghost use Rattle.time_sharing.specs.System.{Preempt};
+ghost use Rattle.supervisor.specs.Seen.{seen, number_of};
+ghost use Rattle.supervisor.specs.Steps.{Does, Stays, IsHeld, IsTied, IsLeft, IsSettled, LoadIsDue, LoadIsNext, HasRun, HasRunPart, HasRunToLoad, Ends, Lasts};
+
+use crate::state::State;
+use ctss_types::{Cause, Ending, NoMemory, RunFault, Service, Timed, UserNo};
+use user_cores::Cores;
+use user_session::Turn;
+
+/// A user whose session is over gives up its core.
+fn give_up<C: Cores>(cores: &mut C, cut: Option<UserNo>)
+    requires works { C.Works cores.old }
+    requires user { number_of cut < length (C.memory cores.old).sizes }
+    ensures left { IsLeft cut (C.memory cores.old) (C.memory cores.new) }
+    ensures works { C.Works cores.new }
+    ensures keeps { C.Keeps cores.old cores.new }
+    ensures faults { C.faults cores.new ≡ C.faults cores.old }
+{
+    if let Some(user) = cut {
+        cores.resize(user, 0);
+    }
+}
+
+/// A user's core becomes as large as its step left it.
+fn settle<C: Cores>(cores: &mut C, user: UserNo, ending: Ending, blocks: u8)
+    requires works { C.Works cores.old }
+    requires user { user < length (C.memory cores.old).sizes }
+    requires quota { blocks ≤ quota_of (C.memory cores.old).quotas user }
+    requires same { ending ≡ Went → size_of (C.memory cores.old).sizes user ≡ blocks }
+    ensures settled { IsSettled ending user blocks (C.memory cores.old) (C.memory cores.new) }
+    ensures works { C.Works cores.new }
+    ensures keeps { C.Keeps cores.old cores.new }
+    ensures faults { C.faults cores.new ≡ C.faults cores.old }
+{
+    match ending {
+        Ending::Went => {}
+        Ending::Replaced => cores.replace(user, blocks),
+        Ending::Stopped | Ending::Resized | Ending::LoggedOut => cores.resize(user, blocks),
+    }
+}
+
+impl State {
+    /// The event that is due.
+    fn hear<C: Cores>(&mut self, cores: &mut C, e: Timed) -> Result<(), NoMemory>
+        requires works { C.Works cores.old }
+        requires held { IsHeld (seen (C.memory cores.old).places self.old) (C.memory cores.old) }
+        requires seat { HasSeat e (seen (C.memory cores.old).places self.old) }
+        ensures ok { OnOk result (Does (taken e) (seen (C.memory cores.old).places self.old)
+            (seen (C.memory cores.new).places self.new) (C.memory cores.old) (C.memory cores.new)) }
+        ensures err { OnErr result (Stays (seen (C.memory cores.old).places self.old)
+            (seen (C.memory cores.new).places self.new) (C.memory cores.old) (C.memory cores.new)) }
+        ensures tied { IsTied self.new.sessions.items (C.memory cores.new) }
+        ensures works { C.Works cores.new }
+        ensures keeps { C.Keeps cores.old cores.new }
+        ensures faults { C.faults cores.new ≡ C.faults cores.old }
+    {
+        let cut = self.take_event(e)?;
+        give_up(cores, cut);
+        Ok(())
+    }
+
+    /// The blocks of the user that is served are brought into core.
+    fn fetch<C: Cores>(&mut self, cores: &mut C, v: Service) -> Result<(), RunFault>
+        requires works { C.Works cores.old }
+        requires held { IsHeld (seen (C.memory cores.old).places self.old) (C.memory cores.old) }
+        requires user { IsUser v.user (seen (C.memory cores.old).places self.old) }
+        requires absent { is_loaded (C.memory cores.old).places v.user (size_of (C.memory cores.old).sizes v.user) ≡ false }
+        requires before { self.old.clock ≤ 100000000 }
+        ensures ended { Ends result (Does (attended v) (seen (C.memory cores.old).places self.old)
+            (seen (C.memory cores.new).places self.new) (C.memory cores.old) (C.memory cores.new))
+            (Stays (seen (C.memory cores.old).places self.old)
+            (seen (C.memory cores.new).places self.new) (C.memory cores.old) (C.memory cores.new))
+            ((seen no_places self.new ≡ seen no_places self.old) × Rose (C.faults cores.old) (C.faults cores.new)) }
+        ensures tied { Lasts result (IsTied self.new.sessions.items (C.memory cores.new)) }
+        ensures works { Lasts result (C.Works cores.new) }
+        ensures keeps { C.Keeps cores.old cores.new }
+        ensures kept { C.faults cores.old ≤ C.faults cores.new }
+    {
+        if self.entries.reserve(1).is_err() {
+            return Err(RunFault::NoMemory);
+        }
+        let user = UserNo::of(v.user);
+        match cores.load(user) {
+            Ok(plan) => {
+                self.bring(user, plan);
+                Ok(())
+            }
+            Err(_) => Err(RunFault::Drum),
+        }
+    }
+
+    /// A step of the user that is served, whose blocks are in core; where it can't step, it waits.
+    fn serve<C: Cores>(&mut self, cores: &mut C, v: Service) -> Result<(), NoMemory>
+        requires works { C.Works cores.old }
+        requires held { IsHeld (seen (C.memory cores.old).places self.old) (C.memory cores.old) }
+        requires user { IsUser v.user (seen (C.memory cores.old).places self.old) }
+        requires loaded { is_loaded (C.memory cores.old).places v.user (size_of (C.memory cores.old).sizes v.user) ≡ true }
+        requires ran { v.ran ≤ self.old.clock }
+        requires before { self.old.clock ≤ 100000000 }
+        ensures ok { OnOk result (Does (attended v) (seen (C.memory cores.old).places self.old)
+            (seen (C.memory cores.new).places self.new) (C.memory cores.old) (C.memory cores.new)) }
+        ensures err { OnErr result (Stays (seen (C.memory cores.old).places self.old)
+            (seen (C.memory cores.new).places self.new) (C.memory cores.old) (C.memory cores.new)) }
+        ensures tied { IsTied self.new.sessions.items (C.memory cores.new) }
+        ensures works { C.Works cores.new }
+        ensures keeps { C.Keeps cores.old cores.new }
+        ensures faults { C.faults cores.new ≡ C.faults cores.old }
+    {
+        self.entries.reserve(2)?;
+        let user = UserNo::of(v.user);
+        let session = &mut self.sessions[v.user as usize - 1];
+        match cores.turn(user, session, self.clock)? {
+            Turn::Waits => self.count_wait(v),
+            Turn::Done(step) => {
+                let blocks = session.blocks();
+                settle(cores, user, step.ending, blocks);
+                self.count_step(v, step);
+            }
+        }
+        Ok(())
+    }
+
+    /// The user that is served: its blocks are brought in, or it steps.
+    fn attend<C: Cores>(&mut self, cores: &mut C, v: Service) -> Result<(), RunFault>
+        requires works { C.Works cores.old }
+        requires held { IsHeld (seen (C.memory cores.old).places self.old) (C.memory cores.old) }
+        requires user { IsUser v.user (seen (C.memory cores.old).places self.old) }
+        requires ran { v.ran ≤ self.old.clock }
+        requires before { self.old.clock ≤ 100000000 }
+        ensures ended { Ends result (Does (attended v) (seen (C.memory cores.old).places self.old)
+            (seen (C.memory cores.new).places self.new) (C.memory cores.old) (C.memory cores.new))
+            (Stays (seen (C.memory cores.old).places self.old)
+            (seen (C.memory cores.new).places self.new) (C.memory cores.old) (C.memory cores.new))
+            ((seen no_places self.new ≡ seen no_places self.old) × Rose (C.faults cores.old) (C.faults cores.new)
+            × (is_loaded (C.memory cores.old).places v.user (size_of (C.memory cores.old).sizes v.user) ≡ false)) }
+        ensures tied { Lasts result (IsTied self.new.sessions.items (C.memory cores.new)) }
+        ensures works { Lasts result (C.Works cores.new) }
+        ensures keeps { C.Keeps cores.old cores.new }
+        ensures kept { C.faults cores.old ≤ C.faults cores.new }
+    {
+        if !cores.is_loaded(UserNo::of(v.user)) {
+            return self.fetch(cores, v);
+        }
+        if self.serve(cores, v).is_err() {
+            return Err(RunFault::NoMemory);
+        }
+        Ok(())
+    }
+
+    /// A service ends, since its user isn't the head of the lowest level.
+    fn preempt<C: Cores>(&mut self, cores: &mut C, v: Service) -> Result<(), NoMemory>
+        requires works { C.Works cores.old }
+        requires held { IsHeld (seen (C.memory cores.old).places self.old) (C.memory cores.old) }
+        ensures ok { OnOk result (Does (served Preempt v) (seen (C.memory cores.old).places self.old)
+            (seen (C.memory cores.new).places self.new) (C.memory cores.old) (C.memory cores.new)) }
+        ensures err { OnErr result (Stays (seen (C.memory cores.old).places self.old)
+            (seen (C.memory cores.new).places self.new) (C.memory cores.old) (C.memory cores.new)) }
+        ensures tied { IsTied self.new.sessions.items (C.memory cores.new) }
+        ensures works { C.Works cores.new }
+        ensures keeps { C.Keeps cores.old cores.new }
+        ensures faults { C.faults cores.new ≡ C.faults cores.old }
+    {
+        self.end_service(Cause::Preempt, v)?;
+        Ok(())
+    }
+
+    /// Nobody waits: the clock goes on.
+    fn rest<C: Cores>(&mut self, cores: &mut C, limit: u64)
+        requires works { C.Works cores.old }
+        requires held { IsHeld (seen (C.memory cores.old).places self.old) (C.memory cores.old) }
+        ensures does { Does (idled limit) (seen (C.memory cores.old).places self.old)
+            (seen (C.memory cores.new).places self.new) (C.memory cores.old) (C.memory cores.new) }
+        ensures tied { IsTied self.new.sessions.items (C.memory cores.new) }
+        ensures works { C.Works cores.new }
+        ensures keeps { C.Keeps cores.old cores.new }
+        ensures faults { C.faults cores.new ≡ C.faults cores.old }
+    {
+        self.idle(limit);
+    }
+
+    /// No event is due: the head of the lowest level is served, or the service ends, or the clock goes on.
+    #[tactic(auto, using(crate::proofs::Doing::go_idle, crate::proofs::Doing::go_end_none, crate::proofs::Doing::go_end))]
+    fn go_on<C: Cores>(&mut self, cores: &mut C, limit: u64) -> Result<(), RunFault>
+        requires works { C.Works cores.old }
+        requires held { IsHeld (seen (C.memory cores.old).places self.old) (C.memory cores.old) }
+        requires before { self.old.clock < limit }
+        requires limit { limit ≤ 100000000 }
+        ensures ended { Ends result (Does (otherwise limit (user_of (chosen self.old.queues)) self.old.service)
+            (seen (C.memory cores.old).places self.old)
+            (seen (C.memory cores.new).places self.new) (C.memory cores.old) (C.memory cores.new))
+            (Stays (seen (C.memory cores.old).places self.old)
+            (seen (C.memory cores.new).places self.new) (C.memory cores.old) (C.memory cores.new))
+            ((seen no_places self.new ≡ seen no_places self.old) × Rose (C.faults cores.old) (C.faults cores.new)
+            × LoadIsDue (seen (C.memory cores.old).places self.old)) }
+        ensures tied { Lasts result (IsTied self.new.sessions.items (C.memory cores.new)) }
+        ensures works { Lasts result (C.Works cores.new) }
+        ensures keeps { C.Keeps cores.old cores.new }
+        ensures kept { C.faults cores.old ≤ C.faults cores.new }
+    {
+        match (self.queues.choose(), self.service) {
+            (None, None) => {
+                self.rest(cores, limit);
+                Ok(())
+            }
+            (None, Some(v)) => {
+                if self.preempt(cores, v).is_err() {
+                    return Err(RunFault::NoMemory);
+                }
+                Ok(())
+            }
+            (Some(next), None) => self.attend(
+                cores,
+                Service {
+                    tick: self.clock,
+                    user: next.user.number(),
+                    level: next.level,
+                    ran: 0,
+                },
+            ),
+            (Some(next), Some(v)) => {
+                if v.user == next.user.number() {
+                    return self.attend(cores, v);
+                }
+                if self.preempt(cores, v).is_err() {
+                    return Err(RunFault::NoMemory);
+                }
+                Ok(())
+            }
+        }
+    }
+
+    /// One step.
+    fn step<C: Cores>(&mut self, cores: &mut C, limit: u64) -> Result<(), RunFault>
+        requires works { C.Works cores.old }
+        requires held { IsHeld (seen (C.memory cores.old).places self.old) (C.memory cores.old) }
+        requires before { self.old.clock < limit }
+        requires limit { limit ≤ 100000000 }
+        ensures ended { Ends result (Does (next limit) (seen (C.memory cores.old).places self.old)
+            (seen (C.memory cores.new).places self.new) (C.memory cores.old) (C.memory cores.new))
+            (Stays (seen (C.memory cores.old).places self.old)
+            (seen (C.memory cores.new).places self.new) (C.memory cores.old) (C.memory cores.new))
+            ((seen no_places self.new ≡ seen no_places self.old) × Rose (C.faults cores.old) (C.faults cores.new)
+            × LoadIsNext (seen (C.memory cores.old).places self.old)) }
+        ensures tied { Lasts result (IsTied self.new.sessions.items (C.memory cores.new)) }
+        ensures works { Lasts result (C.Works cores.new) }
+        ensures keeps { C.Keeps cores.old cores.new }
+        ensures kept { C.faults cores.old ≤ C.faults cores.new }
+    {
+        match self.due() {
+            Some(e) => match self.hear(cores, e) {
+                Ok(()) => Ok(()),
+                Err(_) => Err(RunFault::NoMemory),
+            },
+            None => self.go_on(cores, limit),
+        }
+    }
+
+    /// Whole steps, up to the limit.
+    pub(crate) fn advance<C: Cores>(&mut self, cores: &mut C, limit: u64) -> Result<(), RunFault>
+        requires works { C.Works cores.old }
+        requires held { IsHeld (seen (C.memory cores.old).places self.old) (C.memory cores.old) }
+        requires limit { limit ≤ 100000000 }
+        ensures ended { Ends result (HasRun limit (seen (C.memory cores.old).places self.old)
+            (seen (C.memory cores.new).places self.new) (C.memory cores.old) (C.memory cores.new))
+            (HasRunPart limit (seen (C.memory cores.old).places self.old)
+            (seen (C.memory cores.new).places self.new) (C.memory cores.old) (C.memory cores.new))
+            (HasRunToLoad limit (seen (C.memory cores.old).places self.old) (seen no_places self.new) (C.memory cores.old)
+            × Rose (C.faults cores.old) (C.faults cores.new)) }
+        ensures tells { Lasts result ((C.memory cores.new).tells ≡ (C.memory cores.old).tells) }
+        ensures held { Lasts result (IsHeld (seen (C.memory cores.new).places self.new) (C.memory cores.new)) }
+        ensures works { Lasts result (C.Works cores.new) }
+        ensures sound { Sound (seen no_places self.new) }
+        ensures keeps { C.Keeps cores.old cores.new }
+        ensures kept { C.faults cores.old ≤ C.faults cores.new }
+    {
+        'steps: while self.clock < limit {
+            match self.step(cores, limit) {
+                Ok(()) => {}
+                Err(fault) => return Err(fault),
+            }
+        }
+        Ok(())
+    }
+}

@@ -1,0 +1,81 @@
+-- The words of users' programs apart from the rest of the users, and both joined.
+use Rattle.std.specs.Prelude.{ℕ, suc, ◌+◌, ◌*◌, Bool, if◌then◌else◌, nat_eq, nat_lt, List, [], ◌∷◌, ◌++◌}
+use Rattle.time_sharing.specs.Machine.{Line, Ending}
+use Rattle.time_sharing.specs.System.{Service, Console, Off, On, Password, Session, Event, Dials, Types, Quits, Hangs, Swap, Cause, max_lines, cause_of, consoles_after, service_after, service_entry, clock_entry}
+use Rattle.user_model.specs.Inner.{blocks_of}
+use Rattle.user_model.specs.User.{User, in_core}
+use Rattle.plan_model.specs.Levels.{charged, has_time}
+use Rattle.plan_model.specs.Plan.{places_after}
+use Rattle.plan_model.specs.Loads.{Places}
+use Rattle.system_model.specs.Run.{Run}
+use Rattle.system_model.specs.Cases.{user_at, with_user, levels_after}
+
+-- users from number k on, each with its words
+abbrev pub with_cores : ℕ → (ℕ → List ℕ) → List User → List User
+with_cores k cores [] = []
+with_cores k cores (p ∷ ps) = in_core (cores k) p ∷ with_cores (suc k) cores ps
+
+-- a run whose users have these words
+unfoldable pub joined : (ℕ → List ℕ) → Run → Run
+joined cores r = record r { system = record r.system { users = with_cores 1 cores r.system.users } }
+
+-- other words for one user
+abbrev pub with_core : ℕ → List ℕ → (ℕ → List ℕ) → ℕ → List ℕ
+with_core u core cores v = if nat_eq v u then core else cores v
+
+-- the user whose session an event ends, by a hang or by a line too much; 0 for nobody
+abbrev pub cut_user : Console → Event → List User → ℕ
+cut_user (Session u) Hangs users = u
+cut_user (Session u) (Types l) users = if nat_lt (user_at u users).lines max_lines then 0 else u
+cut_user (Session u) Dials users = 0
+cut_user (Session u) Quits users = 0
+cut_user Off e users = 0
+cut_user On e users = 0
+cut_user (Password name) e users = 0
+
+-- a step of a service's user that leaves this state, ends so, and took the clock or not
+unfoldable pub stepped_to : Service → User → Ending → Bool → Run → Run
+stepped_to v p t asked r =
+    let cause = cause_of t (has_time r.system.plan.levels) in
+    record r {
+      system = record r.system {
+        users = with_user v.user p r.system.users;
+        plan = record {
+          levels = levels_after cause v.user p (charged v.user r.system.plan.levels);
+          places = places_after t v.user (blocks_of p.inner) r.system.plan.places;
+        };
+        consoles = consoles_after t v.user r.system.consoles;
+        clock = suc r.system.clock;
+        service = service_after v cause;
+        entries = r.system.entries ++ (clock_entry asked r.system.clock v.user ++ service_entry v cause);
+      };
+    }
+
+-- what a step of a service's user does besides: to the queues, the consoles, the clock and the service; the user has
+-- stepped already, and its blocks lie as before
+unfoldable pub counted : Service → Ending → Bool → Run → Run
+counted v t asked r =
+    let cause = cause_of t (has_time r.system.plan.levels) in
+    record r {
+      system = record r.system {
+        plan = record r.system.plan { levels = levels_after cause v.user (user_at v.user r.system.users) (charged v.user r.system.plan.levels) };
+        consoles = consoles_after t v.user r.system.consoles;
+        clock = suc r.system.clock;
+        service = service_after v cause;
+        entries = r.system.entries ++ (clock_entry asked r.system.clock v.user ++ service_entry v cause);
+      };
+    }
+
+-- what a load does besides: it costs ticks for each block that it moved, and is noted
+unfoldable pub moved : ℕ → ℕ → ℕ → ℕ → Run → Run
+moved u dumped read fresh r =
+    record r {
+      system = record r.system {
+        clock = r.system.clock + r.swap * (dumped + read);
+        entries = r.system.entries ++ Swap r.system.clock u dumped read fresh ∷ [];
+      };
+    }
+
+-- the same run with users' blocks in other places
+abbrev pub at_places : Places → Run → Run
+at_places places r = record r { system = record r.system { plan = record r.system.plan { places = places } } }

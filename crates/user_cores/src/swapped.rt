@@ -1,0 +1,60 @@
+//! Users' cores that are swapped with a drum.
+use crate::cores::Cores;
+use crate::turn::turn_in;
+use ctss_types::{NoMemory, UserNo};
+use image_map::{DrumFault, Image, Plan};
+use medium::Medium;
+use user_session::{Session, Turn};
+
+impl<D: Medium> Cores for Image<'_, D> {
+    ghost use Rattle.std.specs.Prelude.{◌≡◌, ◌*◌, take, false, refl};
+    ghost use Rattle.std.proofs.Common.{◌∙◌};
+    ghost use Rattle.image_map.specs.Images.{size_of};
+    ghost use Rattle.user_cores.specs.Works.{IsWorking, memory_in};
+
+    ghost memory = { λ i. memory_in i.bank (D.rows i.tables.kept.drum.now) i.tables.owners i.tables.kept.slots i.tables.sizes.items };
+
+    // The first blocks of core, as many as the user has.
+    ghost window = { λ i u. take (256 * size_of i.tables.sizes.items u) i.bank };
+
+    ghost Works = { λ i. IsWorking i.failed i.bank (D.rows i.tables.kept.drum.now)
+        (D.record_count i.tables.kept.drum.now) (D.words_each i.tables.kept.drum.now)
+        i.tables.owners i.tables.kept.slots i.tables.sizes.items };
+
+    ghost Keeps = { λ a b. b.tables.kept.drum.ghost_name ≡ a.tables.kept.drum.ghost_name };
+
+    ghost calls = { λ i. D.calls i.tables.kept.drum.now };
+
+    ghost faults = { λ i. D.faults i.tables.kept.drum.now };
+
+    ghost stays = { λ a. refl };
+
+    ghost goes_on = { λ a b c one two. two ∙ one };
+
+    fn is_loaded(&self, user: UserNo) -> bool {
+        self.resident(user)
+    }
+
+    #[tactic(auto, using(crate::proofs::Calls::failed_load))]
+    fn load(&mut self, user: UserNo) -> Result<Plan, DrumFault> {
+        self.load_user(user)
+    }
+
+    #[tactic(auto, using(crate::proofs::Images::whole_resized, crate::proofs::Images::words_resized))]
+    fn resize(&mut self, user: UserNo, blocks: u8) {
+        // So it is known that the number is not 0.
+        let _number = user.number();
+        self.resize_user(user, blocks);
+    }
+
+    #[tactic(auto, using(crate::proofs::Images::whole_replaced, crate::proofs::Images::words_replaced))]
+    fn replace(&mut self, user: UserNo, blocks: u8) {
+        self.replace_user(user, blocks);
+    }
+
+    #[tactic(auto, using(crate::proofs::Images::whole_turned, crate::proofs::Images::words_resident, crate::proofs::Images::words_stay))]
+    fn turn(&mut self, user: UserNo, session: &mut Session, now: u64) -> Result<Turn, NoMemory> {
+        let blocks = self.size(user);
+        turn_in(self.bank_mut(), blocks, session, now)
+    }
+}

@@ -1,0 +1,35 @@
+//! A step of a session over the first blocks of a bank.
+ghost use Rattle.std.specs.Prelude.{◌≡◌, ◌<◌, ◌≤◌, ◌-◌, ◌*◌, ◌^◌, length, take, drop, IfOk, OnErr};
+ghost use Rattle.core_bank.specs.Bank.{AreWords};
+ghost use Rattle.user_model.specs.Inner.{blocks_of};
+ghost use Rattle.user_session.specs.Turns.{IsTurn};
+
+use core_bank::Bank;
+use ctss_types::NoMemory;
+use image_map::Port;
+use user_session::{Session, Turn};
+
+/// A step of a session whose program's words are the first blocks of a bank. The words behind them stay.
+pub fn turn_in(
+    bank: &mut Bank,
+    blocks: u8,
+    session: &mut Session,
+    now: u64,
+) -> Result<Turn, NoMemory>
+    requires most { blocks ≤ 128 }
+    requires words { AreWords bank.old }
+    requires size { blocks ≡ blocks_of session.old.inner }
+    requires fits { session.old.own < 2 ^ 64 - 1 }
+    requires time { now < 2 ^ 35 }
+    ensures words { AreWords bank.new }
+    ensures len { length bank.new ≡ 32768 }
+    ensures turn { IfOk result (λ turn. IsTurn turn now session.old session.new
+        (take (256 * blocks) bank.old) (take (256 * blocks) bank.new)) }
+    ensures account { session.new.inner.account ≡ session.old.inner.account }
+    ensures err { OnErr result (session.new ≡ session.old) }
+    ensures err_words { OnErr result (take (256 * blocks) bank.new ≡ take (256 * blocks) bank.old) }
+    ensures rest { drop (256 * blocks) bank.new ≡ drop (256 * blocks) bank.old }
+{
+    let mut port = Port::over(bank, blocks);
+    session.step(&mut port, now)
+}

@@ -1,0 +1,125 @@
+-- The steps of a program that works: what each end of an instruction and each supervisor entry does.
+use Rattle.std.specs.Prelude.{ℕ, ◌*◌, Bool, true, false, if◌then◌else◌, ◌||◌, nat_eq, nat_lt, List, [], ◌∷◌, ◌++◌, length, codes, Option, Some, None, Ok, Err}
+use Rattle.std.specs.declared.result.Result.{Result}
+use Rattle.time_sharing.specs.Machine.{Line, Ending, Went, Stopped, Resized}
+use Rattle.time_sharing.specs.Rows.{Outcome}
+use Rattle.file_model.specs.Files.{got}
+use Rattle.cpu_regs.specs.declared.regs.Regs.{Regs}
+use Rattle.machine_model.specs.Step.{Step, went, halt, entry, illegal, outside}
+use Rattle.machine_model.specs.Machine.{table}
+use Rattle.program_model.specs.declared.Call.{Call}
+use Rattle.program_model.specs.declared.Call.TheVariants.{ReadLine, WriteLine, GetTime, GetMemory, SetMemory, Dead, Dormant}
+use Rattle.program_model.specs.declared.EntryFault.{EntryFault}
+use Rattle.program_model.specs.declared.EntryFault.TheVariants.{NoSuchEntry, Outside}
+use Rattle.program_model.specs.declared.ProgramState.TheVariants as program
+use Rattle.program_model.specs.declared.Fill.{Fill}
+use Rattle.program_model.specs.Calls.{call_of, answered, is_line_count}
+use Rattle.program_model.specs.Lines.{line_of_words, words_of_line, words_at, with_words}
+use Rattle.program_model.specs.Decks.{words_got, filled}
+use Rattle.user_model.specs.Inner.{Inner, recut, without_program}
+use Rattle.user_model.specs.Texts.{ready_text, stop_text}
+
+-- the program goes on
+abbrev pub goes : Inner → Outcome Inner
+goes i = record { inner = i; written = []; front = []; ending = Went }
+
+-- the program doesn't run any more: these lines, and R n
+abbrev pub stops : List Line → Inner → ℕ → Outcome Inner
+stops lines i n = record { inner = record i { state = program.Dormant }; written = lines ++ ready_text n ∷ []; front = []; ending = Stopped }
+
+-- an answer to a call, with so many arguments
+abbrev pub replied : Inner → ℕ → ℕ → Option ℕ → Inner
+replied i arguments reply value = record i { regs = answered i.regs arguments reply value }
+
+-- a line is read into a buffer, and its length told
+abbrev pub read_line : Inner → ℕ → ℕ → Option Line → Outcome Inner
+read_line i at count None = goes i
+read_line i at count (Some l) = goes (record (replied i 1 0 (Some (length l))) { core = with_words i.core at (words_of_line count l) })
+
+-- a buffer is written as a line
+abbrev pub write_line : Inner → ℕ → ℕ → Outcome Inner
+write_line i at count =
+    record { inner = replied i 1 0 None; written = line_of_words (words_at i.core at count) ∷ []; front = []; ending = Went }
+
+-- another size, from 1 block to the quota
+abbrev pub set_memory : Inner → ℕ → Outcome Inner
+set_memory i blocks =
+    if nat_eq blocks 0 || nat_lt i.account.blocks blocks then goes (replied i 1 3 None)
+    else (if nat_eq blocks i.blocks then goes (replied i 1 0 None)
+    else record { inner = record (replied i 1 0 None) { blocks = blocks; core = recut blocks i.core }; written = []; front = []; ending = Resized })
+
+-- the row of an entry, with the line that it takes, n own steps since the command, and the clock at t
+abbrev pub call_row : Call → Inner → Option Line → ℕ → ℕ → Outcome Inner
+call_row (ReadLine at count) i l n t = if is_line_count count then read_line i at count l else goes (replied i 1 7 None)
+call_row (WriteLine at count) i l n t = if is_line_count count then write_line i at count else goes (replied i 1 7 None)
+call_row GetTime i l n t = goes (replied i 0 0 (Some t))
+call_row GetMemory i l n t = goes (replied i 0 0 (Some (256 * i.blocks)))
+call_row (SetMemory blocks) i l n t = set_memory i blocks
+call_row Dead i l n t = record { inner = without_program i; written = ready_text n ∷ []; front = []; ending = Stopped }
+call_row Dormant i l n t = stops [] (replied i 0 0 None) n
+
+abbrev pub entry_row : Result Call EntryFault → Inner → Option Line → ℕ → ℕ → Outcome Inner
+entry_row (Ok call) i l n t = call_row call i l n t
+entry_row (Err NoSuchEntry) i l n t = stops (stop_text (codes "NO ENTRY") i.regs.ic ∷ []) i n
+entry_row (Err (Outside a)) i l n t = stops (stop_text (codes "PROTECTION") i.regs.ic ∷ []) i n
+
+-- the row of what the machine's step gives; the place is that of the instruction
+abbrev pub step_row : Step → Inner → Option Line → ℕ → ℕ → Outcome Inner
+step_row (went r core) i l n t = goes (record i { regs = r; core = core })
+step_row (halt r core) i l n t = stops (stop_text (codes "HALT") i.regs.ic ∷ []) (record i { regs = r; core = core }) n
+step_row (entry w) i l n t = entry_row (call_of i.regs i.core w) i l n t
+step_row illegal i l n t = stops (stop_text (codes "ILLEGAL") i.regs.ic ∷ []) i n
+step_row (outside a) i l n t = stops (stop_text (codes "PROTECTION") i.regs.ic ∷ []) i n
+
+-- whether a call reads a line, so that it waits for one
+abbrev pub is_read : Result Call EntryFault → Bool
+is_read (Ok (ReadLine at count)) = is_line_count count
+is_read (Ok (WriteLine at count)) = false
+is_read (Ok GetTime) = false
+is_read (Ok GetMemory) = false
+is_read (Ok (SetMemory blocks)) = false
+is_read (Ok Dead) = false
+is_read (Ok Dormant) = false
+is_read (Err fault) = false
+
+abbrev pub reads_line : Step → Inner → Bool
+reads_line (went r core) i = false
+reads_line (halt r core) i = false
+reads_line (entry w) i = is_read (call_of i.regs i.core w)
+reads_line illegal i = false
+reads_line (outside a) i = false
+
+-- whether a call asks for the clock
+abbrev pub is_clock : Result Call EntryFault → Bool
+is_clock (Ok (ReadLine at count)) = false
+is_clock (Ok (WriteLine at count)) = false
+is_clock (Ok GetTime) = true
+is_clock (Ok GetMemory) = false
+is_clock (Ok (SetMemory blocks)) = false
+is_clock (Ok Dead) = false
+is_clock (Ok Dormant) = false
+is_clock (Err fault) = false
+
+abbrev pub asks_time : Step → Inner → Bool
+asks_time (went r core) i = false
+asks_time (halt r core) i = false
+asks_time (entry w) i = is_clock (call_of i.regs i.core w)
+asks_time illegal i = false
+asks_time (outside a) i = false
+
+-- the deck's words are stored, and the program begins
+abbrev pub filled_program : Fill → Inner → Inner
+filled_program f i = record i { core = filled (words_got (got f.name i.files)) i.core; regs = record i.regs { ic = f.start }; fill = None }
+
+-- a program's step: of one that still has to be filled, that; else its next instruction
+abbrev pub program_row : Option Fill → Inner → Option Line → ℕ → ℕ → Outcome Inner
+program_row (Some f) i l n t = goes (filled_program f i)
+program_row None i l n t = step_row (table i.regs i.core) i l n t
+
+abbrev pub program_reads : Option Fill → Inner → Bool
+program_reads (Some f) i = false
+program_reads None i = reads_line (table i.regs i.core) i
+
+abbrev pub program_asks : Option Fill → Inner → Bool
+program_asks (Some f) i = false
+program_asks None i = asks_time (table i.regs i.core) i

@@ -1,0 +1,19 @@
+-- A step that was done, field by field.
+use Rattle.std.specs.Prelude.{ℕ, suc, Bool, true, false, if◌then◌else◌, not, List, [], ◌++◌, Option, Some, None}
+use Rattle.time_sharing.specs.Machine.{Line}
+use Rattle.time_sharing.specs.Rows.{Outcome, is_logout, behind, in_line, out_all}
+use Rattle.user_model.specs.Inner.{Inner}
+use Rattle.user_model.specs.User.{User}
+
+-- what a step leaves that takes this line and has this outcome; a command counts own steps anew
+unfoldable pub left : Bool → Option Line → Outcome Inner → User → User
+left is_command line o p =
+    record p {
+      inner = o.inner;
+      on = not (is_logout o.ending);
+      unread = if is_logout o.ending then [] else behind line p.unread;
+      given = 0;
+      transcript = p.transcript ++ (in_line line ++ out_all o.written);
+      own = suc p.own;
+      before = if is_command then p.own else p.before;
+    }

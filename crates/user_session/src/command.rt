@@ -1,0 +1,218 @@
+//! Steps of a user without a program that works: the command of the first unread line.
+ghost use Rattle.std.specs.Prelude.{◌≡◌, ◌<◌, ◌≤◌, ◌+◌, ◌-◌, ◌*◌, ◌^◌, ◌++◌, ◌∷◌, [], suc, true, false, Some, None, length, drop, option_to_list, slice_get, IfOk, OnOk, OnErr};
+ghost use Rattle.cpu_regs.specs.Registers.{no_registers};
+ghost use Rattle.ctss_types.specs.declared.session.Command.{Command};
+ghost use Rattle.file_model.specs.Files.{got, lasting};
+ghost use Rattle.program_model.specs.Decks.{deck_of, deck_name};
+ghost use Rattle.program_model.specs.declared.ProgramState.TheVariants.{Dead, Working};
+ghost use Rattle.time_sharing.specs.Machine.{In, Out};
+ghost use Rattle.time_sharing.specs.Rows.{out_all};
+ghost use Rattle.user_model.specs.Commands.{command_of};
+ghost use Rattle.user_model.specs.Session.{is_command_in};
+ghost use Rattle.user_model.specs.Texts.{time_text, ready_text, logged_out_text};
+ghost use Rattle.user_session.specs.Turns.{IsTurn};
+
+use crate::session::{Session, note};
+use crate::text::{command_of, load_text, logged_out_text, ready_text, time_text};
+use crate::{Step, Turn};
+use cmd_program::{PrepareFault, prepare};
+use cpu_regs::{MemoryPort, Regs};
+use ctss_types::{Command, Ending, FileName, Item, LineText, NoMemory, name_word};
+use file_map::FilePort;
+use program_model::{Deck, Fill, LoadFault, ProgramState};
+use word36::Word;
+
+/// The file that a program of this name is loaded from.
+fn deck_name(name: Word) -> FileName
+    ensures { result ≡ deck_name name }
+{
+    FileName::new(name, name_word(b"BSS"))
+}
+
+impl Session {
+    /// A line is taken: the line, the time, maybe a text, and R 1.
+    fn say(&mut self, line: LineText, text: Option<LineText>, now: u64) -> Result<(), NoMemory>
+        requires fits { self.old.own < 2 ^ 64 - 1 }
+        ensures ok { OnOk result (self.new ≡ record self.old {
+          unread = drop 1 self.old.unread;
+          transcript = self.old.transcript ++ In line ∷ Out (time_text now) ∷ out_all (option_to_list text ++ ready_text 1 ∷ []);
+          own = suc self.old.own;
+          before = self.old.own;
+        }) }
+        ensures given { self.old.given ≡ 0 }
+        ensures err { OnErr result (self.new ≡ self.old) }
+    {
+        self.items.reserve(4)?;
+        let _ = self.lines.take();
+        self.before = self.own;
+        self.own += 1;
+        note(&mut self.items, Item::In(line));
+        note(&mut self.items, Item::Out(time_text(now)));
+        if let Some(text) = text {
+            note(&mut self.items, Item::Out(text));
+        }
+        note(&mut self.items, Item::Out(ready_text(1)));
+        Ok(())
+    }
+
+    /// A logout. The program goes, and files of mode 0.
+    fn log_out(&mut self, line: LineText, now: u64) -> Result<(), NoMemory>
+        requires fits { self.old.own < 2 ^ 64 - 1 }
+        ensures ok { OnOk result (self.new ≡ record self.old {
+          inner = record self.old.inner { files = lasting self.old.inner.files; state = Dead; regs = no_registers; blocks = 0; fill = None };
+          on = false;
+          unread = [];
+          transcript = self.old.transcript ++ In line ∷ Out (time_text now) ∷ Out (logged_out_text self.old.inner.account.name) ∷ [];
+          own = suc self.old.own;
+          before = self.old.own;
+        }) }
+        ensures given { self.old.given ≡ 0 }
+        ensures err { OnErr result (self.new ≡ self.old) }
+    {
+        self.items.reserve(3)?;
+        self.before = self.own;
+        self.own += 1;
+        note(&mut self.items, Item::In(line));
+        note(&mut self.items, Item::Out(time_text(now)));
+        note(
+            &mut self.items,
+            Item::Out(logged_out_text(self.account.name)),
+        );
+        let _ = self.files.drop_temporary();
+        self.on = false;
+        self.lines.drop_all();
+        self.state = ProgramState::Dead;
+        self.regs = Regs::new();
+        self.blocks = 0;
+        self.fill = None;
+        Ok(())
+    }
+
+    /// The deck of a program of this name, or why there is none.
+    fn read_deck(&mut self, name: Word) -> Result<Result<Deck, LoadFault>, NoMemory>
+        ensures same { self.new ≡ self.old }
+        ensures told { IfOk result (λ told. told ≡ deck_of self.old.inner.account.blocks (got (deck_name name) self.old.inner.files)) }
+        ensures blocks { IfOk result (λ told. IfOk told (λ d. d.blocks ≤ self.old.inner.account.blocks)) }
+        ensures start { IfOk result (λ told. IfOk told (λ d. d.start < 2 ^ 15)) }
+    {
+        match prepare(deck_name(name), self.account.blocks, &mut self.files) {
+            Ok(deck) => Ok(Ok(deck)),
+            Err(PrepareFault::Load(fault)) => Ok(Err(fault)),
+            Err(PrepareFault::Disk) => unreachable!(),
+            Err(PrepareFault::NoMemory) => Err(NoMemory),
+        }
+    }
+
+    /// A program takes the place of the one before; its words are stored in the next step.
+    fn begin(&mut self, line: LineText, name: Word, deck: Deck, now: u64) -> Result<(), NoMemory>
+        requires fits { self.old.own < 2 ^ 64 - 1 }
+        requires quota { deck.blocks ≤ self.old.inner.account.blocks }
+        requires start { deck.start < 2 ^ 15 }
+        ensures ok { OnOk result (self.new ≡ record self.old {
+          inner = record self.old.inner { state = Working; regs = no_registers; blocks = deck.blocks; fill = Some (record { name = deck_name name; start = deck.start }) };
+          unread = drop 1 self.old.unread;
+          transcript = self.old.transcript ++ In line ∷ Out (time_text now) ∷ [];
+          own = suc self.old.own;
+          before = self.old.own;
+        }) }
+        ensures given { self.old.given ≡ 0 }
+        ensures err { OnErr result (self.new ≡ self.old) }
+    {
+        self.items.reserve(2)?;
+        let _ = self.lines.take();
+        self.before = self.own;
+        self.own += 1;
+        note(&mut self.items, Item::In(line));
+        note(&mut self.items, Item::Out(time_text(now)));
+        self.state = ProgramState::Working;
+        self.regs = Regs::new();
+        self.blocks = deck.blocks;
+        self.fill = Some(Fill {
+            name: deck_name(name),
+            start: deck.start,
+        });
+        Ok(())
+    }
+
+    /// LOADGO: the program of a deck, or why there is none.
+    fn load<M: MemoryPort>(
+        &mut self,
+        core: &M,
+        line: LineText,
+        name: Word,
+        now: u64,
+    ) -> Result<Turn, NoMemory>
+        requires on { self.old.on ≡ true }
+        requires command { is_command_in self.old.inner.state ≡ true }
+        requires first { slice_get self.old.unread 0 ≡ Some line }
+        requires asked { command_of line ≡ Command.LoadGo name }
+        requires size { length (M.words core.now) ≡ 256 * self.old.inner.blocks }
+        requires fits { self.old.own < 2 ^ 64 - 1 }
+        ensures turn { IfOk result (λ turn. IsTurn turn now self.old self.new (M.words core.now) (M.words core.now)) }
+        ensures account { self.new.inner.account ≡ self.old.inner.account }
+        ensures err { OnErr result (self.new ≡ self.old) }
+    {
+        match self.read_deck(name)? {
+            Ok(deck) => {
+                self.begin(line, name, deck, now)?;
+                Ok(Turn::Done(Step {
+                    ending: Ending::Replaced,
+                    clock: true,
+                }))
+            }
+            Err(fault) => {
+                self.say(line, Some(load_text(fault)), now)?;
+                Ok(Turn::Done(Step {
+                    ending: Ending::Stopped,
+                    clock: true,
+                }))
+            }
+        }
+    }
+
+    /// The command of the first unread line.
+    pub(crate) fn command<M: MemoryPort>(&mut self, core: &M, now: u64) -> Result<Turn, NoMemory>
+        requires on { self.old.on ≡ true }
+        requires command { is_command_in self.old.inner.state ≡ true }
+        requires size { length (M.words core.now) ≡ 256 * self.old.inner.blocks }
+        requires fits { self.old.own < 2 ^ 64 - 1 }
+        ensures turn { IfOk result (λ turn. IsTurn turn now self.old self.new (M.words core.now) (M.words core.now)) }
+        ensures account { self.new.inner.account ≡ self.old.inner.account }
+        ensures err { OnErr result (self.new ≡ self.old) }
+    {
+        let Some(line) = self.first_line() else {
+            return Ok(Turn::Waits);
+        };
+        match command_of(&line) {
+            Command::Empty => {
+                self.say(line, None, now)?;
+                Ok(Turn::Done(Step {
+                    ending: Ending::Stopped,
+                    clock: true,
+                }))
+            }
+            Command::Logout => {
+                self.log_out(line, now)?;
+                Ok(Turn::Done(Step {
+                    ending: Ending::LoggedOut,
+                    clock: true,
+                }))
+            }
+            Command::LoadGo(name) => self.load(core, line, name, now),
+            Command::BadArguments => {
+                self.say(line, Some(LineText::of(b"BAD ARGUMENTS")), now)?;
+                Ok(Turn::Done(Step {
+                    ending: Ending::Stopped,
+                    clock: true,
+                }))
+            }
+            Command::Unknown => {
+                self.say(line, Some(LineText::of(b"NOT A COMMAND")), now)?;
+                Ok(Turn::Done(Step {
+                    ending: Ending::Stopped,
+                    clock: true,
+                }))
+            }
+        }
+    }
+}

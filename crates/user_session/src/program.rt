@@ -1,0 +1,145 @@
+//! Steps of a program that works, and one step of a user.
+ghost use Rattle.std.specs.Prelude.{◌≡◌, ◌<◌, ◌≤◌, ◌-◌, ◌*◌, ◌^◌, suc, true, false, None, Some, length, IfOk, OnOk, OnErr};
+ghost use Rattle.file_model.specs.Files.{got};
+ghost use Rattle.program_model.specs.Decks.{words_got, filled};
+ghost use Rattle.program_model.specs.declared.Fill.{Fill};
+ghost use Rattle.user_model.specs.Session.{is_command_in};
+ghost use Rattle.user_session.specs.Turns.{IsTurn};
+
+use crate::entry::note_stop;
+use crate::session::Session;
+use crate::{Step, Turn};
+use cmd_program::fill;
+use cpu_regs::MemoryPort;
+use cpu_step::{Stepped, step};
+use ctss_types::{Ending, NoMemory};
+use program_model::Fill;
+
+impl Session {
+    /// The words of a deck go to the core, and the program stands at its start.
+    fn store<M: MemoryPort>(&mut self, core: &mut M, deck: Fill) -> Result<(), NoMemory>
+        requires start { deck.start < 2 ^ 15 }
+        requires fits { self.old.own < 2 ^ 64 - 1 }
+        ensures ok { OnOk result (self.new ≡ record self.old {
+          inner = record self.old.inner { regs = record self.old.inner.regs { ic = deck.start }; fill = None };
+          own = suc self.old.own;
+        }) }
+        ensures words { OnOk result (M.words core.new ≡ filled (words_got (got deck.name self.old.inner.files)) (M.words core.old)) }
+        ensures given { self.old.given ≡ 0 }
+        ensures err { OnErr result (self.new ≡ self.old) }
+        ensures err_core { OnErr result (M.words core.new ≡ M.words core.old) }
+        ensures keeps { M.Keeps core.old core.new }
+    {
+        if fill(&deck, &mut self.regs, core, &mut self.files).is_err() {
+            return Err(NoMemory);
+        }
+        self.fill = None;
+        self.own += 1;
+        Ok(())
+    }
+
+    /// A program that has its core is filled with its deck's words.
+    fn fill_core<M: MemoryPort>(
+        &mut self,
+        core: &mut M,
+        deck: Fill,
+        now: u64,
+    ) -> Result<Turn, NoMemory>
+        requires on { self.old.on ≡ true }
+        requires works { is_command_in self.old.inner.state ≡ false }
+        requires waits { self.old.inner.fill ≡ Some deck }
+        requires start { deck.start < 2 ^ 15 }
+        requires size { length (M.words core.old) ≡ 256 * self.old.inner.blocks }
+        requires fits { self.old.own < 2 ^ 64 - 1 }
+        ensures turn { IfOk result (λ turn. IsTurn turn now self.old self.new (M.words core.old) (M.words core.new)) }
+        ensures account { self.new.inner.account ≡ self.old.inner.account }
+        ensures err { OnErr result (self.new ≡ self.old) }
+        ensures err_core { OnErr result (M.words core.new ≡ M.words core.old) }
+        ensures keeps { M.Keeps core.old core.new }
+    {
+        self.store(core, deck)?;
+        Ok(Turn::Done(Step {
+            ending: Ending::Went,
+            clock: false,
+        }))
+    }
+
+    /// The next instruction of a program.
+    fn run<M: MemoryPort>(&mut self, core: &mut M, now: u64) -> Result<Turn, NoMemory>
+        requires on { self.old.on ≡ true }
+        requires works { is_command_in self.old.inner.state ≡ false }
+        requires filled { self.old.inner.fill ≡ None }
+        requires size { length (M.words core.old) ≡ 256 * self.old.inner.blocks }
+        requires fits { self.old.own < 2 ^ 64 - 1 }
+        requires time { now < 2 ^ 35 }
+        ensures turn { IfOk result (λ turn. IsTurn turn now self.old self.new (M.words core.old) (M.words core.new)) }
+        ensures account { self.new.inner.account ≡ self.old.inner.account }
+        ensures err { OnErr result (self.new ≡ self.old) }
+        ensures err_core { OnErr result (M.words core.new ≡ M.words core.old) }
+        ensures keeps { M.Keeps core.old core.new }
+    {
+        self.items.reserve(2)?;
+        let place = self.regs.ic;
+        let n = self.own + 1 - self.before;
+        match step(&mut self.regs, core) {
+            Stepped::Went => {
+                self.own += 1;
+                Ok(Turn::Done(Step {
+                    ending: Ending::Went,
+                    clock: false,
+                }))
+            }
+            Stepped::Entry(name) => self.enter(core, name, now),
+            Stepped::Halt => {
+                note_stop(&mut self.items, b"HALT", place, n);
+                self.stop();
+                Ok(Turn::Done(Step {
+                    ending: Ending::Stopped,
+                    clock: false,
+                }))
+            }
+            Stepped::Illegal => {
+                note_stop(&mut self.items, b"ILLEGAL", place, n);
+                self.stop();
+                Ok(Turn::Done(Step {
+                    ending: Ending::Stopped,
+                    clock: false,
+                }))
+            }
+            Stepped::Outside(_) => {
+                note_stop(&mut self.items, b"PROTECTION", place, n);
+                self.stop();
+                Ok(Turn::Done(Step {
+                    ending: Ending::Stopped,
+                    clock: false,
+                }))
+            }
+        }
+    }
+
+    /// A step at a tick, if one can be done: the command of the first unread line, or the next step of a program.
+    ///
+    /// The port is to the words of the user's program. Where a step gives the program another size or another program,
+    /// `blocks` is the new size, and the caller cuts, extends or clears the words.
+    pub fn step<M: MemoryPort>(&mut self, core: &mut M, now: u64) -> Result<Turn, NoMemory>
+        requires size { length (M.words core.old) ≡ 256 * self.old.inner.blocks }
+        requires fits { self.old.own < 2 ^ 64 - 1 }
+        requires time { now < 2 ^ 35 }
+        ensures turn { IfOk result (λ turn. IsTurn turn now self.old self.new (M.words core.old) (M.words core.new)) }
+        ensures account { self.new.inner.account ≡ self.old.inner.account }
+        ensures err { OnErr result (self.new ≡ self.old) }
+        ensures err_core { OnErr result (M.words core.new ≡ M.words core.old) }
+        ensures keeps { M.Keeps core.old core.new }
+    {
+        if !self.is_open() {
+            return Ok(Turn::Waits);
+        }
+        if self.takes_commands() {
+            return self.command(core, now);
+        }
+        match self.fill {
+            Some(deck) => self.fill_core(core, deck, now),
+            None => self.run(core, now),
+        }
+    }
+}

@@ -1,0 +1,13 @@
+//! Trials of the top call: scripts with their whole reports, refusals, decks, and objects that fail.
+#![tactic(auto)]
+
+#[cfg(test)]
+mod drums;
+#[cfg(test)]
+mod ends;
+#[cfg(test)]
+mod greetings;
+#[cfg(test)]
+mod play;
+#[cfg(test)]
+mod sessions;

@@ -22,6 +22,7 @@ impl Model for Literals {
 }
 
 impl Literals {
+    /// No literal.
     pub(crate) fn new(alloc: Global) -> Literals
         ensures { result ≡ [] }
     {
@@ -30,12 +31,14 @@ impl Literals {
         }
     }
 
+    /// How many literals there are.
     pub(crate) fn len(&self) -> usize
         ensures { result ≡ length self.now }
     {
         self.words.len()
     }
 
+    /// A literal more, unless there is one of the same word.
     #[tactic(auto, using(crate::proofs::Lookup::literal_added))]
     pub(crate) fn add(&mut self, word: Word) -> Result<(), NoMemory>
         ensures value { OnOk result (self.new ≡ with_literal self.old (Some word)) }

@@ -23,6 +23,7 @@ impl Model for Symbols {
 }
 
 impl Symbols {
+    /// No symbol.
     pub(crate) fn new(alloc: Global) -> Symbols
         ensures { result ≡ [] }
     {
@@ -31,6 +32,7 @@ impl Symbols {
         }
     }
 
+    /// How many symbols there are.
     pub(crate) fn len(&self) -> usize
         ensures { result ≡ length self.now }
     {

@@ -62,6 +62,7 @@ impl StoredFile {
 }
 
 impl FileTable {
+    /// A table of no file.
     pub(crate) fn new(alloc: Global) -> FileTable
         ensures { result ≡ [] }
     {
@@ -83,6 +84,7 @@ impl FileTable {
         Ok(table)
     }
 
+    /// The allocator of the table.
     pub(crate) fn alloc(&self) -> Global {
         *self.by_name.allocator()
     }
@@ -107,6 +109,7 @@ impl FileTable {
         Ok(())
     }
 
+    /// Gives a file another mode, if there is one of that name.
     pub(crate) fn set_mode(&mut self, name: FileName, mode: u8)
         ensures { self.new ≡ with_change name (λ f. record f { mode = mode }) self.old }
     {
@@ -115,6 +118,7 @@ impl FileTable {
         }
     }
 
+    /// Gives a file other words, if there is one of that name.
     pub(crate) fn set_words(&mut self, name: FileName, words: Vec<Word>)
         ensures { self.new ≡ with_change name (λ f. record f { words = words.items }) self.old }
     {
@@ -153,6 +157,7 @@ impl FileTable {
         Ok(())
     }
 
+    /// Takes out a file, if there is one of that name.
     pub(crate) fn remove(&mut self, name: FileName)
         ensures { self.new ≡ filter (λ f. not (is_named name f)) self.old }
     {

@@ -23,6 +23,7 @@ impl Model for Row {
 }
 
 impl Row {
+    /// A level without users.
     pub(crate) fn new() -> Row
         ensures { result ≡ [] }
     {
@@ -31,6 +32,7 @@ impl Row {
         }
     }
 
+    /// A user more, behind the others.
     pub(crate) fn add(&mut self, waiting: Waiting)
         requires { length self.old < 31 }
         ensures { self.new ≡ self.old ++ waiting ∷ [] }
@@ -38,6 +40,7 @@ impl Row {
         self.items.push(waiting);
     }
 
+    /// Whether a user stands in the row.
     pub(crate) fn has(&self, user: u8) -> bool
         ensures { result ≡ list_any (is_user user) self.now }
     {
@@ -47,18 +50,21 @@ impl Row {
             .any(|waiting| waiting.user == user)
     }
 
+    /// A user leaves the row.
     pub(crate) fn drop_user(&mut self, user: u8)
         ensures { self.new ≡ without_user user self.old }
     {
         self.items.retain(|waiting| waiting.user != user);
     }
 
+    /// A tick of a user's quantum goes by.
     pub(crate) fn tick(&mut self, user: u8)
         ensures { self.new ≡ map (one_less user) self.old }
     {
         tick_each(self.items.as_mut_slice(), user);
     }
 
+    /// The next user.
     pub(crate) fn head(&self) -> Option<Waiting>
         ensures { result ≡ head_of self.now }
     {
@@ -83,6 +89,7 @@ fn tick_each(items: &mut [Waiting], user: u8)
     }
 }
 
+/// A user leaves all rows.
 #[tactic(auto, using(crate::proofs::Counts::over_more))]
 pub(crate) fn drop_in_all(rows: &mut [Row], user: u8)
     ensures { rows.new ≡ map (without_user user) rows.old }
@@ -92,6 +99,7 @@ pub(crate) fn drop_in_all(rows: &mut [Row], user: u8)
     }
 }
 
+/// A tick of a user's quantum goes by, wherever it stands.
 #[tactic(auto, using(crate::proofs::Counts::over_more))]
 pub(crate) fn tick_in_all(rows: &mut [Row], user: u8)
     ensures { rows.new ≡ map (map (one_less user)) rows.old }
@@ -101,6 +109,7 @@ pub(crate) fn tick_in_all(rows: &mut [Row], user: u8)
     }
 }
 
+/// Whether a user stands in any row.
 pub(crate) fn has_in_any(rows: &[Row], user: u8) -> bool
     ensures { result ≡ is_in user rows.now }
 {
@@ -112,6 +121,7 @@ pub(crate) fn has_in_any(rows: &[Row], user: u8) -> bool
     false
 }
 
+/// The level of the first row that has a user, and its next user.
 pub(crate) fn first_in(rows: &[Row]) -> Option<(u8, Waiting)>
     requires { length rows.now ≤ 9 }
     ensures value { result ≡ first_of 0 rows.now }
@@ -125,6 +135,7 @@ pub(crate) fn first_in(rows: &[Row]) -> Option<(u8, Waiting)>
     None
 }
 
+/// A user more, behind the others of a level.
 pub(crate) fn add_in(rows: &mut [Row], level: u8, waiting: Waiting)
     requires within { level < length rows.old }
     requires room { length (get_or rows.old level []) < 31 }

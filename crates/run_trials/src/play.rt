@@ -7,6 +7,7 @@ use std::alloc::Global;
 use std::process::Abort;
 use std::test::Fail;
 
+/// A command line of one word.
 pub(crate) fn words(alloc: Global, word: &str) -> Result<ArgList, Fail> {
     let mut words = ArgList::new(alloc);
     words.add(word)?;

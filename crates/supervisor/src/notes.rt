@@ -27,6 +27,7 @@ pub(crate) fn note_some(entries: &mut Vec<Entry>, entry: Option<Entry>)
     }
 }
 
+/// The entry for idling that ends now, if nobody was served.
 pub(crate) fn idle_note(idling: Option<u64>, now: u64) -> Option<Entry>
     ensures { option_to_list result ≡ idle_notes idling now }
 {
@@ -36,6 +37,7 @@ pub(crate) fn idle_note(idling: Option<u64>, now: u64) -> Option<Entry>
     }
 }
 
+/// The entry for the open service, if it is the user's, which stops.
 pub(crate) fn stop_note(service: Option<Service>, user: u8) -> Option<Entry>
     ensures { option_to_list result ≡ stop_notes service user }
 {
@@ -57,6 +59,7 @@ pub(crate) fn stop_note(service: Option<Service>, user: u8) -> Option<Entry>
     }
 }
 
+/// The entry for a service that is open at the end.
 pub(crate) fn end_note(service: Option<Service>) -> Option<Entry>
     ensures { option_to_list result ≡ end_notes service }
 {
@@ -72,6 +75,7 @@ pub(crate) fn end_note(service: Option<Service>) -> Option<Entry>
     }
 }
 
+/// The entry for an answer of the clock, if it was asked.
 pub(crate) fn clock_note(asked: bool, now: u64, user: u8) -> Option<Entry>
     ensures { option_to_list result ≡ clock_entry asked now user }
 {
@@ -82,6 +86,7 @@ pub(crate) fn clock_note(asked: bool, now: u64, user: u8) -> Option<Entry>
     }
 }
 
+/// The entry for a service that ends with its step, if it does.
 pub(crate) fn serve_note(v: Service, cause: Option<Cause>) -> Option<Entry>
     requires { v.ran < 2 ^ 64 - 1 }
     ensures { option_to_list result ≡ service_entry v cause }
@@ -149,6 +154,7 @@ pub(crate) fn leave_consoles(consoles: &mut Vec<Console>, user: u8)
     }
 }
 
+/// Since when nobody is served.
 pub(crate) fn idle_from(idling: Option<u64>, now: u64) -> u64
     ensures { result ≡ idle_start idling now }
 {

@@ -67,6 +67,7 @@ pub(crate) fn sessions_of(
     Ok(sessions)
 }
 
+/// A copy of the accounts.
 pub(crate) fn accounts_of(alloc: Global, accounts: &[Account]) -> Result<Vec<Account>, NoMemory>
     ensures { IfOk result (λ s. s.items ≡ accounts.now) }
 {
@@ -75,6 +76,7 @@ pub(crate) fn accounts_of(alloc: Global, accounts: &[Account]) -> Result<Vec<Acc
     Ok(list)
 }
 
+/// 32 consoles, all off.
 pub(crate) fn consoles_of(alloc: Global) -> Result<Vec<Console>, NoMemory>
     ensures { IfOk result (λ s. s.items ≡ replicate 32 Off) }
 {

@@ -18,8 +18,11 @@ use Rattle.system_model.proofs.CaseLaws.{next_due, attended_loads, attended_step
 use Rattle.system_model.proofs.JoinedLaws.{joined_same, taken_joined, idled_joined, served_joined, waited_joined, brought_joined, stepped_joined, must_same, serves_joined, with_own, with_other, sound_joined, sound_unjoined, measure_joined}
 use Rattle.system_model.proofs.RunLaws.{measure_next}
 use Rattle.system_model.proofs.SoundLaws.{sound_next}
+use Rattle.medium.specs.Medium.{CallList}
 use Rattle.user_cores.specs.Memory.{Memory}
-use Rattle.supervisor.specs.Steps.{Does, Stays, IsTied, LoadIsDue, LoadIsNext}
+use Rattle.user_cores.specs.Swaps.{IsCutOff}
+use Rattle.supervisor.specs.Counts.{calls_to_load}
+use Rattle.supervisor.specs.Steps.{Does, Stays, IsTied, LoadFails}
 
 -- a step said in other words
 pub does_as : (f g : Run → Run) (old new : Run) (had has : Memory) → ((w : ℕ → List ℕ) → f (joined w old) ≡ g (joined w old)) → Does f old new had has → Does g old new had has
@@ -173,15 +176,18 @@ pub go_same : (limit m : ℕ) (x : Waiting) (v : Service) (old new : Run) (had h
 go_same limit m x v old new had has c s is d =
     by_both limit (Some (m, x)) (Some v) old new had has c s (does_as (attended v) (otherwise limit (Some x.user) (Some v)) old new had has (λ w. sym (goes_on limit x.user v (joined w old) is)) d)
 
--- the user that is served has blocks that are not in core
-pub load_due : (m : ℕ) (x : Waiting) (old : Run) (m' : Memory) → chosen old.system.plan.levels ≡ Some (m, x) → ((v : Service) → old.system.service ≡ Some v → v.user ≡ x.user)
-    → IsTied old.system.users m' → IsUser x.user old → is_loaded old.system.plan.places x.user (size_of m'.sizes x.user) ≡ false → LoadIsDue old
-load_due m x old m' c served tied who absent =
+-- the user that is served has blocks that are not in core, and their load was cut off
+pub load_fails : (m : ℕ) (x : Waiting) (old : Run) (m' : Memory) (was now : Option CallList) → chosen old.system.plan.levels ≡ Some (m, x) → ((v : Service) → old.system.service ≡ Some v → v.user ≡ x.user)
+    → IsTied old.system.users m' → IsUser x.user old → is_loaded old.system.plan.places x.user (size_of m'.sizes x.user) ≡ false → IsCutOff was now (calls_to_load x.user old) → LoadFails old was now
+load_fails m x old m' was now c served tied who absent cut =
     record {
-      user = x.user;
-      chosen_is = ap user_of c;
-      served = served;
-      absent = ap not (ap (is_loaded old.system.plan.places x.user) (sym (tied.has x.user who.some who.within)) ∙ absent);
+      due = record {
+        user = x.user;
+        chosen_is = ap user_of c;
+        served = served;
+        absent = ap not (ap (is_loaded old.system.plan.places x.user) (sym (tied.has x.user who.some who.within)) ∙ absent);
+      };
+      cut = cut;
     }
 
 -- one step

@@ -9,14 +9,17 @@ use Rattle.user_model.specs.User.{User}
 use Rattle.system_model.specs.Run.{Run, next, run_to, AfterSteps}
 use Rattle.system_model.specs.Joined.{joined, with_cores, at_places}
 use Rattle.system_model.specs.Sound.{Sound, IsUser}
-use Rattle.plan_model.specs.Loads.{Places}
+use Rattle.plan_model.specs.Loads.{Places, count_below, is_dumped, is_read}
+use Rattle.medium.specs.Medium.{CallList}
 use Rattle.plan_model.specs.Levels.{chosen, user_of}
 use Rattle.ctss_types.specs.declared.session.Waiting.{Waiting}
 use Rattle.system_model.proofs.SoundLaws.{first_user, Alike, user_too, seats_too}
-use Rattle.system_model.proofs.JoinedLaws.{joined_same, must_same}
+use Rattle.system_model.proofs.JoinedLaws.{joined_same, must_same, blocks_same}
 use Rattle.system_model.proofs.RunLaws.{run_to_next, run_to_done, after_next, after_none}
 use Rattle.user_cores.specs.Memory.{Memory}
-use Rattle.supervisor.specs.Steps.{Does, Stays, IsTied, IsHeld, LoadIsDue, LoadIsNext, Shows, StopsAtLoad, HasRun, HasRunPart, HasRunToLoad, Ends, Lasts}
+use Rattle.supervisor.specs.Counts.{IsCounted, calls_to_load}
+use Rattle.supervisor.specs.Steps.{Does, Stays, IsTied, IsHeld, LoadIsDue, NextLoadFails, HasRun, HasRunPart, HasRunToLoad, Ends, Lasts}
+use Rattle.supervisor.proofs.Counting.{counted_to_load}
 use Rattle.supervisor.proofs.Doing.{does_sound}
 
 -- a step of users joined with their words
@@ -59,37 +62,45 @@ pub transcripts_same : (k : ℕ) (f : ℕ → List ℕ) (ps : List User) → map
 transcripts_same k f [] = refl
 transcripts_same k f (p ∷ ps) = ap (λ (ts : List (List Item)). p.transcript ∷ ts) (transcripts_same (suc k) f ps)
 
-load_joined : (f : ℕ → List ℕ) (r : Run) → Sound r → LoadIsNext r → LoadIsNext (joined f r)
-unfolding joined
-load_joined f r sound load =
-    record {
-      quiet = load.quiet;
-      due = record {
-        user = load.due.user;
-        chosen_is = load.due.chosen_is;
-        served = load.due.served;
-        absent = must_same f load.due.user r (is_user (chosen r.system.plan.levels) refl) ∙ load.due.absent;
-      };
-    }
+-- the user whose load is due
+due_user : (r : Run) (due : LoadIsDue r) → Sound r → IsUser due.user r
+due_user r due sound = is_user (chosen r.system.plan.levels) refl
   where
-    is_user : (x : Option (ℕ × Waiting)) → chosen r.system.plan.levels ≡ x → IsUser load.due.user r
-    is_user None e = let h = sym (ap user_of e) ∙ load.due.chosen_is in cc
-    is_user (Some x) e = let h = sym (ap user_of e) ∙ load.due.chosen_is in let same : (x.1).user ≡ load.due.user = cc in subst (λ (k : ℕ). IsUser k r) same (first_user r x.0 x.1 sound e)
+    is_user : (x : Option (ℕ × Waiting)) → chosen r.system.plan.levels ≡ x → IsUser due.user r
+    is_user None e = let h = sym (ap user_of e) ∙ due.chosen_is in cc
+    is_user (Some x) e = let h = sym (ap user_of e) ∙ due.chosen_is in let same : (x.1).user ≡ due.user = cc in subst (λ (k : ℕ). IsUser k r) same (first_user r x.0 x.1 sound e)
+
+-- a load makes as many calls with whatever words
+calls_joined : (f : ℕ → List ℕ) (u : ℕ) (r : Run) → IsUser u r → calls_to_load u (joined f r) ≡ calls_to_load u r
+unfolding joined
+calls_joined f u r who = ap (λ (n : ℕ). count_below n (is_dumped r.system.plan.places u) + count_below n (is_read r.system.plan.places u)) (blocks_same f u r who)
 
 -- a run that stopped at a load
-pub stops_at_load : (limit : ℕ) (start old new : Run) (first had : Memory) → HasRunPart limit start old first had → Sound old → LoadIsNext old
-    → new.system.entries ≡ old.system.entries → new.system.users ≡ old.system.users → new.system.clock ≡ old.system.clock → HasRunToLoad limit start new first
+pub stops_at_load : (limit : ℕ) (start old new : Run) (first had : Memory) (was mid now : Option CallList) → HasRunPart limit start old first had → Sound old
+    → IsCounted start.system.entries old.system.entries was mid → NextLoadFails old mid now
+    → new.system.entries ≡ old.system.entries → new.system.users ≡ old.system.users → new.system.clock ≡ old.system.clock → HasRunToLoad limit start new first was now
 unfolding joined
-stops_at_load limit start old new first had part sound load entries users clock = λ told.
+stops_at_load limit start old new first had was mid now part sound counted fails entries users clock = λ told.
+    let due = fails.next.due in
+    let who : IsUser due.user old = due_user old due sound in
     record {
       at = joined had.words old;
       part = part told;
-      load = load_joined had.words old sound load;
+      load = record {
+        quiet = fails.next.quiet;
+        due = record {
+          user = due.user;
+          chosen_is = due.chosen_is;
+          served = due.served;
+          absent = must_same had.words due.user old who ∙ due.absent;
+        };
+      };
       shown = record {
         entries = entries;
         transcripts = ap (λ (ps : List User). map (λ (p : User). p.transcript) ps) users ∙ transcripts_same 1 had.words old.system.users;
         clock = clock;
       };
+      counted = counted_to_load start.system.entries old.system.entries new.system.entries was mid now _ _ counted fails.cut (calls_joined had.words due.user old who) entries;
     }
 
 -- what holds by how a step ended

@@ -5,6 +5,7 @@ use Rattle.ctss_types.specs.declared.fault.RunFault.{RunFault}
 use Rattle.ctss_types.specs.declared.fault.RunFault.TheVariants.{Drum, Disk, NoMemory}
 use Rattle.time_sharing.specs.Machine.{Ending, Went, Stopped, Resized, Replaced, LoggedOut}
 use Rattle.time_sharing.specs.System.{Service}
+use Rattle.medium.specs.Medium.{CallList}
 use Rattle.drum_slots.specs.Keys.{quota_of}
 use Rattle.image_map.specs.Images.{size_of}
 use Rattle.user_model.specs.Inner.{blocks_of, recut, zeros}
@@ -12,11 +13,13 @@ use Rattle.user_model.specs.User.{User}
 use Rattle.plan_model.specs.Levels.{chosen, user_of}
 use Rattle.plan_model.specs.Plan.{must_load, places_after}
 use Rattle.user_cores.specs.Memory.{Memory}
+use Rattle.user_cores.specs.Swaps.{IsCutOff}
 use Rattle.system_model.specs.Run.{Run, due_of, run_to, AfterSteps}
 use Rattle.system_model.specs.Cases.{user_at}
 use Rattle.system_model.specs.Joined.{joined, with_core}
 use Rattle.system_model.specs.Sound.{Sound}
 use Rattle.supervisor.specs.Seen.{number_of, left_places}
+use Rattle.supervisor.specs.Counts.{IsCountedToLoad, calls_to_load}
 
 -- What happened is what this function does to the users joined with words. Where the drum tells its records, these are
 -- the users' own words.
@@ -87,6 +90,15 @@ pub record LoadIsNext (r : Run) : Type 0 where
   pub quiet : due_of r.system.events r.system.clock ≡ None
   pub due : LoadIsDue r
 
+-- such a load was cut off after some of its calls
+pub record LoadFails (r : Run) (was now : Option CallList) : Type 0 where
+  pub due : LoadIsDue r
+  pub cut : IsCutOff was now (calls_to_load due.user r)
+
+pub record NextLoadFails (r : Run) (was now : Option CallList) : Type 0 where
+  pub next : LoadIsNext r
+  pub cut : IsCutOff was now (calls_to_load next.due.user r)
+
 -- what a run shows: the schedule, the transcripts and the clock
 pub record Shows (r s : Run) : Type 0 where
   pub entries : s.system.entries ≡ r.system.entries
@@ -100,15 +112,17 @@ HasRun limit old new had has = had.tells ≡ true → joined has.words new ≡ r
 abbrev pub HasRunPart : ℕ → (old new : Run) → (had has : Memory) → Type 0
 HasRunPart limit old new had has = had.tells ≡ true → AfterSteps limit (joined had.words old) (joined has.words new)
 
--- a part of the run, behind which a load is next, is shown
-pub record StopsAtLoad (limit : ℕ) (old new : Run) : Type 0 where
+-- A part of the run, behind which a load is next, is shown. The drum's calls are those of the loads so far and, where it tells
+-- them, a beginning of that next load's, of which the last one failed.
+pub record StopsAtLoad (limit : ℕ) (old new : Run) (was now : Option CallList) : Type 0 where
   pub at : Run
   pub part : AfterSteps limit old at
   pub load : LoadIsNext at
   pub shown : Shows at new
+  pub counted : IsCountedToLoad old.system.entries new.system.entries was now (calls_to_load load.due.user at)
 
-abbrev pub HasRunToLoad : ℕ → (old new : Run) → (had : Memory) → Type 0
-HasRunToLoad limit old new had = had.tells ≡ true → StopsAtLoad limit (joined had.words old) new
+abbrev pub HasRunToLoad : ℕ → (old new : Run) → (had : Memory) → (was now : Option CallList) → Type 0
+HasRunToLoad limit old new had was now = had.tells ≡ true → StopsAtLoad limit (joined had.words old) new was now
 
 -- what holds by the fault that ended a step: want of memory, or the drum; the disk has no part in it
 abbrev pub Fails : RunFault → Type 0 → Type 0 → Type 0

@@ -1,9 +1,10 @@
-ghost use Rattle.std.specs.Prelude.{◌≡◌, ◌≤◌, [], length, true};
+ghost use Rattle.std.specs.Prelude.{◌≡◌, ◌≤◌, [], length, true, ⊤};
 ghost use Rattle.faults.specs.Faults.{Rose};
 ghost use Rattle.system_model.specs.Run.{given, ended};
 ghost use Rattle.plan_model.specs.Loads.{Places, no_places};
 ghost use Rattle.system_model.specs.Record.{start_of, record_from};
 ghost use Rattle.system_model.specs.Sound.{HasSeat};
+ghost use Rattle.supervisor.specs.Counts.{IsCounted};
 ghost use Rattle.supervisor.specs.Seen.{AreFit, record_so_far, run_with};
 ghost use Rattle.supervisor.specs.Steps.{IsTied, HasRun, HasRunPart, HasRunToLoad, Ends, Lasts};
 ghost use Rattle.std.specs.Prelude.{IfOk, OnOk, OnErr};
@@ -87,7 +88,9 @@ impl Supervisor {
             (HasRunPart limit (run_with (C.memory cores.old).places self.old)
             (run_with (C.memory cores.new).places self.new) (C.memory cores.old) (C.memory cores.new))
             (HasRunToLoad limit (run_with (C.memory cores.old).places self.old) (run_with no_places self.new) (C.memory cores.old)
-            × Rose (C.faults cores.old) (C.faults cores.new)) }
+            (C.calls cores.old) (C.calls cores.new) × Rose (C.faults cores.old) (C.faults cores.new)) }
+        ensures counted { Ends result (IsCounted self.old.entries self.new.entries (C.calls cores.old) (C.calls cores.new))
+            (IsCounted self.old.entries self.new.entries (C.calls cores.old) (C.calls cores.new)) ⊤ }
         ensures tells { Lasts result ((C.memory cores.new).tells ≡ (C.memory cores.old).tells) }
         ensures tied { Lasts result (IsTied self.new.users (C.memory cores.new)) }
         ensures works { Lasts result (C.Works cores.new) }

@@ -1,5 +1,5 @@
 //! Steps of the state together with users' cores, one after another.
-ghost use Rattle.std.specs.Prelude.{◌≡◌, ◌<◌, ◌≤◌, ◌-◌, ◌^◌, length, true, false, OnOk, OnErr, IfOk};
+ghost use Rattle.std.specs.Prelude.{◌≡◌, ◌<◌, ◌≤◌, ◌-◌, ◌^◌, length, true, false, OnOk, OnErr, IfOk, ⊤};
 ghost use Rattle.faults.specs.Faults.{Rose};
 ghost use Rattle.drum_slots.specs.Keys.{quota_of};
 ghost use Rattle.image_map.specs.Images.{size_of};
@@ -10,8 +10,10 @@ ghost use Rattle.system_model.specs.Cases.{served, idled};
 ghost use Rattle.system_model.specs.Sound.{HasSeat, IsUser, Sound};
 ghost use Rattle.time_sharing.specs.Machine.{Went};
 ghost use Rattle.time_sharing.specs.System.{Preempt};
+ghost use Rattle.user_cores.specs.Swaps.{IsCutOff};
+ghost use Rattle.supervisor.specs.Counts.{IsCounted, calls_to_load};
 ghost use Rattle.supervisor.specs.Seen.{seen, number_of};
-ghost use Rattle.supervisor.specs.Steps.{Does, Stays, IsHeld, IsTied, IsLeft, IsSettled, LoadIsDue, LoadIsNext, HasRun, HasRunPart, HasRunToLoad, Ends, Lasts};
+ghost use Rattle.supervisor.specs.Steps.{Does, Stays, IsHeld, IsTied, IsLeft, IsSettled, LoadFails, NextLoadFails, HasRun, HasRunPart, HasRunToLoad, Ends, Lasts};
 
 use crate::state::State;
 use ctss_types::{Cause, Ending, NoMemory, RunFault, Service, Timed, UserNo};
@@ -23,6 +25,7 @@ fn give_up<C: Cores>(cores: &mut C, cut: Option<UserNo>)
     requires works { C.Works cores.old }
     requires user { number_of cut < length (C.memory cores.old).sizes }
     ensures left { IsLeft cut (C.memory cores.old) (C.memory cores.new) }
+    ensures calls { C.calls cores.new ≡ C.calls cores.old }
     ensures works { C.Works cores.new }
     ensures keeps { C.Keeps cores.old cores.new }
     ensures faults { C.faults cores.new ≡ C.faults cores.old }
@@ -39,6 +42,7 @@ fn settle<C: Cores>(cores: &mut C, user: UserNo, ending: Ending, blocks: u8)
     requires quota { blocks ≤ quota_of (C.memory cores.old).quotas user }
     requires same { ending ≡ Went → size_of (C.memory cores.old).sizes user ≡ blocks }
     ensures settled { IsSettled ending user blocks (C.memory cores.old) (C.memory cores.new) }
+    ensures calls { C.calls cores.new ≡ C.calls cores.old }
     ensures works { C.Works cores.new }
     ensures keeps { C.Keeps cores.old cores.new }
     ensures faults { C.faults cores.new ≡ C.faults cores.old }
@@ -60,6 +64,7 @@ impl State {
             (seen (C.memory cores.new).places self.new) (C.memory cores.old) (C.memory cores.new)) }
         ensures err { OnErr result (Stays (seen (C.memory cores.old).places self.old)
             (seen (C.memory cores.new).places self.new) (C.memory cores.old) (C.memory cores.new)) }
+        ensures counted { IsCounted self.old.entries.items self.new.entries.items (C.calls cores.old) (C.calls cores.new) }
         ensures tied { IsTied self.new.sessions.items (C.memory cores.new) }
         ensures works { C.Works cores.new }
         ensures keeps { C.Keeps cores.old cores.new }
@@ -81,7 +86,10 @@ impl State {
             (seen (C.memory cores.new).places self.new) (C.memory cores.old) (C.memory cores.new))
             (Stays (seen (C.memory cores.old).places self.old)
             (seen (C.memory cores.new).places self.new) (C.memory cores.old) (C.memory cores.new))
-            ((seen no_places self.new ≡ seen no_places self.old) × Rose (C.faults cores.old) (C.faults cores.new)) }
+            ((seen no_places self.new ≡ seen no_places self.old) × Rose (C.faults cores.old) (C.faults cores.new)
+            × IsCutOff (C.calls cores.old) (C.calls cores.new) (calls_to_load v.user (seen (C.memory cores.old).places self.old))) }
+        ensures counted { Ends result (IsCounted self.old.entries.items self.new.entries.items (C.calls cores.old) (C.calls cores.new))
+            (IsCounted self.old.entries.items self.new.entries.items (C.calls cores.old) (C.calls cores.new)) ⊤ }
         ensures tied { Lasts result (IsTied self.new.sessions.items (C.memory cores.new)) }
         ensures works { Lasts result (C.Works cores.new) }
         ensures keeps { C.Keeps cores.old cores.new }
@@ -112,6 +120,7 @@ impl State {
             (seen (C.memory cores.new).places self.new) (C.memory cores.old) (C.memory cores.new)) }
         ensures err { OnErr result (Stays (seen (C.memory cores.old).places self.old)
             (seen (C.memory cores.new).places self.new) (C.memory cores.old) (C.memory cores.new)) }
+        ensures counted { IsCounted self.old.entries.items self.new.entries.items (C.calls cores.old) (C.calls cores.new) }
         ensures tied { IsTied self.new.sessions.items (C.memory cores.new) }
         ensures works { C.Works cores.new }
         ensures keeps { C.Keeps cores.old cores.new }
@@ -143,7 +152,10 @@ impl State {
             (Stays (seen (C.memory cores.old).places self.old)
             (seen (C.memory cores.new).places self.new) (C.memory cores.old) (C.memory cores.new))
             ((seen no_places self.new ≡ seen no_places self.old) × Rose (C.faults cores.old) (C.faults cores.new)
-            × (is_loaded (C.memory cores.old).places v.user (size_of (C.memory cores.old).sizes v.user) ≡ false)) }
+            × (is_loaded (C.memory cores.old).places v.user (size_of (C.memory cores.old).sizes v.user) ≡ false)
+            × IsCutOff (C.calls cores.old) (C.calls cores.new) (calls_to_load v.user (seen (C.memory cores.old).places self.old))) }
+        ensures counted { Ends result (IsCounted self.old.entries.items self.new.entries.items (C.calls cores.old) (C.calls cores.new))
+            (IsCounted self.old.entries.items self.new.entries.items (C.calls cores.old) (C.calls cores.new)) ⊤ }
         ensures tied { Lasts result (IsTied self.new.sessions.items (C.memory cores.new)) }
         ensures works { Lasts result (C.Works cores.new) }
         ensures keeps { C.Keeps cores.old cores.new }
@@ -166,6 +178,7 @@ impl State {
             (seen (C.memory cores.new).places self.new) (C.memory cores.old) (C.memory cores.new)) }
         ensures err { OnErr result (Stays (seen (C.memory cores.old).places self.old)
             (seen (C.memory cores.new).places self.new) (C.memory cores.old) (C.memory cores.new)) }
+        ensures counted { IsCounted self.old.entries.items self.new.entries.items (C.calls cores.old) (C.calls cores.new) }
         ensures tied { IsTied self.new.sessions.items (C.memory cores.new) }
         ensures works { C.Works cores.new }
         ensures keeps { C.Keeps cores.old cores.new }
@@ -181,6 +194,7 @@ impl State {
         requires held { IsHeld (seen (C.memory cores.old).places self.old) (C.memory cores.old) }
         ensures does { Does (idled limit) (seen (C.memory cores.old).places self.old)
             (seen (C.memory cores.new).places self.new) (C.memory cores.old) (C.memory cores.new) }
+        ensures counted { IsCounted self.old.entries.items self.new.entries.items (C.calls cores.old) (C.calls cores.new) }
         ensures tied { IsTied self.new.sessions.items (C.memory cores.new) }
         ensures works { C.Works cores.new }
         ensures keeps { C.Keeps cores.old cores.new }
@@ -202,7 +216,9 @@ impl State {
             (Stays (seen (C.memory cores.old).places self.old)
             (seen (C.memory cores.new).places self.new) (C.memory cores.old) (C.memory cores.new))
             ((seen no_places self.new ≡ seen no_places self.old) × Rose (C.faults cores.old) (C.faults cores.new)
-            × LoadIsDue (seen (C.memory cores.old).places self.old)) }
+            × LoadFails (seen (C.memory cores.old).places self.old) (C.calls cores.old) (C.calls cores.new)) }
+        ensures counted { Ends result (IsCounted self.old.entries.items self.new.entries.items (C.calls cores.old) (C.calls cores.new))
+            (IsCounted self.old.entries.items self.new.entries.items (C.calls cores.old) (C.calls cores.new)) ⊤ }
         ensures tied { Lasts result (IsTied self.new.sessions.items (C.memory cores.new)) }
         ensures works { Lasts result (C.Works cores.new) }
         ensures keeps { C.Keeps cores.old cores.new }
@@ -251,7 +267,9 @@ impl State {
             (Stays (seen (C.memory cores.old).places self.old)
             (seen (C.memory cores.new).places self.new) (C.memory cores.old) (C.memory cores.new))
             ((seen no_places self.new ≡ seen no_places self.old) × Rose (C.faults cores.old) (C.faults cores.new)
-            × LoadIsNext (seen (C.memory cores.old).places self.old)) }
+            × NextLoadFails (seen (C.memory cores.old).places self.old) (C.calls cores.old) (C.calls cores.new)) }
+        ensures counted { Ends result (IsCounted self.old.entries.items self.new.entries.items (C.calls cores.old) (C.calls cores.new))
+            (IsCounted self.old.entries.items self.new.entries.items (C.calls cores.old) (C.calls cores.new)) ⊤ }
         ensures tied { Lasts result (IsTied self.new.sessions.items (C.memory cores.new)) }
         ensures works { Lasts result (C.Works cores.new) }
         ensures keeps { C.Keeps cores.old cores.new }
@@ -276,7 +294,9 @@ impl State {
             (HasRunPart limit (seen (C.memory cores.old).places self.old)
             (seen (C.memory cores.new).places self.new) (C.memory cores.old) (C.memory cores.new))
             (HasRunToLoad limit (seen (C.memory cores.old).places self.old) (seen no_places self.new) (C.memory cores.old)
-            × Rose (C.faults cores.old) (C.faults cores.new)) }
+            (C.calls cores.old) (C.calls cores.new) × Rose (C.faults cores.old) (C.faults cores.new)) }
+        ensures counted { Ends result (IsCounted self.old.entries.items self.new.entries.items (C.calls cores.old) (C.calls cores.new))
+            (IsCounted self.old.entries.items self.new.entries.items (C.calls cores.old) (C.calls cores.new)) ⊤ }
         ensures tells { Lasts result ((C.memory cores.new).tells ≡ (C.memory cores.old).tells) }
         ensures held { Lasts result (IsHeld (seen (C.memory cores.new).places self.new) (C.memory cores.new)) }
         ensures works { Lasts result (C.Works cores.new) }

@@ -2,6 +2,7 @@ pub mod CaseLaws
 pub mod SoundLaws
 pub mod JoinedLaws
 pub mod EventLaws
+pub mod SwapLaws
 pub mod RunLaws
 pub mod AloneLaws
 pub mod PartLaws

@@ -7,6 +7,7 @@ use Rattle.plan_model.specs.Loads.{no_places}
 use Rattle.user_cores.specs.Memory.{Memory}
 use Rattle.supervisor.specs.Seen.{seen}
 use Rattle.supervisor.specs.Steps.{IsHeld, HasRunPart}
+use Rattle.supervisor.proofs.Counting.{counted_same, counted_on}
 use Rattle.supervisor.proofs.Doing.{does_fall}
 use Rattle.supervisor.proofs.Serving.{fails_map, fails_to}
 use Rattle.supervisor.proofs.Running.{sound_places, leads_on, part_on, part_none, run_done, held_on, part_still, stops_at_load}
@@ -17,6 +18,7 @@ steps-init g c =
     record {
       leads = λ told. refl;
       part = part_none c.args.limit (seen (g.C.Cores.memory c.args.cores.now).places c.args.self.now) (g.C.Cores.memory c.args.cores.now);
+      counted = counted_same _ _ _ _ refl refl;
       tells = refl;
       held = c.requires.held;
       works = c.requires.works;
@@ -44,6 +46,7 @@ steps-preserved g c =
     record {
       leads = leads_on c.args.limit start old new first had has inv.tells up done inv.leads;
       part = part_on c.args.limit start old new first had has inv.tells up done inv.part;
+      counted = counted_on _ _ _ _ _ _ inv.counted c.in-Ok.ensures.counted;
       tells = done.tells ∙ inv.tells;
       held = held_on c.args.limit old new had has up inv.held c.in-Ok.ensures.tied done;
       works = c.in-Ok.ensures.works;
@@ -62,7 +65,7 @@ returns-in-Err-clause-ended g c =
     let inv = c.steps.invariant in
     fails_map c.in-Err.fault _ _ _ _
     (λ s. part_still c.args.limit start old new first had has inv.tells s inv.part)
-    (λ f. (stops_at_load c.args.limit start old (seen no_places c.step.new.self) first had inv.part inv.held.sound f.2 (ap (λ (r : Run). r.system.entries) f.0) (ap (λ (r : Run). r.system.users) f.0) (ap (λ (r : Run). r.system.clock) f.0), search rules))
+    (λ f. (stops_at_load c.args.limit start old (seen no_places c.step.new.self) first had _ _ _ inv.part inv.held.sound inv.counted f.2 (ap (λ (r : Run). r.system.entries) f.0) (ap (λ (r : Run). r.system.users) f.0) (ap (λ (r : Run). r.system.clock) f.0), search rules))
     c.in-Err.ensures.ended
 
 pub returns-clause-ended : goal.returns-clause-ended
@@ -85,3 +88,7 @@ returns-in-Err-clause-sound g c =
 
 pub returns-clause-sound : goal.returns-clause-sound
 returns-clause-sound g c = sound_places no_places (seen (g.C.Cores.memory c.steps.cores).places c.steps.self) c.steps.invariant.held.sound
+
+pub returns-in-Err-clause-counted : goal.returns-in-Err-clause-counted
+returns-in-Err-clause-counted g c =
+    fails_map c.in-Err.fault _ _ _ _ (λ m. counted_on _ _ _ _ _ _ c.steps.invariant.counted m) (λ u. u) c.in-Err.ensures.counted

@@ -1,4 +1,4 @@
-use Rattle.std.proofs.Common.{◌≡◌, ◌≤◌, ◌-◌, ◌+◌, ℕ, true, false, not, List, refl, sym, ap, subst, ◌∙◌}
+use Rattle.std.proofs.Common.{◌≡◌, ◌≤◌, ◌-◌, ◌+◌, ℕ, rules, true, false, not, List, refl, sym, ap, subst, ◌∙◌}
 use Rattle.user_model.specs.Inner.{blocks_of}
 use Rattle.user_model.specs.User.{User}
 use Rattle.time_sharing.specs.System.{Entry}
@@ -8,9 +8,12 @@ use Rattle.system_model.specs.Run.{Run}
 use Rattle.system_model.specs.Cases.{user_at, brought}
 use Rattle.system_model.specs.Joined.{moved, at_places}
 use Rattle.system_model.proofs.JoinedLaws.{brought_is}
+use Rattle.system_model.proofs.SwapLaws.{moved_moves}
 use Rattle.user_cores.specs.Memory.{Memory}
+use Rattle.user_cores.specs.Swaps.{IsCutOff}
 use Rattle.supervisor.specs.Seen.{seen}
 use Rattle.supervisor.specs.Steps.{IsTied}
+use Rattle.supervisor.proofs.Counting.{counted_load}
 use Rattle.supervisor.proofs.Doing.{does_brought}
 use Rattle.supervisor.proofs.Tied.{tied_same}
 use Rattle.supervisor.proofs.Serving.{resized_none, moved_users, with_users}
@@ -47,3 +50,29 @@ returns-in-Ok-clause-tied g c =
     let has : Memory = g.C.Cores.memory c.load.new.self in
     let are : c.bring.new.self.sessions.items ≡ c.args.self.now.sessions.items = ap (λ (r : Run). r.system.users) (c.bring.ensures had.places) ∙ moved_users c.of-user.result c.in-Ok.plan.dumped c.in-Ok.plan.read c.in-Ok.plan.fresh _ in
     subst (λ (us : List User). IsTied us has) (sym are) (tied_same c.args.self.now.sessions.items 0 had has (resized_none 0 had has c.load.ensures.sizes c.load.ensures.quotas) c.requires.held.tied)
+
+pub returns-in-Err-clause-ended : goal.returns-in-Err-clause-ended
+returns-in-Err-clause-ended g c =
+    let had : Memory = g.C.Cores.memory c.args.cores.now in
+    let users : List User = c.args.self.now.sessions.items in
+    let u : ℕ = c.args.v.user in
+    let sizes : size_of had.sizes c.of-user.result ≡ blocks_of (user_at u users).inner =
+    ap (size_of had.sizes) c.of-user.ensures ∙ c.requires.held.tied.has u c.requires.user.some c.requires.user.within in (
+      search rules,
+      search rules,
+      subst (λ (most : ℕ). IsCutOff (g.C.Cores.calls c.args.cores.now) (g.C.Cores.calls c.load.new.self) most)
+          (λ j. count_below (sizes j) (is_dumped had.places (c.of-user.ensures j)) + count_below (sizes j) (is_read had.places (c.of-user.ensures j)))
+          c.in-Err.ensures.failed,
+    )
+
+pub returns-in-Ok-clause-counted : goal.returns-in-Ok-clause-counted
+returns-in-Ok-clause-counted g c =
+    let had : Memory = g.C.Cores.memory c.args.cores.now in
+    let old : Run = seen had.places c.args.self.now in
+    let u : ℕ = c.of-user.result in
+    let dumped : ℕ = c.in-Ok.plan.dumped in
+    let read : ℕ = c.in-Ok.plan.read in
+    let fresh : ℕ = c.in-Ok.plan.fresh in
+    counted_load old (moved u dumped read fresh old) (seen had.places c.bring.new.self) _ _ dumped read
+    (c.bring.ensures had.places ∙ (λ j. moved u dumped read fresh (with_users old c.args.self.now.sessions.items (c.reserve.ensures.items j))))
+    (moved_moves u dumped read fresh old) c.in-Ok.ensures.calls

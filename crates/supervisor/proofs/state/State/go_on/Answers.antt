@@ -10,7 +10,9 @@ use Rattle.plan_model.specs.Loads.{is_loaded}
 use Rattle.image_map.specs.Images.{size_of}
 use Rattle.system_model.specs.Sound.{IsUser}
 use Rattle.system_model.proofs.SoundLaws.{first_user}
-use Rattle.supervisor.proofs.Doing.{go_begin, go_same, load_due}
+use Rattle.supervisor.specs.Counts.{calls_to_load}
+use Rattle.user_cores.specs.Swaps.{IsCutOff}
+use Rattle.supervisor.proofs.Doing.{go_begin, go_same, load_fails}
 use Rattle.supervisor.proofs.Serving.{ends_map}
 use Rattle.supervisor.proofs.state.State.go_on.Goals as goal
 
@@ -35,9 +37,10 @@ returns-in-Some-None-clause-ended g c =
     (λ f. (
       f.0,
       f.1,
-      load_due c.in-Some-None.next.level x old had c.in-Some-None.ensures.some (λ w h. let both = sym none ∙ h in cc) c.requires.held.tied
+      load_fails c.in-Some-None.next.level x old had (g.C.Cores.calls c.args.cores.now) (g.C.Cores.calls c.attend.new.cores) c.in-Some-None.ensures.some (λ w h. let both = sym none ∙ h in cc) c.requires.held.tied
           (first_user old c.in-Some-None.next.level x c.requires.held.sound c.in-Some-None.ensures.some)
-          (subst (λ (k : ℕ). is_loaded had.places k (size_of had.sizes k) ≡ false) c.number.ensures.value f.2),
+          (subst (λ (k : ℕ). is_loaded had.places k (size_of had.sizes k) ≡ false) c.number.ensures.value f.2)
+          (subst (λ (k : ℕ). IsCutOff (g.C.Cores.calls c.args.cores.now) (g.C.Cores.calls c.attend.new.cores) (calls_to_load k old)) c.number.ensures.value f.3),
     ))
     c.attend.ensures.ended
 
@@ -56,9 +59,10 @@ returns-then-v-number-clause-ended g c =
     (λ f. (
       f.0,
       f.1,
-      load_due c.in-Some-Some.next.level x old had c.in-Some-Some.ensures.some
+      load_fails c.in-Some-Some.next.level x old had (g.C.Cores.calls c.args.cores.now) (g.C.Cores.calls c.attend-then-v-number.new.cores) c.in-Some-Some.ensures.some
           (λ w h. let both = sym h ∙ some in let e : w ≡ v = cc in ap (λ (s : Service). s.user) e ∙ same)
           c.requires.held.tied (first_user old c.in-Some-Some.next.level x c.requires.held.sound c.in-Some-Some.ensures.some)
-          (subst (λ (k : ℕ). is_loaded had.places k (size_of had.sizes k) ≡ false) same f.2),
+          (subst (λ (k : ℕ). is_loaded had.places k (size_of had.sizes k) ≡ false) same f.2)
+          (subst (λ (k : ℕ). IsCutOff (g.C.Cores.calls c.args.cores.now) (g.C.Cores.calls c.attend-then-v-number.new.cores) (calls_to_load k old)) same f.3),
     ))
     c.attend-then-v-number.ensures.ended

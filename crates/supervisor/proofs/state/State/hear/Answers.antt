@@ -2,11 +2,13 @@ use Rattle.std.proofs.Common.{◌≡◌, ◌≤◌, ◌-◌, ℕ, List, [], refl
 use Rattle.image_map.proofs.Calls.{on_err}
 use Rattle.user_model.specs.User.{User}
 use Rattle.plan_model.specs.Loads.{Places}
-use Rattle.system_model.specs.Run.{Run}
+use Rattle.system_model.specs.Run.{Run, taken}
+use Rattle.system_model.proofs.SwapLaws.{taken_moves}
 use Rattle.system_model.specs.Joined.{with_core}
 use Rattle.user_cores.specs.Memory.{Memory}
 use Rattle.supervisor.specs.Seen.{seen}
 use Rattle.supervisor.specs.Steps.{IsTied, IsResized}
+use Rattle.supervisor.proofs.Counting.{counted_same, counted_none}
 use Rattle.supervisor.proofs.Doing.{does_taken}
 use Rattle.supervisor.proofs.Tied.{tied_taken}
 use Rattle.supervisor.proofs.state.State.hear.Goals as goal
@@ -38,3 +40,17 @@ returns-clause-tied g c =
     let is = ap (λ (p : Places). seen p c.take_event.new.self) left.places ∙ c.in_ok-cut.ensures.ok had.places in
     subst (λ (us : List User). IsTied us has) (ap (λ (r : Run). r.system.users) (sym is))
     (tied_taken c.args.e (seen had.places c.args.self.now) had has c.requires.seat c.requires.held.sound c.requires.held.tied (subst (λ (k : ℕ). IsResized k 0 had has) c.in_ok-cut.ensures.cut left.sizes))
+
+pub returns-in_err-cut-clause-counted : goal.returns-in_err-cut-clause-counted
+returns-in_err-cut-clause-counted g c =
+    let had : Memory = g.C.Cores.memory c.args.cores.now in
+    counted_same _ _ _ _ (ap (λ (r : Run). r.system.entries) (c.in_err-cut.ensures.err had.places)) refl
+
+pub returns-clause-counted : goal.returns-clause-counted
+returns-clause-counted g c =
+    let had : Memory = g.C.Cores.memory c.args.cores.now in
+    let has : Memory = g.C.Cores.memory c.give_up.new.cores in
+    let old : Run = seen had.places c.args.self.now in
+    counted_none old (taken c.args.e old) (seen has.places c.take_event.new.self) _ _
+    (ap (λ (p : Places). seen p c.take_event.new.self) c.give_up.ensures.left.places ∙ c.in_ok-cut.ensures.ok had.places)
+    (taken_moves c.args.e old c.requires.seat c.requires.held.sound) c.give_up.ensures.calls

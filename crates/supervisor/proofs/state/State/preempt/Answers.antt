@@ -8,6 +8,8 @@ use Rattle.image_map.proofs.Calls.{on_err}
 use Rattle.time_sharing.specs.System.{Preempt}
 use Rattle.system_model.specs.Cases.{served}
 use Rattle.system_model.proofs.JoinedLaws.{served_joined}
+use Rattle.system_model.proofs.SwapLaws.{served_moves}
+use Rattle.supervisor.proofs.Counting.{counted_same, counted_none}
 use Rattle.supervisor.proofs.Doing.{does_apart}
 use Rattle.supervisor.proofs.Serving.{served_users}
 use Rattle.supervisor.proofs.state.State.preempt.Goals as goal
@@ -31,3 +33,14 @@ pub returns-clause-tied : goal.returns-clause-tied
 returns-clause-tied g c =
     let had : Memory = g.C.Cores.memory c.args.cores.now in
     subst (λ (us : List User). IsTied us had) (sym (ap (λ (r : Run). r.system.users) (c.in_ok-end_service.ensures.ok had.places) ∙ served_users Preempt c.args.v (seen had.places c.args.self.now))) c.requires.held.tied
+
+pub returns-in_err-end_service-clause-counted : goal.returns-in_err-end_service-clause-counted
+returns-in_err-end_service-clause-counted g c =
+    let had : Memory = g.C.Cores.memory c.args.cores.now in
+    counted_same _ _ _ _ (ap (λ (r : Run). r.system.entries) (c.in_err-end_service.ensures.err had.places)) refl
+
+pub returns-clause-counted : goal.returns-clause-counted
+returns-clause-counted g c =
+    let had : Memory = g.C.Cores.memory c.args.cores.now in
+    let old : Run = seen had.places c.args.self.now in
+    counted_none old (served Preempt c.args.v old) (seen had.places c.end_service.new.self) _ _ (c.in_ok-end_service.ensures.ok had.places) (served_moves Preempt c.args.v old) refl

@@ -6,6 +6,8 @@ use Rattle.supervisor.specs.Seen.{seen}
 use Rattle.supervisor.specs.Steps.{IsTied}
 use Rattle.system_model.specs.Cases.{idled}
 use Rattle.system_model.proofs.JoinedLaws.{idled_joined}
+use Rattle.system_model.proofs.SwapLaws.{idled_moves}
+use Rattle.supervisor.proofs.Counting.{counted_none}
 use Rattle.supervisor.proofs.Doing.{does_apart}
 use Rattle.supervisor.proofs.Tied.{tied_same}
 use Rattle.supervisor.proofs.Serving.{idled_users}
@@ -21,3 +23,9 @@ pub returns-clause-tied : goal.returns-clause-tied
 returns-clause-tied g c =
     let had : Memory = g.C.Cores.memory c.args.cores.now in
     subst (λ (us : List User). IsTied us had) (sym (ap (λ (r : Run). r.system.users) (c.idle.ensures had.places) ∙ idled_users c.args.limit (seen had.places c.args.self.now))) c.requires.held.tied
+
+pub returns-clause-counted : goal.returns-clause-counted
+returns-clause-counted g c =
+    let had : Memory = g.C.Cores.memory c.args.cores.now in
+    let old : Run = seen had.places c.args.self.now in
+    counted_none old (idled c.args.limit old) (seen had.places c.idle.new.self) _ _ (c.idle.ensures had.places) (idled_moves c.args.limit old) refl

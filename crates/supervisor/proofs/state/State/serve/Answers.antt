@@ -12,10 +12,12 @@ use Rattle.system_model.specs.Run.{Run}
 use Rattle.system_model.specs.Cases.{user_at, with_user, waited}
 use Rattle.system_model.specs.Joined.{counted, at_places, stepped_to}
 use Rattle.system_model.proofs.JoinedLaws.{stepped_is}
+use Rattle.system_model.proofs.SwapLaws.{waited_moves, counted_moves}
 use Rattle.user_session.specs.Turns.{IsTurn}
 use Rattle.user_cores.specs.Memory.{Memory}
 use Rattle.supervisor.specs.Seen.{seen}
 use Rattle.supervisor.specs.Steps.{IsTied, IsResized, settled}
+use Rattle.supervisor.proofs.Counting.{counted_none}
 use Rattle.supervisor.proofs.Doing.{does_waited, does_stepped, either}
 use Rattle.supervisor.proofs.Tied.{tied_same, tied_with}
 use Rattle.supervisor.proofs.Serving.{went_size, settled_is, resized_from, resized_none, waited_users, counted_users, with_users}
@@ -126,3 +128,25 @@ returns-in-Done-clause-tied g c =
     subst (λ (us : List User). IsTied us has) (sym are)
     (tied_with users u u p had has c.requires.user.some c.requires.user.within resized (inl refl)
     (ap (λ (a : _). a.blocks) c.turn.ensures.account ∙ ap (λ (q : User). q.inner.account.blocks) (sym same)) c.requires.held.tied)
+
+pub returns-in-Waits-clause-counted : goal.returns-in-Waits-clause-counted
+returns-in-Waits-clause-counted g c =
+    let had : Memory = g.C.Cores.memory c.args.cores.now in
+    let old : Run = seen had.places c.args.self.now in
+    let users : List User = set c.args.self.now.sessions.items (c.args.v.user - 1) c.turn.new.session in
+    let mid : Run = with_users old users old.system.entries in
+    counted_none old (waited c.args.v mid) (seen had.places c.count_wait.new.self) _ _
+    (c.count_wait.ensures had.places ∙ (λ j. waited c.args.v (with_users old users (c.reserve.ensures.items j))))
+    (waited_moves c.args.v mid) c.turn.ensures.calls
+
+pub returns-in-Done-clause-counted : goal.returns-in-Done-clause-counted
+returns-in-Done-clause-counted g c =
+    let had : Memory = g.C.Cores.memory c.args.cores.now in
+    let old : Run = seen had.places c.args.self.now in
+    let users : List User = set c.args.self.now.sessions.items (c.args.v.user - 1) c.turn.new.session in
+    let mid : Run = with_users old users old.system.entries in
+    let t : Ending = c.in-Done.step.ending in
+    let asked : Bool = c.in-Done.step.clock in
+    counted_none old (counted c.args.v t asked mid) (seen had.places c.count_step.new.self) _ _
+    (c.count_step.ensures had.places ∙ (λ j. counted c.args.v t asked (with_users old users (c.reserve.ensures.items j))))
+    (counted_moves c.args.v t asked mid) (c.settle.ensures.calls ∙ c.turn.ensures.calls)

@@ -22,5 +22,5 @@ returns-in-None-clause-ended g c =
     let quiet = sym c.due.ensures ∙ c.in-None.is in
     ends_map c.go_on.result _ _ _ _ _ _
     (does_none c.args.limit old (seen has.places c.go_on.new.self) had has quiet) (λ h. h)
-    (λ f. (f.0, f.1, record { quiet = quiet; due = f.2 }))
+    (λ f. (f.0, f.1, record { next = record { quiet = quiet; due = f.2.due }; cut = f.2.cut }))
     c.go_on.ensures.ended

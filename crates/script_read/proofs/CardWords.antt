@@ -1,10 +1,15 @@
 -- The words of a card, one after another.
 use Rattle.std.proofs.Common.{◌≡◌, ℕ, zero, suc, ◌-◌, ◌≢◌, true, false, List, [], ◌∷◌, ◌++◌, Option, Some, None, refl, sym, ap, ◌∙◌, arith, append_assoc}
 use Rattle.std.proofs.lemmas.List.{append-nil}
-use Rattle.std.specs.Prelude.{if◌then◌else◌}
+use Rattle.std.specs.Prelude.{if◌then◌else◌, Ok, Err}
+use Rattle.std.specs.declared.result.Result.{Result}
 use Rattle.std.specs.Option.{option_map}
 use Rattle.ctss_types.specs.Words.{word_in, behind_word}
-use Rattle.text_model.specs.Reading.{is_over, octal_in, words_in}
+use Rattle.text_model.specs.Fields.{is_over, octal_in}
+use Rattle.text_model.specs.declared.cause.ScriptCause.{ScriptCause}
+use Rattle.text_model.specs.declared.cause.ScriptCause.TheVariants.{NotACard}
+use Rattle.text_model.specs.Cards.{words_in}
+use Rattle.text_model.specs.Drafts.{by_form}
 
 -- words, if there are, behind others
 abbrev pub behind : List ℕ → Option (List ℕ) → Option (List ℕ)
@@ -45,3 +50,15 @@ pub card_refused : (start words text rest : List ℕ) (most left : ℕ) → behi
     → left ≢ 0 → is_over rest ≡ false → octal_in (word_in rest) ≡ None → behind start (card_of most text) ≡ None
 card_refused start words text rest most left read some room over is =
     rw some (sym read ∙ ap (behind words) (no_word left rest room over is))
+
+-- words behind others, as the answer to a card
+abbrev pub answered : List ℕ → Option (List ℕ) → Result (List ℕ) ScriptCause
+answered start said = by_form (λ ws. Ok (start ++ ws)) said
+
+pub answered_some : (start words : List ℕ) (said : Option (List ℕ)) → behind start said ≡ Some words → answered start said ≡ Ok words
+answered_some start words None h = cc
+answered_some start words (Some ws) h = let same : start ++ ws ≡ words = cc in ap Ok same
+
+pub answered_none : (start : List ℕ) (said : Option (List ℕ)) → behind start said ≡ None → answered start said ≡ Err NotACard
+answered_none start None h = refl
+answered_none start (Some ws) h = cc

@@ -1,4 +1,5 @@
 pub mod CardWords
-pub mod Digits
 pub mod FirstLine
 pub mod Tracks
+pub mod Trimmed
+pub mod LineWords

@@ -1,134 +1,127 @@
-ghost use Rattle.std.specs.Prelude.{◌≡◌, ◌≤◌, IfSome};
-ghost use Rattle.text_model.specs.Reading.{params_of, account_of, file_of, event_of, timed_of, end_of};
+ghost use Rattle.std.specs.Prelude.{◌≡◌};
+ghost use Rattle.text_model.specs.Cards.{param_card_in, user_card_in, file_card_in, line_event, event_in, event_card_in, end_card_in};
 
-use crate::field::{is_over, name_first, number_first, typed};
-use ctss_types::{
-    Account, ConsoleNo, Event, FileBody, FileName, OwnedFile, Params, Sequence, Timed, UserNo,
-    first_word,
-};
-use std::alloc::Global;
+use crate::field::{first_name, first_number, is_over, text_behind};
+use ctss_types::{Event, FileName, first_word};
+use text_model::{CardEvent, CardText, EventCard, FileCard, ParamCard, UserCard};
 
-/// The highest tick.
-const MAX_TICK: u32 = 100_000_000;
-
-/// What the PARAM card says.
-pub fn params(text: &[u8]) -> Option<Params>
-    ensures { result ≡ params_of text.now }
+/// What a PARAM card says.
+pub fn param_card(text: &[u8]) -> Option<ParamCard>
+    ensures { result ≡ param_card_in text.now }
 {
-    let (wq, text) = number_first(1, 32_768, text)?;
-    let (quantum, text) = number_first(1, 1_000_000, text)?;
-    let (swap, text) = number_first(0, 1_000_000, text)?;
-    let (drum, text) = number_first(0, 3840, text)?;
-    let (disk, text) = number_first(0, 10_000, text)?;
-    let (common, text) = number_first(0, 10_000, text)?;
+    let (wq, text) = first_number(text)?;
+    let (quantum, text) = first_number(text)?;
+    let (swap, text) = first_number(text)?;
+    let (drum, text) = first_number(text)?;
+    let (disk, text) = first_number(text)?;
+    let (common, text) = first_number(text)?;
     if !is_over(text) {
         return None;
     }
-    Some(Params {
+    Some(ParamCard {
         wq,
-        quantum: u64::from(quantum),
-        swap: u64::from(swap),
-        drum: drum as u16,
-        disk: disk as u16,
-        common: common as u16,
+        quantum,
+        swap,
+        drum,
+        disk,
+        common,
     })
 }
 
 /// What a USER card says.
-pub fn account(text: &[u8]) -> Option<(u8, Account)>
-    ensures value { result ≡ account_of text.now }
-    ensures range { IfSome result (λ p. (1 ≤ p.0) × (p.0 ≤ 30)) }
+pub fn user_card(text: &[u8]) -> Option<UserCard>
+    ensures { result ≡ user_card_in text.now }
 {
-    let (number, text) = number_first(1, 30, text)?;
-    let Some((name, text)) = name_first(text) else {
+    let (number, text) = first_number(text)?;
+    let Some((name, text)) = first_name(text) else {
         return None;
     };
-    let Some((password, text)) = name_first(text) else {
+    let Some((password, text)) = first_name(text) else {
         return None;
     };
-    let (blocks, text) = number_first(1, 128, text)?;
-    let (tracks, text) = number_first(0, 10_000, text)?;
+    let (blocks, text) = first_number(text)?;
+    let (tracks, text) = first_number(text)?;
     if !is_over(text) {
         return None;
     }
-    let account = Account {
+    Some(UserCard {
+        number,
         name,
         password,
-        blocks: blocks as u8,
-        tracks: tracks as u16,
-    };
-    Some((number as u8, account))
+        blocks,
+        tracks,
+    })
 }
 
-/// What a FILE card says: a file of no words.
-pub fn file(alloc: Global, text: &[u8]) -> Option<OwnedFile>
-    ensures { result ≡ file_of text.now }
+/// What a FILE card says.
+pub fn file_card(text: &[u8]) -> Option<FileCard>
+    ensures { result ≡ file_card_in text.now }
 {
-    let (owner, text) = number_first(1, 30, text)?;
-    let Some((first, text)) = name_first(text) else {
+    let (owner, text) = first_number(text)?;
+    let Some((first, text)) = first_name(text) else {
         return None;
     };
-    let Some((second, text)) = name_first(text) else {
+    let Some((second, text)) = first_name(text) else {
         return None;
     };
-    let (mode, text) = number_first(0, 3, text)?;
+    let (mode, text) = first_number(text)?;
     if !is_over(text) {
         return None;
     }
-    let owner = UserNo::new(owner as u8)?;
-    let body = FileBody {
-        name: FileName::new(first, second),
-        mode: mode as u8,
-        words: Sequence::new(alloc),
-    };
-    Some(OwnedFile { owner, body })
+    let name = FileName::new(first, second);
+    Some(FileCard { owner, name, mode })
+}
+
+/// The event of a line that is typed.
+fn line_event(text: CardText) -> CardEvent
+    ensures { result ≡ line_event text }
+{
+    match text {
+        CardText::Fits(line) => CardEvent::Fits(Event::Line(line)),
+        CardText::TooLong => CardEvent::TooLong,
+    }
 }
 
 /// The event of a word and what stands behind it.
-fn event(word: &[u8], text: &[u8]) -> Option<Event>
-    ensures { result ≡ event_of word.now text.now }
+fn event(word: &[u8], text: &[u8]) -> Option<CardEvent>
+    ensures { result ≡ event_in word.now text.now }
 {
     if word == b"LINE".as_slice() {
-        return Some(Event::Line(typed(text)?));
+        return Some(line_event(text_behind(text)?));
     }
     if !is_over(text) {
         return None;
     }
     if word == b"DIAL".as_slice() {
-        Some(Event::Dial)
+        Some(CardEvent::Fits(Event::Dial))
     } else if word == b"QUIT".as_slice() {
-        Some(Event::Quit)
+        Some(CardEvent::Fits(Event::Quit))
     } else if word == b"HANG".as_slice() {
-        Some(Event::Hang)
+        Some(CardEvent::Fits(Event::Hang))
     } else {
         None
     }
 }
 
 /// What an AT card says.
-pub fn timed(text: &[u8]) -> Option<Timed>
-    ensures { result ≡ timed_of text.now }
+pub fn event_card(text: &[u8]) -> Option<EventCard>
+    ensures { result ≡ event_card_in text.now }
 {
-    let (tick, text) = number_first(0, MAX_TICK, text)?;
-    let (console, text) = number_first(1, 32, text)?;
+    let (tick, text) = first_number(text)?;
+    let (console, text) = first_number(text)?;
     let (word, text) = first_word(text);
     let event = event(word, text)?;
-    let console = ConsoleNo::new(console as u8)?;
-    Some(Timed {
-        tick: u64::from(tick),
+    Some(EventCard {
+        tick,
         console,
         event,
     })
 }
 
 /// What the END card says.
-pub fn end(text: &[u8]) -> Option<u64>
-    ensures { result ≡ end_of text.now }
+pub fn end_card(text: &[u8]) -> Option<u32>
+    ensures { result ≡ end_card_in text.now }
 {
-    let (tick, text) = number_first(0, MAX_TICK, text)?;
-    if is_over(text) {
-        Some(u64::from(tick))
-    } else {
-        None
-    }
+    let (tick, text) = first_number(text)?;
+    if is_over(text) { Some(tick) } else { None }
 }

@@ -2,6 +2,7 @@ ghost use Rattle.std.specs.Prelude.{◌≡◌};
 ghost use Rattle.script_read.specs.Others.{others_of};
 
 use ctss_types::{AccountList, NoMemory, OwnedFile, OwnedFiles, Params, TimedList};
+use text_model::ScriptCause;
 
 /// What the cards so far say, with the sums of the quotas and the tick of the last event.
 ///
@@ -24,7 +25,7 @@ pub struct Draft {
 /// Why a card isn't taken.
 #[derive(Drop)]
 pub enum CardFault {
-    Refused,
+    Refused(ScriptCause),
     NoMemory,
 }
 

@@ -1,12 +1,13 @@
 use ctss_types::NoMemory;
 use std::alloc::AllocError;
+use text_model::ScriptRefusal;
 use thiserror::Error;
 
-/// Why bytes give no script. Card 0 stands for the whole text, and cause 9 for a text that isn't canonical.
+/// Why bytes give no script.
 #[derive(Clone, Copy, Debug, PartialEq, Eq, Error)]
 pub enum ScriptFault {
-    #[error("card {card} has cause {cause}")]
-    Refused { card: u32, cause: u8 },
+    #[error("the script is refused")]
+    Refused(ScriptRefusal),
     #[error("out of memory")]
     NoMemory,
 }

@@ -2,9 +2,10 @@ ghost use Rattle.std.specs.Prelude.{◌≡◌, ◌+◌, None, Some, nat_le, if�
 ghost use Rattle.std.specs.List.{list_any};
 ghost use Rattle.file_model.specs.Files.{tracks_of, tracks_of_words};
 ghost use Rattle.file_model.specs.Owned.{files_of};
-ghost use Rattle.text_model.specs.Reading.{is_same_file, quota_of};
+ghost use Rattle.text_model.specs.Drafts.{is_same_file, empty_file, quota_of};
 
 use ctss_types::{Account, OwnedFile, UserNo};
+use text_model::FileCard;
 
 /// The words of a track.
 const TRACK: usize = 432;
@@ -51,8 +52,9 @@ pub fn quota(accounts: &[Account], user: UserNo) -> u16
 }
 
 /// Whether these have a file of the same owner and names.
-pub fn has_file(files: &[OwnedFile], file: &OwnedFile) -> bool
-    ensures { result ≡ list_any (is_same_file file.now) files.now }
+pub fn has_file(files: &[OwnedFile], card: &FileCard) -> bool
+    ensures { result ≡ list_any (is_same_file (empty_file card.now)) files.now }
 {
-    files.iter().any(|other| file.owner == other.owner && file.body.name == other.body.name)
+    files.iter().any(|other| card.owner == u32::from(other.owner.number())
+        && card.name == other.body.name)
 }

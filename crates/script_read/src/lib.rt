@@ -1,4 +1,4 @@
-//! Scripts: read from the bytes of their one canonical text, and written as it.
+//! Scripts: read from bytes, as people write them, and written as their one canonical text.
 #![tactic(auto)]
 
 mod card;

@@ -1,21 +1,20 @@
-ghost use Rattle.std.specs.Prelude.{◌≡◌, ◌∷◌, ◌<◌, ◌≤◌, ◌==◌, IfOk, Some, length, not};
+ghost use Rattle.std.specs.Prelude.{◌≡◌, ◌∷◌, ◌<◌, ◌≤◌, ◌==◌, length, not};
 ghost use Rattle.std.specs.List.{prefix_len};
 ghost use Rattle.std.specs.Str.Lines.{lines, strip_carriage_return};
-ghost use Rattle.text_model.specs.Reading.{drafted, empty_draft, script_in, script_of};
-ghost use Rattle.script_read.specs.Answers.{IsDraftOf, IsScriptOf, IsRefusalOf};
+ghost use Rattle.text_model.specs.Drafts.{empty_draft};
+ghost use Rattle.text_model.specs.Reading.{script_by, script_from, script_of};
+ghost use Rattle.script_read.specs.Answers.{Reads};
+ghost use Rattle.script_read.specs.Drafts.{draft_of};
 
 use crate::ScriptFault;
 use crate::draft::{CardFault, Draft};
-use crate::enter::{empty_draft, enter, script_by};
-use crate::text::script_text;
+use crate::enter::{close_file, empty_draft, enter};
 use ctss_types::Script;
 use std::alloc::Global;
+use text_model::{ScriptCause, ScriptRefusal};
 
 /// The most bytes of a script.
 const MOST_BYTES: usize = 4_194_304;
-
-/// The refusal of a text.
-const REFUSED: ScriptFault = ScriptFault::Refused { card: 0, cause: 9 };
 
 /// The number of bytes up to a newline.
 fn line_len(text: &[u8]) -> usize
@@ -51,53 +50,70 @@ fn first_line(text: &[u8]) -> (&[u8], &[u8])
     }
 }
 
-/// What the cards of a text say.
-fn read_cards(alloc: Global, bytes: &[u8]) -> Result<Draft, CardFault>
-    ensures { IsDraftOf result (drafted empty_draft (lines bytes.now)) }
+/// The script of whole cards, or the refusal for the END that is missing behind them.
+fn script_by(mut draft: Draft, card: u32) -> Result<Script, ScriptFault>
+    ensures { Reads result (script_by draft.params draft.end card (draft_of draft)) }
+{
+    close_file(&mut draft)?;
+    let Draft {
+        params,
+        accounts,
+        files,
+        events,
+        end,
+        ..
+    } = draft;
+    match (params, end) {
+        (Some(params), Some(end)) => Ok(Script {
+            params,
+            accounts,
+            files,
+            events,
+            end,
+        }),
+        _ => Err(ScriptFault::Refused(ScriptRefusal {
+            card,
+            cause: ScriptCause::NoEnd,
+        })),
+    }
+}
+
+/// The script that the cards of a text make.
+fn script_from(alloc: Global, bytes: &[u8]) -> Result<Script, ScriptFault>
+    requires { length bytes.now ≤ 4194304 }
+    ensures { Reads result (script_from 1 empty_draft (lines bytes.now)) }
 {
     let mut draft = empty_draft(alloc);
     let mut rest = bytes;
+    let mut number = 1;
     'cards: while !rest.is_empty() {
         let (card, more) = first_line(rest);
         match enter(alloc, &mut draft, card) {
             Ok(()) => {}
-            Err(fault) => return Err(fault),
+            Err(CardFault::Refused(cause)) => {
+                return Err(ScriptFault::Refused(ScriptRefusal {
+                    card: number,
+                    cause,
+                }));
+            }
+            Err(CardFault::NoMemory) => return Err(ScriptFault::NoMemory),
         }
         rest = more;
+        number += 1;
     }
-    Ok(draft)
+    script_by(draft, number)
 }
 
-/// The script that the cards of a text make.
-#[tactic(auto, unfolding(text_model::specs::Reading::script_in))]
-fn script_in(alloc: Global, bytes: &[u8]) -> Result<Script, CardFault>
-    ensures { IsScriptOf result (script_in bytes.now) }
-{
-    match read_cards(alloc, bytes) {
-        Ok(draft) => script_by(draft),
-        Err(fault) => Err(fault),
-    }
-}
-
-/// The script of bytes that are its canonical text.
+/// The script of bytes, or the first card at fault with its cause.
 #[tactic(auto, unfolding(text_model::specs::Reading::script_of))]
 pub fn read_script(alloc: Global, bytes: &[u8]) -> Result<Script, ScriptFault>
-    ensures ok { IfOk result (λ script. script_of bytes.now ≡ Some script) }
-    ensures refused { IsRefusalOf result (script_of bytes.now) }
+    ensures { Reads result (script_of bytes.now) }
 {
     if bytes.len() > MOST_BYTES {
-        return Err(REFUSED);
+        return Err(ScriptFault::Refused(ScriptRefusal {
+            card: 0,
+            cause: ScriptCause::TooLong,
+        }));
     }
-    match script_in(alloc, bytes) {
-        Ok(script) => {
-            let text = script_text(alloc, &script)?;
-            if text.as_slice() == bytes {
-                Ok(script)
-            } else {
-                Err(REFUSED)
-            }
-        }
-        Err(CardFault::Refused) => Err(REFUSED),
-        Err(CardFault::NoMemory) => Err(ScriptFault::NoMemory),
-    }
+    script_from(alloc, bytes)
 }

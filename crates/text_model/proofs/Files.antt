@@ -12,7 +12,8 @@ use Rattle.ctss_types.specs.declared.file.OwnedFile.{OwnedFile}
 use Rattle.file_model.specs.Files.{same_name, tracks_of}
 use Rattle.file_model.specs.Owned.{files_of}
 use Rattle.file_model.proofs.Owned.{tracks_of_both, files_of_own, with_one_more, without_last}
-use Rattle.text_model.specs.Reading.{quota_of, is_same_file, longer, names_differ}
+use Rattle.text_model.specs.Drafts.{quota_of, is_same_file, longer}
+use Rattle.text_model.specs.Reading.{names_differ}
 
 abbrev pub HasOwner : List Account → OwnedFile → Type 0
 HasOwner accounts f = (1 ≤ f.owner) × (f.owner ≤ length accounts)

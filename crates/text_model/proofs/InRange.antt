@@ -1,124 +1,54 @@
 -- Every script that is read has its numbers in range.
-use Rattle.std.proofs.Common.{◌≡◌, ℕ, ◌+◌, ◌≤◌, Bool, true, false, not, cond, ◌&&◌, nat_eq, nat_le, List, [], ◌∷◌, ◌++◌, length, Option, Some, None, codes, refl, sym, ap, subst, ◌∙◌, arith}
+use Rattle.std.proofs.Common.{◌≡◌, ℕ, ◌+◌, ◌≤◌, true, not, ◌&&◌, nat_eq, nat_le, nat_lt, List, [], ◌∷◌, ◌++◌, length, Option, Some, None, Ok, refl, sym, ap, subst, ◌∙◌, arith}
 use Rattle.std.specs.List.{All, list_any}
+use Rattle.std.specs.Option.{is_some}
+use Rattle.std.specs.Prelude.{option_to_list}
 use Rattle.std.proofs.lemmas.Bool.{eqb-true, not-true}
 use Rattle.std.proofs.lemmas.List.{length_push, nil_from_length}
 use Rattle.std.proofs.lemmas.List.Elements.{All-nil, All-push}
 use Rattle.std.proofs.lemmas.List.Sums.{sum-map, sum_by_push}
-use Rattle.std.specs.Prelude.{bytes_eq, option_to_list}
-use Rattle.std.specs.Option.{option_map, option_and_then}
-use Rattle.std.specs.Str.Lines.{lines}
-use Rattle.std.proofs.lemmas.Option.{option_and_then_some}
-use Rattle.std.proofs.lemmas.Bool.Decides.{nat_tests}
-use Rattle.ctss_types.specs.Words.{word_in, behind_word}
-use Rattle.ctss_types.specs.declared.script.Script.{Script}
 use Rattle.ctss_types.specs.declared.script.Params.{Params}
 use Rattle.ctss_types.specs.declared.script.Account.{Account}
 use Rattle.ctss_types.specs.declared.script.Timed.{Timed}
-use Rattle.ctss_types.specs.declared.script.Event.{Event}
 use Rattle.ctss_types.specs.declared.file.OwnedFile.{OwnedFile}
 use Rattle.file_model.specs.Files.{tracks_of}
 use Rattle.file_model.specs.Owned.{files_of}
-use Rattle.text_model.specs.Reading.{within, number_in, number_first, name_first, params_of, account_of, file_of, words_of_card, event_of, timed_of, max_tick, end_of, Draft, empty_draft, with_params, all_files, with_account, quota_of, with_last, is_same_file, with_file, longer, with_words_of, with_words, with_event, with_end, entered_by, entered, drafted, script_by, script_in, script_of, if_canonical, max_bytes, blocks_of, IsInRange, ScriptsAreInRange}
-use Rattle.text_model.proofs.Files.{HasMode, FilesFit, none_fit, new_file_fits, longer_file_fits}
+use Rattle.program_model.specs.Lines.{words_of_line}
+use Rattle.text_model.specs.declared.cause.ScriptCause.TheVariants.{NotACard, TimeFalls, UnknownNumber, OverLimit, DrumSmall, DiskSmall}
+use Rattle.text_model.specs.declared.card.ParamCard.{ParamCard}
+use Rattle.text_model.specs.declared.card.UserCard.{UserCard}
+use Rattle.text_model.specs.declared.card.FileCard.{FileCard}
+use Rattle.text_model.specs.declared.card.CardText.{CardText}
+use Rattle.text_model.specs.declared.card.CardText.TheVariants as card_text
+use Rattle.text_model.specs.declared.card.CardEvent.{CardEvent}
+use Rattle.text_model.specs.declared.card.CardEvent.TheVariants as card_event
+use Rattle.text_model.specs.Fields.{is_within}
+use Rattle.text_model.specs.Drafts.{Draft, empty_draft, all_files, max_tick, are_params_in_limits, with_params, is_new_account, is_account_in_limits, with_account, quota_of, with_last, empty_file, is_same_file, is_new_file, is_file_in_limits, with_file, longer, with_words_of, with_words, with_text, with_event_at, with_end}
+use Rattle.text_model.specs.Reading.{blocks_of, IsInRange, ScriptsAreInRange}
+use Rattle.text_model.proofs.Files.{FilesFit, none_fit, new_file_fits, longer_file_fits}
+use Rattle.text_model.proofs.Drafted.{both, at_most, within, passed, escaped, allowed, never, not_below, given, IsKept, read}
 
--- a test that gave an answer was true, and the answer is the one behind it
-if_some : {A : Type 0} (b : Bool) (x y : A) → cond b (Some x) None ≡ Some y → (b ≡ true) × (x ≡ y)
-if_some true x y h = (refl, cc)
-if_some false x y h = cc
-
-if_then : {A : Type 0} (b : Bool) (o : Option A) (y : A) → cond b o None ≡ Some y → (b ≡ true) × (o ≡ Some y)
-if_then true o y h = (refl, h)
-if_then false o y h = cc
-
-both : (a b : Bool) → (a && b) ≡ true → (a ≡ true) × (b ≡ true)
-both true b h = (refl, h)
-both false b h = cc
-
-at_least : (a b : ℕ) → nat_le a b ≡ true → a ≤ b
-at_least a b h = grind (arith, nat_tests)
-
-within_some : (low high n m : ℕ) → within low high n ≡ Some m → (low ≤ m) × (m ≤ high)
-within_some low high n m h =
-    let t = if_some (nat_le low n && nat_le n high) n m h in
-    let u = both (nat_le low n) (nat_le n high) t.0 in
-    (subst (λ (k : ℕ). low ≤ k) t.1 (at_least low n u.0), subst (λ (k : ℕ). k ≤ high) t.1 (at_least n high u.1))
-
-by_form : (b : Bool) (low high n m : ℕ) → cond b (within low high n) None ≡ Some m → (low ≤ m) × (m ≤ high)
-by_form true low high n m h = within_some low high n m h
-by_form false low high n m h = cc
-
-number_in_some : (low high : ℕ) (field : List ℕ) (m : ℕ) → number_in low high field ≡ Some m → (low ≤ m) × (m ≤ high)
-number_in_some low high field m h = by_form _ low high _ m h
-
-by_number : (o : Option ℕ) (rest : List ℕ) (p : ℕ × List ℕ) → option_map (λ (n : ℕ). (n, rest)) o ≡ Some p → o ≡ Some p.0
-by_number None rest p h = cc
-by_number (Some n) rest p h = let e : (n, rest) ≡ p = cc in ap (λ (q : ℕ × List ℕ). Some q.0) e
-
-number_first_some : (low high : ℕ) (text : List ℕ) (p : ℕ × List ℕ) → number_first low high text ≡ Some p → (low ≤ p.0) × (p.0 ≤ high)
-number_first_some low high text p h = number_in_some low high (word_in text) p.0 (by_number (number_in low high (word_in text)) (behind_word text) p h)
-
+-- params in range
 abbrev ParamsFit : Params → Type 0
 ParamsFit p = (1 ≤ p.wq) × (p.quantum ≤ 1000000) × (p.swap ≤ 1000000) × (p.drum ≤ 3840)
 
-params_fit : (text : List ℕ) (p : Params) → params_of text ≡ Some p → ParamsFit p
-params_fit text p h =
-    option_and_then_some _ (number_first 1 32768 text) p h (λ a ea ha.
-    option_and_then_some _ (number_first 1 1000000 a.1) p ha (λ b eb hb.
-    option_and_then_some _ (number_first 0 1000000 b.1) p hb (λ c ec hc.
-    option_and_then_some _ (number_first 0 3840 c.1) p hc (λ d ed hd.
-    option_and_then_some _ (number_first 0 10000 d.1) p hd (λ e ee he.
-    option_and_then_some _ (number_first 0 10000 e.1) p he (λ f ef hf.
-    let same = (if_some _ _ p hf).1 in (
-      subst (λ (q : Params). 1 ≤ q.wq) same (number_first_some 1 32768 text a ea).0,
-      subst (λ (q : Params). q.quantum ≤ 1000000) same (number_first_some 1 1000000 a.1 b eb).1,
-      subst (λ (q : Params). q.swap ≤ 1000000) same (number_first_some 0 1000000 b.1 c ec).1,
-      subst (λ (q : Params). q.drum ≤ 3840) same (number_first_some 0 3840 c.1 d ed).1,
-    )))))))
-
+-- an account in range
 abbrev HasBlocks : Account → Type 0
 HasBlocks a = a.blocks ≤ 128
 
-account_fits : (text : List ℕ) (p : ℕ × Account) → account_of text ≡ Some p → (p.0 ≤ 30) × HasBlocks p.1
-account_fits text p h =
-    option_and_then_some _ (number_first 1 30 text) p h (λ a ea ha.
-    option_and_then_some _ (name_first a.1) p ha (λ b eb hb.
-    option_and_then_some _ (name_first b.1) p hb (λ c ec hc.
-    option_and_then_some _ (number_first 1 128 c.1) p hc (λ d ed hd.
-    option_and_then_some _ (number_first 0 10000 d.1) p hd (λ e ee he.
-    let same = (if_some _ _ p he).1 in (
-      subst (λ (q : ℕ × Account). q.0 ≤ 30) same (number_first_some 1 30 text a ea).1,
-      subst (λ (q : ℕ × Account). q.1.blocks ≤ 128) same (number_first_some 1 128 c.1 d ed).1,
-    ))))))
-
-file_fits : (text : List ℕ) (f : OwnedFile) → file_of text ≡ Some f → (1 ≤ f.owner) × HasMode f
-file_fits text f h =
-    option_and_then_some _ (number_first 1 30 text) f h (λ a ea ha.
-    option_and_then_some _ (name_first a.1) f ha (λ b eb hb.
-    option_and_then_some _ (name_first b.1) f hb (λ c ec hc.
-    option_and_then_some _ (number_first 0 3 c.1) f hc (λ d ed hd.
-    let same = (if_some _ _ f hd).1 in (
-      subst (λ (q : OwnedFile). 1 ≤ q.owner) same (number_first_some 1 30 text a ea).0,
-      subst HasMode same (number_first_some 0 3 c.1 d ed).1,
-    )))))
-
+-- an event in range
 abbrev HasConsole : Timed → Type 0
 HasConsole e = (1 ≤ e.console) × (e.console ≤ 32)
 
-by_event : (o : Option Event) (tick console : ℕ) (e : Timed) → option_map (λ (x : Event). let timed : Timed = record { tick = tick; console = console; event = x } in timed) o ≡ Some e → console ≡ e.console
-by_event None tick console e h = cc
-by_event (Some x) tick console e h = let made : Timed = record { tick = tick; console = console; event = x } in let same : made ≡ e = cc in ap (λ (t : Timed). t.console) same
-
-timed_fits : (text : List ℕ) (e : Timed) → timed_of text ≡ Some e → HasConsole e
-timed_fits text e h =
-    option_and_then_some _ (number_first 0 max_tick text) e h (λ a ea ha.
-    option_and_then_some _ (number_first 1 32 a.1) e ha (λ b eb hb.
-    subst (λ (c : ℕ). (1 ≤ c) × (c ≤ 32)) (by_event (event_of (word_in b.1) (behind_word b.1)) a.0 b.0 e hb) (number_first_some 1 32 a.1 b eb)))
-
-end_fits : (text : List ℕ) (tick : ℕ) → end_of text ≡ Some tick → tick ≤ max_tick
-end_fits text tick h =
-    option_and_then_some _ (number_first 0 max_tick text) tick h (λ a ea ha.
-    subst (λ (t : ℕ). t ≤ max_tick) (if_some _ _ tick ha).1 (number_first_some 0 max_tick text a ea).1)
+-- the limits of PARAM
+params_fit : (c : ParamCard) → are_params_in_limits c ≡ true → (1 ≤ c.wq) × (c.quantum ≤ 1000000) × (c.swap ≤ 1000000) × (c.drum ≤ 3840)
+params_fit c h =
+    let five = both (is_within 1 32768 c.wq && is_within 1 1000000 c.quantum && nat_le c.swap 1000000 && nat_le c.drum 3840 && nat_le c.disk 10000) (nat_le c.common 10000) h in
+    let four = both (is_within 1 32768 c.wq && is_within 1 1000000 c.quantum && nat_le c.swap 1000000 && nat_le c.drum 3840) (nat_le c.disk 10000) five.0 in
+    let three = both (is_within 1 32768 c.wq && is_within 1 1000000 c.quantum && nat_le c.swap 1000000) (nat_le c.drum 3840) four.0 in
+    let two = both (is_within 1 32768 c.wq && is_within 1 1000000 c.quantum) (nat_le c.swap 1000000) three.0 in
+    let one = both (is_within 1 32768 c.wq) (is_within 1 1000000 c.quantum) two.0 in
+    ((within 1 32768 c.wq one.0).0, (within 1 1000000 c.quantum one.1).1, at_most c.swap 1000000 two.1, at_most c.drum 3840 three.1)
 
 -- what the cards so far keep; `added` says that a draft's blocks are the sum of its accounts'
 record Fits (d : Draft) : Type 0 where
@@ -132,6 +62,7 @@ record Fits (d : Draft) : Type 0 where
   seats : All HasConsole d.events
   ticks : (tick : ℕ) → d.end ≡ Some tick → tick ≤ max_tick
 
+-- the empty draft keeps it
 empty_fits : Fits empty_draft
 empty_fits =
     record {
@@ -146,13 +77,17 @@ empty_fits =
       ticks = λ t h. cc;
     }
 
-with_params_fits : (d e : Draft) (p : Params) → d.params ≡ None → Fits d → ParamsFit p → with_params d p ≡ Some e → Fits e
-with_params_fits d e p none fits ok h =
-    let same = (if_some (nat_le p.common p.disk) (record d { params = Some p }) e h).1 in
+-- PARAM keeps it
+with_params_fits : (d e : Draft) (c : ParamCard) → d.params ≡ None → Fits d → with_params d c ≡ Ok e → Fits e
+with_params_fits d e c none fits h =
+    let made : Draft = record d { params = Some (record { wq = c.wq; quantum = c.quantum; swap = c.swap; drum = c.drum; disk = c.disk; common = c.common }) } in
+    let first = passed (are_params_in_limits c) OverLimit _ e h in
+    let second = escaped (nat_lt c.disk c.common) DiskSmall (Ok made) e first.1 in
+    let ok : ParamsFit (record { wq = c.wq; quantum = c.quantum; swap = c.swap; drum = c.drum; disk = c.disk; common = c.common }) = params_fit c first.0 in
     let empty : d.blocks ≡ 0 = fits.unset none in
-    subst Fits same
+    subst Fits (given made e second.1)
     (record {
-      params = λ q k. (let s : p ≡ q = cc in subst ParamsFit s ok);
+      params = λ q k. (let s : record { wq = c.wq; quantum = c.quantum; swap = c.swap; drum = c.drum; disk = c.disk; common = c.common } ≡ q = cc in subst ParamsFit s ok);
       few = fits.few;
       blocks = fits.blocks;
       added = fits.added;
@@ -163,34 +98,48 @@ with_params_fits d e p none fits ok h =
       ticks = fits.ticks;
     })
 
-account_tests : (a b c d e f : Bool) → (a && b && c && d && e && f) ≡ true → (b ≡ true) × (c ≡ true) × (e ≡ true)
-account_tests a b c d e f h =
-    let five = both (a && b && c && d && e) f h in
-    let four = both (a && b && c && d) e five.0 in
-    let three = both (a && b && c) d four.0 in
-    let two = both (a && b) c three.0 in
-    ((both a b two.0).1, two.1, four.1)
-
+-- the blocks of one account more
 blocks_more : (accounts : List Account) (a : Account) → blocks_of (accounts ++ a ∷ []) ≡ blocks_of accounts + a.blocks
 blocks_more accounts a =
     let f : Account → ℕ = λ x. x.blocks in
     sum-map f (accounts ++ a ∷ []) ∙ sum_by_push f accounts a ∙ ap (λ (n : ℕ). n + a.blocks) (sym (sum-map f accounts))
 
-with_account_fits : (d e : Draft) (p : Params) (n : ℕ) (a : Account) → d.params ≡ Some p → Fits d → n ≤ 30 → HasBlocks a → with_account d p (n, a) ≡ Some e → Fits e
-with_account_fits d e p n a set fits ok small h =
-    let t = if_some _ _ e h in
-    let tests = account_tests (nat_eq (length d.events) 0) (nat_eq (length (all_files d)) 0) (nat_eq n (length d.accounts + 1)) _ (nat_le (d.blocks + a.blocks) p.drum) _ t.0 in
-    let none : all_files d ≡ [] = nil_from_length (all_files d) (eqb-true (length (all_files d)) 0 tests.0) in
-    let number : n ≡ length d.accounts + 1 = eqb-true n (length d.accounts + 1) tests.1 in
-    let room : d.blocks + a.blocks ≤ p.drum = at_least (d.blocks + a.blocks) p.drum tests.2 in
-    subst Fits t.1
+-- an account stands before files and events
+before_files : (d : Draft) (name : ℕ) → is_new_account d name ≡ true → all_files d ≡ []
+before_files d name h =
+    let two = both (nat_eq (length d.events) 0 && nat_eq (length (all_files d)) 0) (not (list_any (λ (x : Account). nat_eq x.name name) d.accounts)) h in
+    let one = both (nat_eq (length d.events) 0) (nat_eq (length (all_files d)) 0) two.0 in
+    nil_from_length (all_files d) (eqb-true (length (all_files d)) 0 one.1)
+
+-- the limits of USER
+account_fits : (c : UserCard) → is_account_in_limits c ≡ true → (c.number ≤ 30) × (c.blocks ≤ 128)
+account_fits c h =
+    let two = both (is_within 1 30 c.number && is_within 1 128 c.blocks) (nat_le c.tracks 10000) h in
+    let one = both (is_within 1 30 c.number) (is_within 1 128 c.blocks) two.0 in
+    ((within 1 30 c.number one.0).1, (within 1 128 c.blocks one.1).1)
+
+-- USER keeps it
+with_account_fits : (d e : Draft) (p : Params) (c : UserCard) → d.params ≡ Some p → Fits d → with_account d p c ≡ Ok e → Fits e
+with_account_fits d e p c set fits h =
+    let a : Account = record { name = c.name; password = c.password; blocks = c.blocks; tracks = c.tracks } in
+    let made : Draft = record d { accounts = d.accounts ++ a ∷ []; blocks = d.blocks + c.blocks; tracks = d.tracks + c.tracks } in
+    let first = passed (is_new_account d c.name) NotACard _ e h in
+    let second = passed (is_account_in_limits c) OverLimit _ e first.1 in
+    let third = passed (nat_eq c.number (length d.accounts + 1)) UnknownNumber _ e second.1 in
+    let fourth = escaped (nat_lt p.drum (d.blocks + c.blocks)) DrumSmall _ e third.1 in
+    let fifth = escaped (nat_lt p.disk (p.common + d.tracks + c.tracks)) DiskSmall (Ok made) e fourth.1 in
+    let none : all_files d ≡ [] = before_files d c.name first.0 in
+    let ok : (c.number ≤ 30) × (c.blocks ≤ 128) = account_fits c second.0 in
+    let number : c.number ≡ length d.accounts + 1 = eqb-true c.number (length d.accounts + 1) third.0 in
+    let room : d.blocks + c.blocks ≤ p.drum = not_below p.drum (d.blocks + c.blocks) fourth.0 in
+    subst Fits (given made e fifth.1)
     (record {
       params = fits.params;
-      few = omega (arith, length_push d.accounts a, number, ok);
-      blocks = All-push HasBlocks d.accounts a fits.blocks small;
-      added = blocks_more d.accounts a ∙ ap (λ (m : ℕ). m + a.blocks) fits.added;
+      few = omega (arith, length_push d.accounts a, number, ok.0);
+      blocks = All-push HasBlocks d.accounts a fits.blocks ok.1;
+      added = blocks_more d.accounts a ∙ ap (λ (m : ℕ). m + c.blocks) fits.added;
       unset = λ k. absurd (cc (set, k));
-      drum = λ q k. (let s : p ≡ q = cc (set, k) in subst (λ (r : Params). d.blocks + a.blocks ≤ r.drum) s room);
+      drum = λ q k. (let s : p ≡ q = cc (set, k) in subst (λ (r : Params). d.blocks + c.blocks ≤ r.drum) s room);
       files = subst (FilesFit (d.accounts ++ a ∷ [])) (sym none) (none_fit (d.accounts ++ a ∷ []));
       seats = fits.seats;
       ticks = fits.ticks;
@@ -198,11 +147,11 @@ with_account_fits d e p n a set fits ok small h =
 
 -- a last file that fits, if its tracks do
 with_last_fits : (d e : Draft) (files : List OwnedFile) (f : OwnedFile) → Fits d
-    → (tracks_of (files_of f.owner (files ++ f ∷ [])) ≤ quota_of f.owner d.accounts → FilesFit d.accounts (files ++ f ∷ [])) → with_last d files f ≡ Some e → Fits e
+    → (tracks_of (files_of f.owner (files ++ f ∷ [])) ≤ quota_of f.owner d.accounts → FilesFit d.accounts (files ++ f ∷ [])) → with_last d files f ≡ Ok e → Fits e
 with_last_fits d e files f fits made h =
-    let t = if_some _ _ e h in
-    let room : tracks_of (files_of f.owner (files ++ f ∷ [])) ≤ quota_of f.owner d.accounts = at_least _ _ t.0 in
-    subst Fits t.1
+    let t = escaped (nat_lt (quota_of f.owner d.accounts) (tracks_of (files_of f.owner (files ++ f ∷ [])))) OverLimit (Ok (record d { files = files; file = Some f })) e h in
+    let room : tracks_of (files_of f.owner (files ++ f ∷ [])) ≤ quota_of f.owner d.accounts = not_below _ _ t.0 in
+    subst Fits (given _ e t.1)
     (record {
       params = fits.params;
       few = fits.few;
@@ -215,24 +164,50 @@ with_last_fits d e files f fits made h =
       ticks = fits.ticks;
     })
 
-with_file_fits : (d e : Draft) (f : OwnedFile) → Fits d → (1 ≤ f.owner) × HasMode f → with_file d f ≡ Some e → Fits e
-with_file_fits d e f fits ok h =
-    let t = if_then _ (with_last d (all_files d) f) e h in
-    let new = both (nat_eq (length d.events) 0 && nat_le f.owner (length d.accounts)) (not (list_any (is_same_file f) (all_files d))) t.0 in
-    let owner = both (nat_eq (length d.events) 0) (nat_le f.owner (length d.accounts)) new.0 in
-    with_last_fits d e (all_files d) f fits
-    (new_file_fits d.accounts (all_files d) f fits.files (ok.0, at_least f.owner (length d.accounts) owner.1) ok.1 (not-true _ new.1)) t.1
+-- the limits of FILE
+file_fits : (c : FileCard) → is_file_in_limits c ≡ true → (1 ≤ c.owner) × (c.mode ≤ 3)
+file_fits c h =
+    let one = both (is_within 1 30 c.owner) (nat_le c.mode 3) h in
+    ((within 1 30 c.owner one.0).0, at_most c.mode 3 one.1)
 
-with_words_fits : (file : Option OwnedFile) (d e : Draft) (ws : List ℕ) → d.file ≡ file → Fits d → with_words_of file d ws ≡ Some e → Fits e
-with_words_fits None d e ws last fits h = cc
-with_words_fits (Some f) d e ws last fits h =
-    let t = if_then (nat_eq (length d.events) 0) (with_last d d.files (longer ws f)) e h in
+-- FILE keeps it
+with_file_fits : (d e : Draft) (c : FileCard) → Fits d → with_file d c ≡ Ok e → Fits e
+with_file_fits d e c fits h =
+    let first = passed (is_new_file d c) NotACard _ e h in
+    let second = passed (is_file_in_limits c) OverLimit _ e first.1 in
+    let third = escaped (nat_lt (length d.accounts) c.owner) UnknownNumber (with_last d (all_files d) (empty_file c)) e second.1 in
+    let new = both (nat_eq (length d.events) 0) (not (list_any (is_same_file (empty_file c)) (all_files d))) first.0 in
+    let ok = file_fits c second.0 in
+    with_last_fits d e (all_files d) (empty_file c) fits
+    (new_file_fits d.accounts (all_files d) (empty_file c) fits.files (ok.0, not_below (length d.accounts) c.owner third.0) ok.1 (not-true _ new.1)) third.1
+
+-- words behind a file keep it
+words_fit : (file : Option OwnedFile) (d e : Draft) (ws : List ℕ) → d.file ≡ file → Fits d → with_words_of file d ws ≡ Ok e → Fits e
+words_fit None d e ws last fits h = cc
+words_fit (Some f) d e ws last fits h =
+    let t = allowed (nat_eq (length d.events) 0) NotACard (with_last d d.files (longer ws f)) e h in
     let files : FilesFit d.accounts (d.files ++ f ∷ []) = subst (λ (o : Option OwnedFile). FilesFit d.accounts (d.files ++ option_to_list o)) last fits.files in
     with_last_fits d e d.files (longer ws f) fits (longer_file_fits d.accounts d.files f ws files) t.1
 
-with_event_fits : (d e : Draft) (x : Timed) → Fits d → HasConsole x → with_event d x ≡ Some e → Fits e
-with_event_fits d e x fits ok h =
-    subst Fits (if_some _ _ e h).1
+-- O keeps it
+with_words_fits : (d e : Draft) (ws : List ℕ) → Fits d → with_words d ws ≡ Ok e → Fits e
+with_words_fits d e ws fits h = words_fit d.file d e ws refl fits h
+
+-- T keeps it
+with_text_fits : (d e : Draft) (t : CardText) → Fits d → with_text d t ≡ Ok e → Fits e
+with_text_fits d e (card_text.Fits l) fits h = with_words_fits d e (words_of_line 14 l) fits h
+with_text_fits d e card_text.TooLong fits h = absurd (never (is_some d.file && nat_eq (length d.events) 0) OverLimit NotACard e h)
+
+-- AT keeps it
+with_event_fits : (d e : Draft) (tick console : ℕ) (x : CardEvent) → Fits d → with_event_at d tick console x ≡ Ok e → Fits e
+with_event_fits d e tick console card_event.TooLong fits h = cc
+with_event_fits d e tick console (card_event.Fits x) fits h =
+    let timed : Timed = record { tick = tick; console = console; event = x } in
+    let made : Draft = record d { events = d.events ++ timed ∷ []; tick = tick } in
+    let first = passed (nat_le tick max_tick && is_within 1 32 console) OverLimit _ e h in
+    let second = escaped (nat_lt tick d.tick) TimeFalls (Ok made) e first.1 in
+    let limits = both (nat_le tick max_tick) (is_within 1 32 console) first.0 in
+    subst Fits (given made e second.1)
     (record {
       params = fits.params;
       few = fits.few;
@@ -241,13 +216,18 @@ with_event_fits d e x fits ok h =
       unset = fits.unset;
       drum = fits.drum;
       files = fits.files;
-      seats = All-push HasConsole d.events x fits.seats ok;
+      seats = All-push HasConsole d.events timed fits.seats (within 1 32 console limits.1);
       ticks = fits.ticks;
     })
 
-with_end_fits : (d e : Draft) (tick : ℕ) → Fits d → tick ≤ max_tick → with_end d tick ≡ Some e → Fits e
-with_end_fits d e tick fits ok h =
-    subst Fits (if_some _ _ e h).1
+-- END keeps it
+with_end_fits : (d e : Draft) (tick : ℕ) → Fits d → with_end d tick ≡ Ok e → Fits e
+with_end_fits d e tick fits h =
+    let made : Draft = record d { end = Some tick } in
+    let first = escaped (nat_lt max_tick tick) OverLimit _ e h in
+    let second = escaped (nat_lt tick d.tick) TimeFalls (Ok made) e first.1 in
+    let ok : tick ≤ max_tick = not_below max_tick tick first.0 in
+    subst Fits (given made e second.1)
     (record {
       params = fits.params;
       few = fits.few;
@@ -260,46 +240,27 @@ with_end_fits d e tick fits ok h =
       ticks = λ t k. (let same : tick ≡ t = cc in subst (λ (n : ℕ). n ≤ max_tick) same ok);
     })
 
-more_fits : (d e : Draft) (p : Params) (text : List ℕ) (user file words at ends : Bool) → d.params ≡ Some p → Fits d
-    → cond user (option_and_then (with_account d p) (account_of text))
-    (cond file (option_and_then (with_file d) (file_of text))
-    (cond words (option_and_then (with_words d) (words_of_card text))
-    (cond at (option_and_then (with_event d) (timed_of text))
-    (cond ends (option_and_then (with_end d) (end_of text)) None)))) ≡ Some e → Fits e
-more_fits d e p text true file words at ends set fits h =
-    option_and_then_some _ (account_of text) e h (λ a ea ha. let ok = account_fits text a ea in with_account_fits d e p a.0 a.1 set fits ok.0 ok.1 ha)
-more_fits d e p text false true words at ends set fits h = option_and_then_some _ (file_of text) e h (λ f ef hf. with_file_fits d e f fits (file_fits text f ef) hf)
-more_fits d e p text false false true at ends set fits h = option_and_then_some _ (words_of_card text) e h (λ ws ew hw. with_words_fits d.file d e ws refl fits hw)
-more_fits d e p text false false false true ends set fits h = option_and_then_some _ (timed_of text) e h (λ x ex hx. with_event_fits d e x fits (timed_fits text x ex) hx)
-more_fits d e p text false false false false true set fits h = option_and_then_some _ (end_of text) e h (λ x ex hx. with_end_fits d e x fits (end_fits text x ex) hx)
-more_fits d e p text false false false false false set fits h = cc
+-- every card keeps it
+fits_kept : IsKept Fits
+fits_kept =
+    record {
+      start = empty_fits;
+      param = λ d e text c fits none form h. with_params_fits d e c none fits h;
+      user = λ d e p text c fits set form h. with_account_fits d e p c set fits h;
+      file = λ d e text c fits form h. with_file_fits d e c fits h;
+      words = λ d e text ws fits form h. with_words_fits d e ws fits h;
+      text = λ d e text t fits form h. with_text_fits d e t fits h;
+      event = λ d e text c fits none form h. with_event_fits d e c.tick c.console c.event fits h;
+      end = λ d e text tick fits form h. with_end_fits d e tick fits h;
+    }
 
-first_fits : (d e : Draft) (text : List ℕ) (b : Bool) → d.params ≡ None → Fits d → cond b (option_and_then (with_params d) (params_of text)) None ≡ Some e → Fits e
-first_fits d e text true none fits h = option_and_then_some _ (params_of text) e h (λ p ep hp. with_params_fits d e p none fits (params_fit text p ep) hp)
-first_fits d e text false none fits h = cc
-
-entered_by_fits : (end : Option ℕ) (params : Option Params) (d e : Draft) (word text : List ℕ) → d.params ≡ params → Fits d → entered_by end params d word text ≡ Some e → Fits e
-entered_by_fits (Some tick) params d e word text is fits h = cc
-entered_by_fits None None d e word text is fits h = first_fits d e text (bytes_eq word (codes "PARAM")) is fits h
-entered_by_fits None (Some p) d e word text is fits h =
-    more_fits d e p text (bytes_eq word (codes "USER")) (bytes_eq word (codes "FILE")) (bytes_eq word (codes "O")) (bytes_eq word (codes "AT")) (bytes_eq word (codes "END")) is fits h
-
-drafted_fits : (cards : List (List ℕ)) (d e : Draft) → Fits d → drafted d cards ≡ Some e → Fits e
-drafted_fits [] d e fits h = let same : d ≡ e = cc in subst Fits same fits
-drafted_fits (card ∷ cards) d e fits h =
-    option_and_then_some _ (entered d card) e h (λ x ex hx.
-    drafted_fits cards x e (entered_by_fits d.end d.params d x (word_in card) (behind_word card) refl fits ex) hx)
-
-script_fits : (d : Draft) (params : Option Params) (end : Option ℕ) (s : Script) → Fits d → d.params ≡ params → d.end ≡ end → script_by params end d ≡ Some s → IsInRange s
-script_fits d None end s fits e g h = cc
-script_fits d (Some p) None s fits e g h = cc
-script_fits d (Some p) (Some end) s fits e g h =
-    let made : Script = record { params = p; accounts = d.accounts; files = all_files d; events = d.events; end = end } in
-    let same : made ≡ s = cc in
+-- the script of such a draft is in range
+script_fits : (d : Draft) (p : Params) (end : ℕ) → Fits d → d.params ≡ Some p → d.end ≡ Some end
+    → IsInRange (record { params = p; accounts = d.accounts; files = all_files d; events = d.events; end = end })
+script_fits d p end fits e g =
     let ok = fits.params p e in
     let room : d.blocks ≤ p.drum = fits.drum p e in
-    subst IsInRange same
-    (record {
+    record {
       level = ok.0;
       quantum = ok.1;
       swap = ok.2;
@@ -313,14 +274,10 @@ script_fits d (Some p) (Some end) s fits e g h =
       tracks = λ u low high. fits.files.tracks u;
       seats = fits.seats;
       ticks = fits.ticks end g;
-    })
+    }
 
-canonical_same : (bytes : List ℕ) (s t : Script) → if_canonical bytes s ≡ Some t → s ≡ t
-canonical_same bytes s t h = (if_some _ s t h).1
-
+-- every script that is read is in range
 pub scripts_are_in_range : ScriptsAreInRange
-unfolding script_of script_in
 scripts_are_in_range bytes s h =
-    option_and_then_some (if_canonical bytes) (script_in bytes) s (if_then (nat_le (length bytes) max_bytes) _ s h).1 (λ t et ht.
-    subst IsInRange (canonical_same bytes t s ht)
-    (option_and_then_some _ (drafted empty_draft (lines bytes)) t et (λ d ed hd. script_fits d d.params d.end t (drafted_fits (lines bytes) empty_draft d empty_fits ed) refl refl hd)))
+    let r = read Fits fits_kept bytes s h in
+    subst IsInRange r.is (script_fits r.draft r.params r.end r.kept r.set r.ended)

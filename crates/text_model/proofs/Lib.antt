@@ -1,3 +1,6 @@
+pub mod Drafted
+pub mod FieldLaws
 pub mod Files
 pub mod InRange
+pub mod LawfulLaws
 pub mod RowsComputed

@@ -1,6 +1,13 @@
 pub mod Parts
+pub mod Causes
+pub mod Fields
+pub mod Cards
+pub mod Drafts
 pub mod Canonical
 pub mod Reading
+pub mod Lawful
 pub mod Report
+pub mod Made
+pub mod Summary
 pub mod Words
 pub mod Rows

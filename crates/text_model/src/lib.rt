@@ -1,19 +1,31 @@
 //! Texts: the script of bytes, a script's one canonical text, the report, the words of the command line.
 //!
-//! The definitions stand in `specs/`: `Canonical`, `Reading`, `Report`, `Words`, and worked rows in `Rows`. The functions
-//! here do nothing: each carries a law.
+//! The definitions stand in `specs/`: `Fields`, `Cards` (the forms of cards), `Drafts` (what each card adds, or why it is
+//! refused), `Reading` (the script of bytes), `Canonical`, `Lawful` (the rules of cards), `Made`, `Report`, `Summary`,
+//! `Words`, and worked rows in `Rows`. The types of cards and causes are here, and functions that do nothing: each
+//! carries a law.
 #![tactic(auto)]
 
 ghost use Rattle.text_model.specs.Reading.{ScriptsAreInRange};
-ghost use Rattle.text_model.specs.Rows.{RowOfScript, RowOfRefusals, RowOfFile, RowOfFileRefusals, RowOfTrack, RowOfReport};
+ghost use Rattle.text_model.specs.Lawful.{ScriptsAreLawful};
+ghost use Rattle.text_model.specs.Rows.{RowOfScript, RowOfRefusals, RowOfFile, RowOfFileRefusals, RowOfTrack, RowOfModes, RowOfReport, RowOfMade, RowOfSummary};
 
+mod card;
+mod cause;
 mod mode;
 
+pub use card::{CardEvent, CardText, EventCard, FileCard, ParamCard, UserCard};
+pub use cause::{ScriptCause, ScriptRefusal};
 pub use mode::Mode;
 
 /// Every script that is read has its numbers in range, and its files fit their accounts.
 pub fn scripts_are_in_range()
     ensures { ScriptsAreInRange }
+{}
+
+/// Every script that is read keeps the rules of cards.
+pub fn scripts_are_lawful()
+    ensures { ScriptsAreLawful }
 {}
 
 /// A script's cards, written and read.
@@ -22,7 +34,7 @@ pub fn row_of_script()
     ensures { RowOfScript }
 {}
 
-/// Texts that are no script.
+/// Texts that are refused, each at its card and for its cause.
 #[tactic(auto, using(crate::proofs::RowsComputed::row_of_refusals))]
 pub fn row_of_refusals()
     ensures { RowOfRefusals }
@@ -46,8 +58,26 @@ pub fn row_of_track()
     ensures { RowOfTrack }
 {}
 
+/// Words of the command line.
+#[tactic(auto, using(crate::proofs::RowsComputed::row_of_modes))]
+pub fn row_of_modes()
+    ensures { RowOfModes }
+{}
+
 /// The report of a record.
 #[tactic(auto, using(crate::proofs::RowsComputed::row_of_report))]
 pub fn row_of_report()
     ensures { RowOfReport }
+{}
+
+/// Made scripts.
+#[tactic(auto, using(crate::proofs::RowsComputed::row_of_made))]
+pub fn row_of_made()
+    ensures { RowOfMade }
+{}
+
+/// The summary of a record.
+#[tactic(auto, using(crate::proofs::RowsComputed::row_of_summary))]
+pub fn row_of_summary()
+    ensures { RowOfSummary }
 {}

@@ -3,6 +3,10 @@
 pub enum Mode {
     /// A script is read and run, and its report is written.
     Replay,
+    /// The same, with the words of each file in the report.
+    Dump,
+    /// The script that is made of this number is run, and a summary is written.
+    Load(u32),
     /// Cards are read and assembled, and their deck is written.
     Asm,
 }

@@ -6,23 +6,40 @@ use script_read::{ScriptFault, read_script, script_text};
 use std::alloc::Global;
 use std::process::Abort;
 use std::test::Fail;
+use text_model::{ScriptCause, ScriptRefusal};
 use word36::Word;
 
-const REFUSED: ScriptFault = ScriptFault::Refused { card: 0, cause: 9 };
-
-/// Reads a script that is then written as the same bytes.
-fn kept(rt: &impl Abort, alloc: Global, bytes: &[u8]) -> Result<Script, Fail> {
+/// Reads bytes that spell the same script as its canonical text.
+fn reads_as(
+    rt: &impl Abort,
+    alloc: Global,
+    what: &str,
+    bytes: &[u8],
+    canonical: &[u8],
+) -> Result<Script, Fail> {
     let script = read_script(alloc, bytes)?;
     let text = script_text(alloc, &script)?;
-    assert_eq!(rt; text.as_slice(), bytes);
+    assert_eq!(rt; text.as_slice(), canonical, "{what}");
+    let same = read_script(alloc, canonical)?;
+    assert!(rt; script == same, "{what}");
     Ok(script)
 }
 
-fn refused(alloc: Global, bytes: &[u8]) -> bool {
-    read_script(alloc, bytes).err() == Some(REFUSED)
+/// Reads bytes that are refused at a card for a cause.
+fn refused(
+    rt: &impl Abort,
+    alloc: Global,
+    what: &str,
+    bytes: &[u8],
+    card: u32,
+    cause: ScriptCause,
+) {
+    let fault = read_script(alloc, bytes).err();
+    let refusal = ScriptRefusal { card, cause };
+    assert_eq!(rt; fault, Some(ScriptFault::Refused(refusal)), "{what}");
 }
 
-static SESSION: &[u8] = b"PARAM 1024 100 10 8 20 5\n\
+const SESSION: &[u8] = b"PARAM 1024 100 10 8 20 5\n\
     USER 1 ALFA SESAME 8 10\n\
     AT 0 1 DIAL\n\
     AT 0 1 LINE LOGIN ALFA\n\
@@ -69,7 +86,7 @@ fn reads_a_session(rt: HostRuntime) -> Result<(), Fail> {
         blocks: 8,
         tracks: 10,
     };
-    let script = kept(&rt, rt.alloc(), SESSION)?;
+    let script = reads_as(&rt, rt.alloc(), "a session", SESSION, SESSION)?;
     assert_eq!(rt; script.params, PARAMS);
     assert_eq!(rt; script.accounts.as_slice(), [account].as_slice());
     assert!(rt; script.files.is_empty());
@@ -78,157 +95,7 @@ fn reads_a_session(rt: HostRuntime) -> Result<(), Fail> {
     Ok(())
 }
 
-// No users, and lines of no text.
-static KEPT: [&[u8]; 2] = [
-    b"PARAM 1024 100 10 0 0 0\nEND 0\n",
-    b"PARAM 1 1 0 0 0 0\nAT 7 32 LINE\nAT 7 32 LINE   A B\nAT 8 1 QUIT\nAT 8 1 HANG\nEND 100000000\n",
-];
-
-#[test]
-fn takes_a_script_without_users_and_lines_of_no_text(rt: HostRuntime) -> Result<(), Fail> {
-    for bytes in KEPT {
-        let _script = kept(&rt, rt.alloc(), bytes)?;
-    }
-    Ok(())
-}
-
-static NOT_CANONICAL: [(&str, &[u8]); 38] = [
-    ("no bytes", b""),
-    ("a double blank", b"PARAM  1024 100 10 8 20 5\nEND 0\n"),
-    ("a blank behind", b"PARAM 1024 100 10 8 20 5\nEND 0 \n"),
-    (
-        "a blank behind a text",
-        b"PARAM 1024 100 10 8 20 5\nAT 0 1 LINE A \nEND 0\n",
-    ),
-    ("a zero in front", b"PARAM 1024 100 10 8 20 5\nEND 00\n"),
-    ("no LF at the end", b"PARAM 1024 100 10 8 20 5\nEND 0"),
-    ("a CR", b"PARAM 1024 100 10 8 20 5\r\nEND 0\n"),
-    ("an empty line", b"PARAM 1024 100 10 8 20 5\n\nEND 0\n"),
-    ("a comment", b"PARAM 1024 100 10 8 20 5\n* ALFA\nEND 0\n"),
-    (
-        "a small letter",
-        b"PARAM 1024 100 10 8 20 5\nUSER 1 aLFA SESAME 8 10\nEND 0\n",
-    ),
-    (
-        "NUL",
-        b"PARAM 1024 100 10 8 20 5\nUSER 1 A\0 SESAME 8 10\nEND 0\n",
-    ),
-    (
-        "a byte above 127",
-        b"PARAM 1024 100 10 8 20 5\nAT 0 1 LINE \xC4\nEND 0\n",
-    ),
-    ("no PARAM", b"END 0\n"),
-    (
-        "two PARAMs",
-        b"PARAM 1024 100 10 8 20 5\nPARAM 1024 100 10 8 20 5\nEND 0\n",
-    ),
-    (
-        "common files past the disk",
-        b"PARAM 1024 100 10 8 4 5\nEND 0\n",
-    ),
-    (
-        "no END",
-        b"PARAM 1024 100 10 8 20 5\nUSER 1 ALFA SESAME 8 10\n",
-    ),
-    (
-        "a card after END",
-        b"PARAM 1024 100 10 8 20 5\nEND 0\nAT 0 1 DIAL\n",
-    ),
-    (
-        "a repeated name",
-        b"PARAM 1024 100 10 9 20 5\nUSER 1 ALFA SESAME 8 10\nUSER 2 ALFA X 1 1\nEND 0\n",
-    ),
-    (
-        "a number too far",
-        b"PARAM 1024 100 10 9 20 5\nUSER 2 ALFA SESAME 8 10\nEND 0\n",
-    ),
-    (
-        "an account behind an event",
-        b"PARAM 1024 100 10 8 20 5\nAT 0 1 DIAL\nUSER 1 ALFA SESAME 8 10\nEND 0\n",
-    ),
-    (
-        "a full drum",
-        b"PARAM 1024 100 10 8 20 5\nUSER 1 ALFA SESAME 8 10\nUSER 2 BETA X 1 1\nEND 0\n",
-    ),
-    (
-        "a full disk",
-        b"PARAM 1024 100 10 9 20 5\nUSER 1 ALFA SESAME 8 10\nUSER 2 BETA X 1 6\nEND 0\n",
-    ),
-    (
-        "falling ticks",
-        b"PARAM 1024 100 10 8 20 5\nAT 20 1 QUIT\nAT 19 1 QUIT\nEND 100\n",
-    ),
-    (
-        "an early END",
-        b"PARAM 1024 100 10 8 20 5\nAT 20 1 QUIT\nEND 19\n",
-    ),
-    ("a high tick", b"PARAM 1024 100 10 8 20 5\nEND 100000001\n"),
-    ("ten digits", b"PARAM 1024 100 10 8 20 5\nEND 1000000000\n"),
-    (
-        "console 33",
-        b"PARAM 1024 100 10 8 20 5\nAT 0 33 DIAL\nEND 100\n",
-    ),
-    (
-        "a word behind QUIT",
-        b"PARAM 1024 100 10 8 20 5\nAT 0 1 QUIT A\nEND 100\n",
-    ),
-    (
-        "a file of user 2",
-        b"PARAM 1024 100 10 8 20 5\nUSER 1 ALFA SESAME 8 10\nFILE 2 A B 1\nEND 0\n",
-    ),
-    (
-        "a file twice",
-        b"PARAM 1024 100 10 8 20 5\nUSER 1 ALFA SESAME 8 10\nFILE 1 A B 1\nFILE 1 A B 1\nEND 0\n",
-    ),
-    (
-        "mode 4",
-        b"PARAM 1024 100 10 8 20 5\nUSER 1 ALFA SESAME 8 10\nFILE 1 A B 4\nEND 0\n",
-    ),
-    (
-        "an account behind a file",
-        b"PARAM 1024 100 10 9 20 5\nUSER 1 ALFA SESAME 8 10\nFILE 1 A B 1\nUSER 2 BETA X 1 1\nEND 0\n",
-    ),
-    (
-        "a file behind an event",
-        b"PARAM 1024 100 10 8 20 5\nUSER 1 ALFA SESAME 8 10\nAT 0 1 DIAL\nFILE 1 A B 1\nEND 0\n",
-    ),
-    (
-        "words of no file",
-        b"PARAM 1024 100 10 8 20 5\nUSER 1 ALFA SESAME 8 10\nO 000000000007\nEND 0\n",
-    ),
-    (
-        "an octal 8",
-        b"PARAM 1024 100 10 8 20 5\nUSER 1 ALFA SESAME 8 10\nFILE 1 A B 1\nO 000000000008\nEND 0\n",
-    ),
-    (
-        "11 digits",
-        b"PARAM 1024 100 10 8 20 5\nUSER 1 ALFA SESAME 8 10\nFILE 1 A B 1\nO 00000000007\nEND 0\n",
-    ),
-    (
-        "cards of one word",
-        b"PARAM 1024 100 10 8 20 5\nUSER 1 ALFA SESAME 8 10\nFILE 1 A B 1\nO 000000000007\nO 000000000007\nEND 0\n",
-    ),
-    (
-        "a file without tracks",
-        b"PARAM 1024 100 10 8 20 5\nUSER 1 ALFA SESAME 8 0\nFILE 1 A B 1\nEND 0\n",
-    ),
-];
-
-#[test]
-fn refuses_what_is_not_canonical(rt: HostRuntime) {
-    for (what, bytes) in NOT_CANONICAL {
-        assert!(rt; refused(rt.alloc(), bytes), "{what}");
-    }
-}
-
-#[test]
-fn refuses_more_than_4_mebibytes(rt: HostRuntime) -> Result<(), Fail> {
-    let bytes = vec![in rt.alloc(); b'*'; 4_194_305]?;
-    assert!(rt; refused(rt.alloc(), &bytes));
-    Ok(())
-}
-
-static FILES: &[u8] = b"PARAM 1024 100 10 8 20 5\n\
+const FILES: &[u8] = b"PARAM 1024 100 10 8 20 5\n\
     USER 1 ALFA SESAME 4 1\n\
     USER 2 BETA X 4 9\n\
     FILE 2 A B 3\n\
@@ -262,10 +129,319 @@ fn files(alloc: Global) -> Result<OwnedFiles, Fail> {
 
 #[test]
 fn reads_files_of_two_accounts(rt: HostRuntime) -> Result<(), Fail> {
-    let script = kept(&rt, rt.alloc(), FILES)?;
+    let script = reads_as(&rt, rt.alloc(), "two accounts", FILES, FILES)?;
     let want = files(rt.alloc())?;
     assert!(rt; script.files == want);
     Ok(())
+}
+
+const NO_USERS: &[u8] = b"PARAM 1024 100 10 0 0 0\nEND 0\n";
+
+const FEW_TEXTS: &[u8] =
+    b"PARAM 1 1 0 0 0 0\nAT 7 32 LINE\nAT 7 32 LINE   A B\nAT 8 1 QUIT\nAT 8 1 HANG\nEND 100000000\n";
+
+const TEXT_FILE: &[u8] = b"PARAM 1 1 0 1 1 0\n\
+    USER 1 A B 1 1\n\
+    FILE 1 X Y 1\n\
+    O 303160606060 606060606060 606060606060 606060606060 606060606060\n\
+    O 606060606060 606060606060 606060606060 606060606060 606060606060\n\
+    O 606060606060 606060606060 606060606060 606060606060\n\
+    END 0\n";
+
+// What the bytes are, the bytes, and the canonical text of their script.
+static READ: [(&str, &[u8], &[u8]); 13] = [
+    ("no users", NO_USERS, NO_USERS),
+    ("lines of no text", FEW_TEXTS, FEW_TEXTS),
+    ("words of a text", TEXT_FILE, TEXT_FILE),
+    (
+        "comments and blank lines",
+        b"* ALFA \xC4\0\n\nPARAM 1024 100 10 8 20 5\nUSER 1 ALFA SESAME 8 10\n   \nAT 0 1 DIAL\n*\nAT 0 1 LINE LOGIN ALFA\nAT 0 1 LINE SESAME\nAT 20 1 LINE LOGOUT\nEND 100\n* END\n\n  \n",
+        SESSION,
+    ),
+    (
+        "CR before LF, and no LF at the end",
+        b"PARAM 1024 100 10 8 20 5\r\nUSER 1 ALFA SESAME 8 10\r\nAT 0 1 DIAL\r\n\r\nAT 0 1 LINE LOGIN ALFA\r\nAT 0 1 LINE SESAME\r\nAT 20 1 LINE LOGOUT\r\nEND 100",
+        SESSION,
+    ),
+    (
+        "several blanks, also behind",
+        b"PARAM  1024   100 10 8 20 5 \nUSER 1 ALFA    SESAME 8 10  \nAT 0 1 DIAL   \nAT   0 1  LINE LOGIN ALFA\nAT 0 1 LINE SESAME\nAT 20 1 LINE LOGOUT\nEND    100 \n",
+        SESSION,
+    ),
+    (
+        "leading zeros",
+        b"PARAM 000001024 0100 10 08 20 05\nUSER 01 ALFA SESAME 008 0010\nAT 00 01 DIAL\nAT 000000000 1 LINE LOGIN ALFA\nAT 0 001 LINE SESAME\nAT 000020 1 LINE LOGOUT\nEND 000000100\n",
+        SESSION,
+    ),
+    (
+        "blanks behind a text",
+        b"PARAM 1024 100 10 8 20 5\nUSER 1 ALFA SESAME 8 10\nAT 0 1 DIAL\nAT 0 1 LINE LOGIN ALFA   \nAT 0 1 LINE SESAME \nAT 20 1 LINE LOGOUT  \r\nEND 100\n",
+        SESSION,
+    ),
+    (
+        "blanks for a text",
+        b"PARAM 1 1 0 0 0 0\nAT 7 32 LINE   \nAT 7 32 LINE   A B \nAT 8 1 QUIT\nAT 8 1 HANG\nEND 100000000\n",
+        FEW_TEXTS,
+    ),
+    (
+        "few and short words",
+        b"PARAM 1024 100 10 8 20 5\nUSER 1 ALFA SESAME 4 1\nUSER 2 BETA X 4 9\nFILE 2 A B 3\nO 7 0\n* MORE\nO  00 000\nO 0\nO 777777777777 \nFILE 1 A B 0\nAT 0 1 DIAL\nEND 0\n",
+        FILES,
+    ),
+    (
+        "a T card",
+        b"PARAM 1 1 0 1 1 0\nUSER 1 A B 1 1\nFILE 1 X Y 1\nT HI\nEND 0\n",
+        TEXT_FILE,
+    ),
+    (
+        "a T card with blanks behind",
+        b"PARAM 1 1 0 1 1 0\nUSER 1 A B 1 1\nFILE 1 X Y 1\nT HI    \r\nEND 0\n",
+        TEXT_FILE,
+    ),
+    (
+        "an empty T card",
+        b"PARAM 1 1 0 1 1 0\nUSER 1 A B 1 1\nFILE 1 X Y 1\nO 303160606060\nT\nEND 0\n",
+        b"PARAM 1 1 0 1 1 0\n\
+          USER 1 A B 1 1\n\
+          FILE 1 X Y 1\n\
+          O 303160606060 606060606060 606060606060 606060606060 606060606060\n\
+          O 606060606060 606060606060 606060606060 606060606060 606060606060\n\
+          O 606060606060 606060606060 606060606060 606060606060 606060606060\n\
+          END 0\n",
+    ),
+];
+
+#[test]
+fn reads_scripts_as_people_write_them(rt: HostRuntime) -> Result<(), Fail> {
+    for (what, bytes, canonical) in READ {
+        let _script = reads_as(&rt, rt.alloc(), what, bytes, canonical)?;
+    }
+    Ok(())
+}
+
+// Cards behind PARAM and USER: the first of them is card 3.
+static BEHIND_HEAD: [(&str, &[u8], u32, ScriptCause); 33] = [
+    ("one name", b"FILE 1 HEL\n", 3, ScriptCause::NotACard),
+    (
+        "comments count",
+        b"* ALFA\n\nFILE 1 HEL\n",
+        5,
+        ScriptCause::NotACard,
+    ),
+    (
+        "falling ticks",
+        b"AT 0 1 DIAL\nAT 0 1 LINE LOGIN ALFA\nAT 0 1 LINE SESAME\nAT 20 1 QUIT\nAT 19 1 QUIT\n",
+        7,
+        ScriptCause::TimeFalls,
+    ),
+    (
+        "an early END",
+        b"AT 20 1 QUIT\nEND 19\n",
+        4,
+        ScriptCause::TimeFalls,
+    ),
+    (
+        "a file of user 2",
+        b"FILE 2 A B 1\n",
+        3,
+        ScriptCause::UnknownNumber,
+    ),
+    (
+        "a number too far",
+        b"USER 3 BETA X 1 1\n",
+        3,
+        ScriptCause::UnknownNumber,
+    ),
+    ("a high tick", b"END 100000001\n", 3, ScriptCause::OverLimit),
+    ("console 33", b"AT 0 33 DIAL\n", 3, ScriptCause::OverLimit),
+    ("console 0", b"AT 0 0 DIAL\n", 3, ScriptCause::OverLimit),
+    ("mode 4", b"FILE 1 A B 4\n", 3, ScriptCause::OverLimit),
+    (
+        "129 blocks",
+        b"USER 2 BETA X 129 1\n",
+        3,
+        ScriptCause::OverLimit,
+    ),
+    (
+        "a full drum",
+        b"USER 2 BETA X 1 1\n",
+        3,
+        ScriptCause::DrumSmall,
+    ),
+    ("no END", b"", 3, ScriptCause::NoEnd),
+    (
+        "a card behind END",
+        b"END 0\nAT 0 1 DIAL\n",
+        4,
+        ScriptCause::NoEnd,
+    ),
+    (
+        "a second END behind a comment",
+        b"END 5\n* A COMMENT\nEND 5\n",
+        5,
+        ScriptCause::NoEnd,
+    ),
+    (
+        "a repeated name",
+        b"USER 31 ALFA X 129 1\n",
+        3,
+        ScriptCause::NotACard,
+    ),
+    (
+        "two PARAMs",
+        b"PARAM 1024 100 10 8 20 5\n",
+        3,
+        ScriptCause::NotACard,
+    ),
+    ("ten digits", b"END 0000000005\n", 3, ScriptCause::NotACard),
+    (
+        "a word behind QUIT",
+        b"AT 0 1 QUIT A\n",
+        3,
+        ScriptCause::NotACard,
+    ),
+    ("an indented card", b" END 5\n", 3, ScriptCause::NotACard),
+    (
+        "an indented comment",
+        b" * ALFA\n",
+        3,
+        ScriptCause::NotACard,
+    ),
+    (
+        "a file twice",
+        b"FILE 1 A B 1\nFILE 1 A B 1\n",
+        4,
+        ScriptCause::NotACard,
+    ),
+    (
+        "an account behind a file",
+        b"FILE 1 A B 1\nUSER 2 BETA X 1 1\n",
+        4,
+        ScriptCause::NotACard,
+    ),
+    (
+        "a file behind an event",
+        b"AT 0 1 DIAL\nFILE 1 A B 1\n",
+        4,
+        ScriptCause::NotACard,
+    ),
+    (
+        "an account behind an event",
+        b"AT 0 1 DIAL\nUSER 2 BETA X 1 1\n",
+        4,
+        ScriptCause::NotACard,
+    ),
+    (
+        "words of no file",
+        b"O 000000000007\n",
+        3,
+        ScriptCause::NotACard,
+    ),
+    (
+        "an octal 8",
+        b"FILE 1 A B 1\nO 000000000008\n",
+        4,
+        ScriptCause::NotACard,
+    ),
+    (
+        "13 digits",
+        b"FILE 1 A B 1\nO 0000000000007\n",
+        4,
+        ScriptCause::NotACard,
+    ),
+    (
+        "six words",
+        b"FILE 1 A B 1\nO 1 2 3 4 5 6\n",
+        4,
+        ScriptCause::NotACard,
+    ),
+    (
+        "a small letter",
+        b"USER 2 bETA X 1 1\n",
+        3,
+        ScriptCause::NotACard,
+    ),
+    (
+        "the byte 00 in a name",
+        b"USER 2 A\0 X 1 1\n",
+        3,
+        ScriptCause::NotACard,
+    ),
+    (
+        "a byte above 127 in a text",
+        b"AT 0 1 LINE \xC4\n",
+        3,
+        ScriptCause::NotACard,
+    ),
+    (
+        "a CR inside a card",
+        b"AT 0 1 LINE A\rB\n",
+        3,
+        ScriptCause::NotACard,
+    ),
+];
+
+// Whole texts.
+static WHOLE: [(&str, &[u8], u32, ScriptCause); 8] = [
+    ("no bytes", b"", 1, ScriptCause::NoEnd),
+    ("comments alone", b"*\n*\n", 3, ScriptCause::NoEnd),
+    ("no PARAM", b"END 0\n", 1, ScriptCause::NotACard),
+    (
+        "common files past the disk",
+        b"PARAM 1024 100 10 8 4 5\nEND 0\n",
+        1,
+        ScriptCause::DiskSmall,
+    ),
+    (
+        "wq of 0",
+        b"PARAM 0 100 10 8 4 5\nEND 0\n",
+        1,
+        ScriptCause::OverLimit,
+    ),
+    (
+        "a full disk",
+        b"PARAM 1024 100 10 9 20 5\nUSER 1 ALFA SESAME 8 10\nUSER 2 BETA X 1 6\n",
+        3,
+        ScriptCause::DiskSmall,
+    ),
+    (
+        "a file without tracks",
+        b"PARAM 1024 100 10 8 20 5\nUSER 1 ALFA SESAME 8 0\nFILE 1 A B 1\nEND 0\n",
+        3,
+        ScriptCause::OverLimit,
+    ),
+    (
+        "a text behind an event",
+        b"PARAM 1 1 0 1 1 0\nUSER 1 A B 1 1\nFILE 1 X Y 1\nAT 0 1 DIAL\nT HI\nEND 0\n",
+        5,
+        ScriptCause::NotACard,
+    ),
+];
+
+const HEAD: &[u8] = b"PARAM 1024 100 10 8 20 5\nUSER 1 ALFA SESAME 8 10\n";
+
+#[test]
+fn refuses_at_a_card_for_a_cause(rt: HostRuntime) -> Result<(), Fail> {
+    for (what, bytes, card, cause) in WHOLE {
+        refused(&rt, rt.alloc(), what, bytes, card, cause);
+    }
+    for (what, cards, card, cause) in BEHIND_HEAD {
+        let mut bytes = Vec::from_slice(rt.alloc(), HEAD)?;
+        bytes.extend_from_slice(cards)?;
+        refused(&rt, rt.alloc(), what, &bytes, card, cause);
+    }
+    Ok(())
+}
+
+/// A script with a file, and a text of so many letters behind the front of a card.
+fn script_with_letters(alloc: Global, front: &[u8], letters: usize) -> Result<Vec<u8>, Fail> {
+    let mut bytes = Vec::from_slice(alloc, b"PARAM 1 1 0 1 1 0\nUSER 1 A B 1 1\nFILE 1 X Y 1\n")?;
+    bytes.extend_from_slice(front)?;
+    for _ in 0..letters {
+        bytes.push(b'A')?;
+    }
+    bytes.extend_from_slice(b"  \nEND 0\n")?;
+    Ok(bytes)
 }
 
 /// The script of a file of so many words, whose owner has one track.
@@ -281,10 +457,67 @@ fn script_with_words(alloc: Global, words: usize) -> Result<String, Fail> {
 }
 
 #[test]
-fn a_track_takes_432_words(rt: HostRuntime) -> Result<(), Fail> {
-    let fits = script_with_words(rt.alloc(), 432)?;
-    let _script = kept(&rt, rt.alloc(), fits.as_bytes())?;
-    let over = script_with_words(rt.alloc(), 433)?;
-    assert!(rt; refused(rt.alloc(), over.as_bytes()));
+fn texts_files_and_scripts_have_their_limits(rt: HostRuntime) -> Result<(), Fail> {
+    let alloc = rt.alloc();
+    for front in [b"AT 0 1 LINE ".as_slice(), b"T ".as_slice()] {
+        let _script = read_script(alloc, &script_with_letters(alloc, front, 84)?)?;
+        let over = script_with_letters(alloc, front, 85)?;
+        refused(&rt, alloc, "85 letters", &over, 4, ScriptCause::OverLimit);
+    }
+
+    let fits = script_with_words(alloc, 432)?;
+    let _script = reads_as(&rt, alloc, "432 words", fits.as_bytes(), fits.as_bytes())?;
+    let over = script_with_words(alloc, 433)?;
+    refused(
+        &rt,
+        alloc,
+        "433 words",
+        over.as_bytes(),
+        90,
+        ScriptCause::OverLimit,
+    );
+
+    let mut bytes = vec![in alloc; b'*'; 4_194_304]?;
+    refused(&rt, alloc, "4 MiB", &bytes, 2, ScriptCause::NoEnd);
+    bytes.push(b'*')?;
+    refused(&rt, alloc, "a byte more", &bytes, 0, ScriptCause::TooLong);
+    Ok(())
+}
+
+// A script, a place in it, and how many bytes at this place leave a script.
+static PLACES: [(&[u8], usize, usize); 3] = [
+    // In a text each of the 48 characters, in a name each but the blank, and in front of END just its letter.
+    (b"PARAM 1 1 0 1 1 0\nAT 0 1 LINE AXB\nEND 0\n", 31, 48),
+    (b"PARAM 1 1 0 1 1 0\nUSER 1 AXB S 1 1\nEND 0\n", 26, 47),
+    (b"PARAM 1 1 0 1 1 0\nEND 0\n", 18, 1),
+];
+
+/// How many bytes leave a script that is read, in place of one of its own; it is refused with each other byte.
+fn bytes_that_are_read(
+    rt: &impl Abort,
+    alloc: Global,
+    script: &[u8],
+    place: usize,
+) -> Result<usize, Fail> {
+    let mut read = Vec::new(alloc);
+    for byte in 0..=255u8 {
+        let mut bytes = Vec::from_slice(alloc, script)?;
+        if let Some(slot) = bytes.get_mut(place) {
+            *slot = byte;
+        }
+        match read_script(alloc, &bytes) {
+            Ok(_) => read.push(byte)?,
+            Err(fault) => assert_ne!(rt; fault, ScriptFault::NoMemory),
+        }
+    }
+    Ok(read.len())
+}
+
+#[test]
+fn each_byte_is_read_or_refused(rt: HostRuntime) -> Result<(), Fail> {
+    for (script, place, want) in PLACES {
+        let read = bytes_that_are_read(&rt, rt.alloc(), script, place)?;
+        assert_eq!(rt; read, want, "at {place}");
+    }
     Ok(())
 }

@@ -1,12 +1,13 @@
 use Rattle.std.proofs.Common.{sym, ap, ◌∙◌}
-use Rattle.text_model.specs.Reading.{octal_in}
-use Rattle.script_read.proofs.CardWords.{word_more, card_read, card_refused}
+use Rattle.text_model.specs.Fields.{octal_in}
+use Rattle.script_read.proofs.CardWords.{word_more, card_read, card_refused, card_of, answered_some, answered_none}
 use Rattle.script_read.proofs.words.add_words.Goals as goal
 
 pub returns-in_default : goal.returns-in_default
 returns-in_default c =
-    card_refused c.args.words.now c.words.words c.args.text.now c.words.rest.now 5 c.words.left c.words.invariant (sym c.if-is_over.ensures)
-    c.if-left-eq0.false (sym c.words-test.ensures) (ap octal_in (sym c.first_word.ensures.word) ∙ sym c.octal.ensures ∙ c.in_default.is)
+    answered_none c.args.words.now (card_of 5 c.args.text.now)
+    (card_refused c.args.words.now c.words.words c.args.text.now c.words.rest.now 5 c.words.left c.words.invariant (sym c.if-is_over.ensures)
+    c.if-left-eq0.false (sym c.words-test.ensures) (ap octal_in (sym c.first_word.ensures.word) ∙ sym c.octal.ensures ∙ c.in_default.is))
 
 pub words-preserved : goal.words-preserved
 words-preserved c =
@@ -16,4 +17,6 @@ words-preserved c =
     ∙ c.words.invariant)
 
 pub returns : goal.returns
-returns c = card_read c.args.words.now c.words.words c.args.text.now c.words.rest.now 5 c.words.left c.words.invariant (sym c.if-is_over.ensures) (sym c.words-test.ensures)
+returns c =
+    answered_some c.args.words.now c.words.words (card_of 5 c.args.text.now)
+    (card_read c.args.words.now c.words.words c.args.text.now c.words.rest.now 5 c.words.left c.words.invariant (sym c.if-is_over.ensures) (sym c.words-test.ensures))

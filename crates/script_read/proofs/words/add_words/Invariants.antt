@@ -1,5 +1,5 @@
 use Rattle.std.proofs.Common.{◌≡◌}
-use Rattle.text_model.specs.Reading.{words_in}
+use Rattle.text_model.specs.Cards.{words_in}
 use Rattle.script_read.proofs.CardWords.{behind}
 use Rattle.script_read.proofs.words.add_words.Given as goal
 

@@ -1,4 +1,4 @@
-//! The report of a script's record.
+//! The report of a script's record, and the summary of a made script's.
 #![tactic(auto)]
 
 ghost use Rattle.std.specs.Prelude.{◌≡◌, IfOk};
@@ -7,8 +7,11 @@ ghost use Rattle.text_model.specs.Report.{report_of};
 mod account;
 mod entry;
 mod file;
+mod load;
+mod schedule;
 
 use ctss_types::{Bytes, NoMemory, Record, Script, Sequence};
+pub use load::summary;
 use std::alloc::Global;
 use std::fmt::Write;
 
@@ -27,3 +30,6 @@ pub fn report(alloc: Global, script: &Script, run: &Record, dump: bool) -> Resul
     writeln!(out, "END {clock}")?;
     Ok(Sequence::from_vec(out.into_bytes()))
 }
+
+#[cfg(test)]
+mod tests;

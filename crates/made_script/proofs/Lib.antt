@@ -1,0 +1,4 @@
+pub mod Decimals
+pub mod Loops
+pub mod Range
+pub mod Lawful

@@ -3,13 +3,14 @@ use Rattle.std.proofs.Common.{◌≡◌, ◌≢◌, ℕ, ◌≤◌, ◌<◌, Boo
 use Rattle.std.specs.List.{list_any, flat_map}
 use Rattle.std.proofs.lemmas.Bool.Decides.{nat_tests}
 use Rattle.faults.specs.Faults.{WhereTold}
+use Rattle.medium.specs.Medium.{CallList}
 use Rattle.ctss_io.specs.Outside.{before, after, IsAtEnd}
 use Rattle.ctss_io.specs.Whole.{ShrankBy, HasAtLeast, GrewByProperPrefix}
 use Rattle.fap_assemble.specs.declared.fault.CardFault.{CardFault}
 use Rattle.fap_assemble.specs.Follows.{numbered}
 use Rattle.fap_model.specs.Decks.{Assembled, deck, faulty}
 use Rattle.text_model.specs.declared.mode.Mode.{Mode}
-use Rattle.text_model.specs.declared.mode.Mode.TheVariants.{Replay, Asm}
+use Rattle.text_model.specs.declared.mode.Mode.TheVariants.{Asm}
 use Rattle.text_model.specs.Words.{mode_of, fault_line, faults_text, script_refused}
 use Rattle.text_model.specs.Reading.{max_bytes}
 use Rattle.ctss_top.specs.declared.outcome.Outcome.{Outcome}
@@ -50,8 +51,8 @@ cut_of_cards left rest held now bytes came whole size h =
     record { text = h.text; said = said_of left rest bytes h.text (input left rest bytes came whole size) h.said; part = h.part }
 
 -- for the words that ask for an assembly
-pub cut_by_words : (tells : Bool) (words : List (List ℕ)) (left rest held now : Option (List ℕ)) (o : Outcome) → mode_of words ≡ Some Asm → o ≡ bare 4 0 0 → CardsAreCutOff left rest held now → IsCutOff tells words left rest held now o
-cut_by_words tells words left rest held now o asked is h =
+pub cut_by_words : (tells : Bool) (words : List (List ℕ)) (left rest held now : Option (List ℕ)) (was has : Option CallList) (o : Outcome) → mode_of words ≡ Some Asm → o ≡ bare 4 0 0 → CardsAreCutOff left rest held now → IsCutOff tells words left rest held now was has o
+cut_by_words tells words left rest held now was has o asked is h =
     record {
       text = h.text;
       said = OfCards asked (ap (λ (x : Outcome). x.run) is) h.said;

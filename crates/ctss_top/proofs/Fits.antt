@@ -9,7 +9,8 @@ use Rattle.ctss_types.specs.declared.file.OwnedFile.{OwnedFile}
 use Rattle.file_model.specs.Files.{same_name, tracks_of}
 use Rattle.file_model.specs.Owned.{files_of}
 use Rattle.file_map.specs.Directory.{NamesDiffer}
-use Rattle.text_model.specs.Reading.{IsInRange, names_differ, quota_of}
+use Rattle.text_model.specs.Drafts.{quota_of}
+use Rattle.text_model.specs.Reading.{IsInRange, names_differ}
 use Rattle.supervisor.specs.Seen.{AreFit}
 
 first_false : (a b : Bool) → (not a && b) ≡ true → a ≡ false

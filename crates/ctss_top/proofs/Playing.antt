@@ -20,13 +20,18 @@ use Rattle.user_model.specs.Inner.{blocks_of}
 use Rattle.user_model.specs.User.{User}
 use Rattle.plan_model.specs.Loads.{Places, no_places}
 use Rattle.system_model.specs.Run.{Run, run_to, AfterSteps, ended}
-use Rattle.system_model.specs.Cases.{user_at, closed}
+use Rattle.system_model.specs.Cases.{user_at, closed, end_notes, idle_notes}
 use Rattle.system_model.specs.Joined.{joined, with_cores}
 use Rattle.system_model.specs.Record.{start_of, record_of, record_from, users_from}
 use Rattle.system_model.proofs.CaseLaws.{closes}
 use Rattle.system_model.proofs.JoinedLaws.{joined_same}
 use Rattle.user_cores.specs.Memory.{Memory}
+use Rattle.medium.specs.Medium.{CallList}
+use Rattle.time_sharing.specs.System.{Entry, Service}
+use Rattle.schedule_model.specs.Sums.{dumped_in, read_in}
+use Rattle.system_model.proofs.SwapLaws.{dumped-append, read-append}
 use Rattle.supervisor.specs.Seen.{Bare, run_with, record_so_far}
+use Rattle.supervisor.specs.Counts.{IsCounted, IsCountedToLoad, calls_to_load}
 use Rattle.supervisor.specs.Steps.{IsTied, HasRun, HasRunPart, HasRunToLoad, StopsAtLoad, Ends, Fails}
 use Rattle.supervisor.proofs.Running.{transcripts_same}
 use Rattle.supervisor.proofs.Serving.{ends_map}
@@ -121,13 +126,13 @@ record_apart : (f : ℕ → List ℕ) (p q : Places) (b : Bare) → record_from 
 record_apart f p q b = ap record_from (closes (run_with p b)) ∙ closed_apart f p q b ∙ ap record_from (sym (closes (joined f (run_with q b))))
 
 -- the run as it is seen from the start
-pub played : {T : Type 0} (r : Result T RunFault) (limit : ℕ) (old new : Bare) (quotas : List ℕ) (words words' : ℕ → List ℕ) (places places' : Places) (told part rose : Type 0) → HasCores old quotas
+pub played : {T : Type 0} (r : Result T RunFault) (limit : ℕ) (old new : Bare) (quotas : List ℕ) (words words' : ℕ → List ℕ) (places places' : Places) (was now : Option CallList) (told part rose : Type 0) → HasCores old quotas
     → ((u : ℕ) → 1 ≤ u → words u ≡ []) → places ≡ no_places → told
     → Ends r (told → joined words' (run_with places' new) ≡ run_to limit (joined words (run_with places old))) part
-    ((told → StopsAtLoad limit (joined words (run_with places old)) (run_with no_places new)) × rose)
-    → Ends r (Reaches limit (run_with no_places old) new) ⊤ (Stops limit (run_with no_places old) new)
-played r limit old new quotas words words' places places' told part rose cores none nowhere is_told h =
-    ends_map r _ _ _ (Reaches limit (run_with no_places old) new) ⊤ (Stops limit (run_with no_places old) new) (λ run. reaches (run is_told)) (λ some. tt) (λ f. stops (f.0 is_told)) h
+    ((told → StopsAtLoad limit (joined words (run_with places old)) (run_with no_places new) was now) × rose)
+    → Ends r (Reaches limit (run_with no_places old) new) ⊤ (Stops limit (run_with no_places old) new was now)
+played r limit old new quotas words words' places places' was now told part rose cores none nowhere is_told h =
+    ends_map r _ _ _ (Reaches limit (run_with no_places old) new) ⊤ (Stops limit (run_with no_places old) new was now) (λ run. reaches (run is_told)) (λ some. tt) (λ f. stops (f.0 is_told)) h
   where
     start : joined words (run_with places old) ≡ run_with no_places old
     start = ap (λ (p : Places). joined words (run_with p old)) nowhere ∙ joined_same words (λ u. []) (run_with no_places old) none ∙ cores.words
@@ -135,11 +140,88 @@ played r limit old new quotas words words' places places' told part rose cores n
     reaches : joined words' (run_with places' new) ≡ run_to limit (joined words (run_with places old)) → Reaches limit (run_with no_places old) new
     reaches run = λ p. record_apart words' p places' new ∙ ap (λ (x : Run). record_from (ended x)) (run ∙ ap (run_to limit) start)
 
-    stops : StopsAtLoad limit (joined words (run_with places old)) (run_with no_places new) → Stops limit (run_with no_places old) new
+    stops : StopsAtLoad limit (joined words (run_with places old)) (run_with no_places new) was now → Stops limit (run_with no_places old) new was now
     stops s =
         record {
           at = s.at;
           part = subst (λ (x : Run). AfterSteps limit x s.at) start s.part;
           load = s.load;
           shown = λ j. record { entries = s.shown.entries j; transcripts = s.shown.transcripts j; files = []; common = []; clock = s.shown.clock j };
+          counted = subst (λ (x : Run). IsCountedToLoad x.system.entries new.entries was now (calls_to_load s.load.due.user s.at)) start s.counted;
         }
+
+-- the drum's calls, seen from two moments that are known by other words
+pub counted_from : {T : Type 0} (r : Result T RunFault) (had has : List Entry) (was now was' now' : Option CallList) (rest : Type 0) → was ≡ was' → now ≡ now' → Ends r (IsCounted had has was now) (IsCounted had has was now) rest → Ends r (IsCounted had has was' now') ⊤ ⊤
+counted_from r had has was now was' now' rest before after h =
+    ends_map r (IsCounted had has was now) (IsCounted had has was now) rest (IsCounted had has was' now') ⊤ ⊤
+    (λ counted. subst (λ (x : Option CallList). IsCounted had has x now') before (subst (λ (x : Option CallList). IsCounted had has was x) after counted)) (λ some. tt) (λ f. tt) h
+
+-- a run that stopped, seen so too
+pub stops_from : {T : Type 0} (r : Result T RunFault) (limit : ℕ) (start : Run) (new : Bare) (was now was' now' : Option CallList) → was ≡ was' → now ≡ now'
+    → Ends r (Reaches limit start new) ⊤ (Stops limit start new was now) → Ends r (Reaches limit start new) ⊤ (Stops limit start new was' now')
+stops_from r limit start new was now was' now' before after h =
+    ends_map r (Reaches limit start new) ⊤ (Stops limit start new was now) (Reaches limit start new) ⊤ (Stops limit start new was' now') (λ run. run) (λ some. tt)
+    (λ s. subst (λ (x : Option CallList). Stops limit start new x now') before (subst (λ (x : Option CallList). Stops limit start new was x) after s)) h
+
+-- no entry stands at the start
+pub none_at_start : (script : Script) → (start_of script).system.entries ≡ []
+unfolding start_of
+none_at_start script = refl
+
+-- the end of a record adds no load
+
+dumped_at_end : (v : Option Service) (i : Option ℕ) (now : ℕ) → dumped_in (end_notes v ++ idle_notes i now) ≡ 0
+dumped_at_end None None now = refl
+dumped_at_end None (Some from) now = refl
+dumped_at_end (Some v) None now = refl
+dumped_at_end (Some v) (Some from) now = refl
+
+read_at_end : (v : Option Service) (i : Option ℕ) (now : ℕ) → read_in (end_notes v ++ idle_notes i now) ≡ 0
+read_at_end None None now = refl
+read_at_end None (Some from) now = refl
+read_at_end (Some v) None now = refl
+read_at_end (Some v) (Some from) now = refl
+
+closed_counts : (r : Run) → (dumped_in (closed r).system.entries ≡ dumped_in r.system.entries) × (read_in (closed r).system.entries ≡ read_in r.system.entries)
+unfolding closed
+closed_counts r =
+    let more : List Entry = end_notes r.system.service ++ idle_notes r.system.idling r.system.clock in (
+      omega (arith, dumped-append r.system.entries more, dumped_at_end r.system.service r.system.idling r.system.clock),
+      omega (arith, read-append r.system.entries more, read_at_end r.system.service r.system.idling r.system.clock),
+    )
+
+pub counted_at_end : (had : List Entry) (b : Bare) (was now : Option CallList) → IsCounted had b.entries was now → IsCounted had (record_from (ended (run_with no_places b))).entries was now
+counted_at_end had b was now h =
+    let counts = closed_counts (run_with no_places b) in
+    let end : ended (run_with no_places b) ≡ closed (run_with no_places b) = closes (run_with no_places b) in
+    record {
+      calls = h.calls;
+      made = h.made;
+      writes = ap (λ (r : Run). dumped_in r.system.entries) end ∙ counts.0 ∙ h.writes;
+      reads = ap (λ (r : Run). read_in r.system.entries) end ∙ counts.1 ∙ h.reads;
+    }
+
+-- no entry stands in the state that a script starts with
+no_entry : (script : Script) (b : Bare) → run_with no_places b ≡ start_of script → b.entries ≡ []
+no_entry script b is = ap (λ (r : Run). r.system.entries) is ∙ none_at_start script
+
+-- the calls of a whole run
+pub counted_done : (script : Script) (old new : Bare) (rec : Record) (was now : Option CallList) → run_with no_places old ≡ start_of script → rec ≡ record_from (ended (run_with no_places new))
+    → IsCounted old.entries new.entries was now → IsCounted [] rec.entries was now
+counted_done script old new rec was now start is h =
+    subst (λ (r : Record). IsCounted [] r.entries was now) (sym is)
+    (counted_at_end [] new was now (subst (λ (es : List Entry). IsCounted es new.entries was now) (no_entry script old start) h))
+
+-- a run that stopped
+pub stopped_is : (script : Script) (old new : Bare) (rec : Record) (was now : Option CallList) → run_with no_places old ≡ start_of script → rec ≡ record_so_far (run_with no_places new)
+    → Stops script.end (run_with no_places old) new was now → IsStopped script rec was now
+stopped_is script old new rec was now start is s =
+    record {
+      at = s.at;
+      part = subst (λ (r : Run). AfterSteps script.end r s.at) start s.part;
+      load = s.load;
+      shown = is ∙ s.shown;
+      counted =
+          subst (λ (es : List Entry). IsCountedToLoad [] es was now (calls_to_load s.load.due.user s.at)) (sym (ap (λ (r : Record). r.entries) is))
+          (subst (λ (es : List Entry). IsCountedToLoad es new.entries was now (calls_to_load s.load.due.user s.at)) (no_entry script old start) s.counted);
+    }

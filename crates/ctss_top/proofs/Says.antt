@@ -1,24 +1,29 @@
 -- What follows from what was read and written.
-use Rattle.std.proofs.Common.{◌≡◌, ◌≢◌, ℕ, ◌≤◌, ◌<◌, Bool, true, false, ◌||◌, nat_eq, nat_le, List, [], ◌∷◌, ◌++◌, length, Option, Some, None, refl, sym, ap, subst, ◌∙◌, append-nil, arith}
-use Rattle.std.specs.Prelude.{is_some}
+use Rattle.std.proofs.Common.{◌≡◌, ℕ, ◌≤◌, ◌<◌, Bool, true, false, ◌||◌, nat_eq, nat_le, List, [], ◌∷◌, ◌++◌, length, Option, Some, None, Ok, Err, refl, sym, ap, subst, ◌∙◌, append-nil, arith}
 use Rattle.std.specs.List.{list_any}
+use Rattle.std.specs.declared.result.Result.{Result}
 use Rattle.std.proofs.lemmas.Bool.Decides.{nat_tests}
 use Rattle.faults.specs.Faults.{WhereTold}
 use Rattle.ctss_types.specs.declared.script.Script.{Script}
-use Rattle.ctss_types.specs.declared.history.Record.{Record}
+use Rattle.medium.specs.Medium.{CallList}
 use Rattle.ctss_io.specs.Outside.{before, after, IsAtEnd}
 use Rattle.ctss_io.specs.Whole.{ShrankBy, HasAtLeast, GrewByProperPrefix}
 use Rattle.text_model.specs.declared.mode.Mode.{Mode}
-use Rattle.text_model.specs.declared.mode.Mode.TheVariants.{Replay, Asm}
-use Rattle.text_model.specs.Words.{mode_of, words_refused, script_refused}
+use Rattle.text_model.specs.declared.mode.Mode.TheVariants.{Replay, Dump, Load, Asm}
+use Rattle.text_model.specs.declared.cause.ScriptCause.TheVariants.{TooLong}
+use Rattle.text_model.specs.declared.cause.ScriptRefusal.{ScriptRefusal}
+use Rattle.text_model.specs.Causes.{cause_number}
+use Rattle.text_model.specs.Words.{mode_of, script_refused}
 use Rattle.text_model.specs.Reading.{script_of, max_bytes}
-use Rattle.text_model.specs.Report.{report_of}
+use Rattle.text_model.specs.Made.{made_script}
 use Rattle.system_model.specs.Record.{record_of, EachIsAlone}
 use Rattle.system_model.proofs.AloneLaws.{users_are_alone}
+use Rattle.supervisor.specs.Counts.{IsCounted}
 use Rattle.ctss_top.specs.declared.outcome.Outcome.{Outcome}
-use Rattle.ctss_top.specs.Outcomes.{bare, empty_record}
+use Rattle.ctss_top.specs.Outcomes.{bare}
 use Rattle.ctss_top.specs.Played.{IsStopped}
-use Rattle.ctss_top.specs.Top.{refusal_cause, Replayed, RunIsStopped, IsNoScript, ScriptIsRefused, IsTextOf, OfRefusal, OfReport, IsCutOff, statuses_for, statuses_of}
+use Rattle.ctss_top.specs.Modes.{runs_script, reads_script, IsSpelled, IsMade, Comes, IsRefused, text_for}
+use Rattle.ctss_top.specs.Top.{IsRun, RunIsStopped, ScriptIsRefused, IsTextOf, OfRefusal, OfRun, IsCutOff, statuses_for, statuses_of}
 
 -- a list with one more behind its first
 one_more_said : (a n rest : Bool) → (a || rest) ≡ true → (a || (n || rest)) ≡ true
@@ -35,90 +40,111 @@ done_status status h = one_more_said (nat_eq status 0) (nat_eq status 3) (list_a
 too_many : (bytes : List ℕ) → 4194305 ≤ length bytes → nat_le (length bytes) max_bytes ≡ false
 too_many bytes h = grind (arith, nat_tests)
 
-few_enough : (bytes : List ℕ) → length bytes ≤ max_bytes → nat_le (length bytes) max_bytes ≡ true
-few_enough bytes h = grind (arith, nat_tests)
+-- a text that is too long is refused as a whole
+abbrev pub too_long : ScriptRefusal
+too_long = record { card = 0; cause = TooLong }
 
-pub long_is_none : (bytes : List ℕ) → 4194305 ≤ length bytes → script_of bytes ≡ None
+pub long_is_refused : (bytes : List ℕ) → 4194305 ≤ length bytes → script_of bytes ≡ Err too_long
 unfolding script_of
-long_is_none bytes h = rw (too_many bytes h) refl
+long_is_refused bytes h = rw (too_many bytes h) refl
 
-long_cause : (bytes : List ℕ) → 4194305 ≤ length bytes → refusal_cause bytes ≡ 8
-long_cause bytes h = rw (refusal_cause, too_many bytes h) refl
-
-short_cause : (bytes : List ℕ) → length bytes ≤ max_bytes → refusal_cause bytes ≡ 9
-short_cause bytes h = rw (refusal_cause, few_enough bytes h) refl
-
-long_read : (left rest : Option (List ℕ)) (bytes : List ℕ) → length bytes ≡ 4194305 → left ≡ before bytes rest → IsNoScript left rest bytes
+long_read : (left rest : Option (List ℕ)) (bytes : List ℕ) → length bytes ≡ 4194305 → left ≡ before bytes rest → IsRefused left rest bytes too_long
 long_read left rest bytes size came =
-    record { came = came; whole = λ h. absurd (omega (arith, size, h)); none = long_is_none bytes (omega (arith, size)) }
+    record { came = came; whole = λ h. absurd (omega (arith, size, h)); refused = long_is_refused bytes (omega (arith, size)) }
 
 pub refused_long : (left rest held now : Option (List ℕ)) (o : Outcome) → ShrankBy 4194305 left rest → o ≡ bare 2 0 8 → now ≡ after held (script_refused 0 8) → ScriptIsRefused left rest held now o
 refused_long left rest held now o gone is told =
-    let cause = long_cause gone.0 (omega (arith, gone.1)) in
+    record { bytes = gone.0; refusal = too_long; read = long_read left rest gone.0 gone.1 gone.2; outcome = is; told = told }
+
+pub refused_short : (left rest held now : Option (List ℕ)) (o : Outcome) (bytes : List ℕ) (refusal : ScriptRefusal) (number : ℕ) → left ≡ before bytes rest → IsAtEnd rest → script_of bytes ≡ Err refusal
+    → number ≡ cause_number refusal.cause → o ≡ bare 2 refusal.card number → now ≡ after held (script_refused refusal.card number) → ScriptIsRefused left rest held now o
+refused_short left rest held now o bytes refusal number came whole refused why is told =
     record {
-      bytes = gone.0;
-      read = long_read left rest gone.0 gone.1 gone.2;
-      outcome = is ∙ ap (bare 2 0) (sym cause);
-      told = told ∙ ap (λ (n : ℕ). after held (script_refused 0 n)) (sym cause);
+      bytes = bytes;
+      refusal = refusal;
+      read = record { came = came; whole = λ h. whole; refused = refused };
+      outcome = is ∙ ap (bare 2 refusal.card) why;
+      told = told ∙ ap (λ (n : ℕ). after held (script_refused refusal.card n)) why;
     }
 
 -- a refusal that was cut off
-cut_refusal : (tells : Bool) (words : List (List ℕ)) → mode_of words ≡ Some Replay → (left rest held now : Option (List ℕ)) (o : Outcome) (bytes : List ℕ) (cause : ℕ) → IsNoScript left rest bytes → refusal_cause bytes ≡ cause → o ≡ bare 4 0 0 → GrewByProperPrefix held (script_refused 0 cause) now → IsCutOff tells words left rest held now o
-cut_refusal tells words asked left rest held now o bytes cause read why is part =
+cut_refusal : (tells : Bool) (words : List (List ℕ)) (mode : Mode) → mode_of words ≡ Some mode → reads_script mode ≡ true → (left rest held now : Option (List ℕ)) (was has : Option CallList) (o : Outcome) (bytes : List ℕ) (refusal : ScriptRefusal)
+    → IsRefused left rest bytes refusal → o ≡ bare 4 0 0 → GrewByProperPrefix held (script_refused refusal.card (cause_number refusal.cause)) now → IsCutOff tells words left rest held now was has o
+cut_refusal tells words mode asked reads left rest held now was has o bytes refusal read is part =
     record {
-      text = script_refused 0 cause;
-      said = OfRefusal asked bytes read (ap (λ (x : Outcome). x.run) is) (ap (script_refused 0) (sym why));
+      text = script_refused refusal.card (cause_number refusal.cause);
+      said = OfRefusal mode asked reads bytes refusal read (ap (λ (x : Outcome). x.run) is) refl;
       part = part;
       card = ap (λ (x : Outcome). x.card) is;
       cause = ap (λ (x : Outcome). x.cause) is;
     }
 
-pub cut_long : (tells : Bool) (words : List (List ℕ)) → mode_of words ≡ Some Replay → (left rest held now : Option (List ℕ)) (o : Outcome) → ShrankBy 4194305 left rest → o ≡ bare 4 0 0 → GrewByProperPrefix held (script_refused 0 8) now → IsCutOff tells words left rest held now o
-cut_long tells words asked left rest held now o gone is part =
-    cut_refusal tells words asked left rest held now o gone.0 8 (long_read left rest gone.0 gone.1 gone.2) (long_cause gone.0 (omega (arith, gone.1))) is part
+pub cut_long : (tells : Bool) (words : List (List ℕ)) (mode : Mode) → mode_of words ≡ Some mode → reads_script mode ≡ true → (left rest held now : Option (List ℕ)) (was has : Option CallList) (o : Outcome)
+    → ShrankBy 4194305 left rest → o ≡ bare 4 0 0 → GrewByProperPrefix held (script_refused 0 8) now → IsCutOff tells words left rest held now was has o
+cut_long tells words mode asked reads left rest held now was has o gone is part =
+    cut_refusal tells words mode asked reads left rest held now was has o gone.0 too_long (long_read left rest gone.0 gone.1 gone.2) is part
 
-pub cut_short : (tells : Bool) (words : List (List ℕ)) → mode_of words ≡ Some Replay → (left rest held now : Option (List ℕ)) (o : Outcome) (bytes : List ℕ) (card cause : ℕ) → left ≡ before bytes rest → IsAtEnd rest → length bytes ≤ max_bytes
-    → (card ≡ 0) × (cause ≡ 9) × (script_of bytes ≡ None) → o ≡ bare 4 0 0 → GrewByProperPrefix held (script_refused card cause) now → IsCutOff tells words left rest held now o
-cut_short tells words asked left rest held now o bytes card cause came whole size refused is part =
-    cut_refusal tells words asked left rest held now o bytes 9 (record { came = came; whole = λ h. whole; none = refused.2 }) (short_cause bytes size) is
-    (subst (λ (n : ℕ). GrewByProperPrefix held (script_refused 0 n) now) refused.1 (subst (λ (n : ℕ). GrewByProperPrefix held (script_refused n cause) now) refused.0 part))
+pub cut_short : (tells : Bool) (words : List (List ℕ)) (mode : Mode) → mode_of words ≡ Some mode → reads_script mode ≡ true → (left rest held now : Option (List ℕ)) (was has : Option CallList) (o : Outcome) (bytes : List ℕ) (refusal : ScriptRefusal) (number : ℕ)
+    → left ≡ before bytes rest → IsAtEnd rest → script_of bytes ≡ Err refusal → number ≡ cause_number refusal.cause → o ≡ bare 4 0 0 → GrewByProperPrefix held (script_refused refusal.card number) now
+    → IsCutOff tells words left rest held now was has o
+cut_short tells words mode asked reads left rest held now was has o bytes refusal number came whole refused why is part =
+    cut_refusal tells words mode asked reads left rest held now was has o bytes refusal (record { came = came; whole = λ h. whole; refused = refused }) is
+    (subst (λ (n : ℕ). GrewByProperPrefix held (script_refused refusal.card n) now) why part)
 
-pub cut_report : (tells : Bool) (words : List (List ℕ)) → mode_of words ≡ Some Replay → (left rest held now : Option (List ℕ)) (o : Outcome) (bytes : List ℕ) (script : Script) → left ≡ before bytes rest → IsAtEnd rest → script_of bytes ≡ Some script → (tells ≡ true → o.run ≡ record_of script) → (o.card ≡ 0) × (o.cause ≡ 0) → GrewByProperPrefix held (report_of script o.run false) now → IsCutOff tells words left rest held now o
-cut_report tells words asked left rest held now o bytes script came whole spelled run numbers part =
+-- the script of bytes that came, in a mode that reads it
+pub comes_read : (mode : Mode) → reads_script mode ≡ true → (left rest : Option (List ℕ)) (bytes : List ℕ) (script : Script) → left ≡ before bytes rest → IsAtEnd rest → script_of bytes ≡ Ok script → Comes mode left rest script
+comes_read Replay reads left rest bytes script came whole spelled = record { bytes = bytes; came = came; whole = whole; spelled = spelled }
+comes_read Dump reads left rest bytes script came whole spelled = record { bytes = bytes; came = came; whole = whole; spelled = spelled }
+comes_read (Load n) reads left rest bytes script came whole spelled = cc
+comes_read Asm reads left rest bytes script came whole spelled = cc
+
+-- a mode that reads a script runs it
+pub reads_runs : (mode : Mode) → reads_script mode ≡ true → runs_script mode ≡ true
+reads_runs Replay reads = refl
+reads_runs Dump reads = refl
+reads_runs (Load n) reads = refl
+reads_runs Asm reads = reads
+
+pub is_run : (mode : Mode) (tells : Bool) (left rest held now : Option (List ℕ)) (was has : Option CallList) (o : Outcome) (script : Script) → Comes mode left rest script
+    → (tells ≡ true → o.run ≡ record_of script) → IsCounted [] o.run.entries was has → now ≡ after held (text_for mode script o.run) → IsRun mode tells left rest held now was has o
+is_run mode tells left rest held now was has o script comes run counted told =
     record {
-      text = report_of script o.run false;
-      said = OfReport asked bytes script came whole spelled run refl;
+      script = script;
+      comes = comes;
+      told = told;
+      run = run;
+      alone = λ t. subst (EachIsAlone script) (sym (run t)) (users_are_alone script);
+      counted = counted;
+    }
+
+pub cut_run : (tells : Bool) (words : List (List ℕ)) (mode : Mode) → mode_of words ≡ Some mode → (left rest held now : Option (List ℕ)) (was has : Option CallList) (o : Outcome) (script : Script) → Comes mode left rest script
+    → (tells ≡ true → o.run ≡ record_of script) → IsCounted [] o.run.entries was has → (o.card ≡ 0) × (o.cause ≡ 0) → GrewByProperPrefix held (text_for mode script o.run) now → IsCutOff tells words left rest held now was has o
+cut_run tells words mode asked left rest held now was has o script comes run counted numbers part =
+    record {
+      text = text_for mode script o.run;
+      said = OfRun mode asked script comes run counted refl;
       part = part;
       card = numbers.0;
       cause = numbers.1;
     }
 
-pub is_replayed : (tells : Bool) (left rest held now : Option (List ℕ)) (o : Outcome) (bytes : List ℕ) (script : Script) → left ≡ before bytes rest → IsAtEnd rest → script_of bytes ≡ Some script → (tells ≡ true → o.run ≡ record_of script) → now ≡ after held (report_of script o.run false) → Replayed tells left rest held now o
-is_replayed tells left rest held now o bytes script came whole spelled run report =
+pub is_stopped : (words : List (List ℕ)) (mode : Mode) (tells : Bool) (left rest held now : Option (List ℕ)) (was has : Option CallList) (o : Outcome) (script : Script) → mode_of words ≡ Some mode → Comes mode left rest script
+    → now ≡ held → (tells ≡ true → IsStopped script o.run was has) → (o.card ≡ 0) × (o.cause ≡ 0) → RunIsStopped words tells left rest held now was has o
+is_stopped words mode tells left rest held now was has o script asked comes silent stopped numbers =
     record {
-      bytes = bytes;
+      mode = mode;
+      asked = asked;
       script = script;
-      came = came;
-      whole = whole;
-      spelled = spelled;
-      report = report;
-      run = run;
-      alone = λ told. subst (EachIsAlone script) (sym (run told)) (users_are_alone script);
-    }
-
-pub is_stopped : (tells : Bool) (left rest held now : Option (List ℕ)) (o : Outcome) (bytes : List ℕ) (script : Script) → left ≡ before bytes rest → IsAtEnd rest → script_of bytes ≡ Some script → now ≡ held → (tells ≡ true → IsStopped script o.run) → (o.card ≡ 0) × (o.cause ≡ 0) → RunIsStopped tells left rest held now o
-is_stopped tells left rest held now o bytes script came whole spelled silent stopped numbers =
-    record {
-      bytes = bytes;
-      script = script;
-      came = came;
-      whole = whole;
-      spelled = spelled;
+      comes = comes;
       silent = silent;
       stopped = stopped;
       card = numbers.0;
       cause = numbers.1;
     }
+
+-- a script that is made of a number comes without reading
+pub comes_made : (n : ℕ) (left : Option (List ℕ)) (script : Script) → script ≡ made_script n → Comes (Load n) left left script
+comes_made n left script made = record { unread = refl; made = made }
 
 -- what is true of all bytes that came is true of those that were told
 pub of_told : (left rest : Option (List ℕ)) (bytes : List ℕ) (P : List ℕ → Type 0) → left ≡ before bytes rest → IsAtEnd rest → P bytes → WhereTold left P
@@ -132,33 +158,28 @@ Allows status bytes = list_any (nat_eq status) (statuses_for (script_of bytes)) 
 
 pub told_long : (left : Option (List ℕ)) (status : ℕ) → HasAtLeast 4194305 left → list_any (nat_eq status) (2 ∷ 4 ∷ 8 ∷ []) ≡ true → WhereTold left (Allows status)
 told_long None status h is = tt
-told_long (Some bytes) status h is = rw (long_is_none bytes h) (refused_status status is)
+told_long (Some bytes) status h is = rw (long_is_refused bytes h) (refused_status status is)
 
-by_said : (status : ℕ) → ((said : Option Script) → list_any (nat_eq status) (statuses_for said) ≡ true) → (left : Option (List ℕ)) → WhereTold left (Allows status)
+by_said : (status : ℕ) → ((said : Result Script ScriptRefusal) → list_any (nat_eq status) (statuses_for said) ≡ true) → (left : Option (List ℕ)) → WhereTold left (Allows status)
 by_said status h None = tt
 by_said status h (Some bytes) = h (script_of bytes)
 
 pub told_unread : (left : Option (List ℕ)) → WhereTold left (Allows 3)
 told_unread left = by_said 3 (λ said. at_3 said) left
   where
-    at_3 : (said : Option Script) → list_any (nat_eq 3) (statuses_for said) ≡ true
-    at_3 None = refl
-    at_3 (Some s) = refl
+    at_3 : (said : Result Script ScriptRefusal) → list_any (nat_eq 3) (statuses_for said) ≡ true
+    at_3 (Err r) = refl
+    at_3 (Ok s) = refl
 
 pub told_no_memory : (left : Option (List ℕ)) → WhereTold left (Allows 8)
 told_no_memory left = by_said 8 (λ said. at_8 said) left
   where
-    at_8 : (said : Option Script) → list_any (nat_eq 8) (statuses_for said) ≡ true
-    at_8 None = refl
-    at_8 (Some s) = refl
+    at_8 : (said : Result Script ScriptRefusal) → list_any (nat_eq 8) (statuses_for said) ≡ true
+    at_8 (Err r) = refl
+    at_8 (Ok s) = refl
 
-pub allows_refused : (status : ℕ) (bytes : List ℕ) → script_of bytes ≡ None → list_any (nat_eq status) (2 ∷ 4 ∷ 8 ∷ []) ≡ true → Allows status bytes
-allows_refused status bytes none h = rw none (refused_status status h)
+pub allows_refused : (status : ℕ) (bytes : List ℕ) (refusal : ScriptRefusal) → script_of bytes ≡ Err refusal → list_any (nat_eq status) (2 ∷ 4 ∷ 8 ∷ []) ≡ true → Allows status bytes
+allows_refused status bytes refusal refused h = rw refused (refused_status status h)
 
-pub allows_done : (status : ℕ) (bytes : List ℕ) (script : Script) → script_of bytes ≡ Some script → list_any (nat_eq status) (0 ∷ 4 ∷ 5 ∷ 8 ∷ []) ≡ true → Allows status bytes
+pub allows_done : (status : ℕ) (bytes : List ℕ) (script : Script) → script_of bytes ≡ Ok script → list_any (nat_eq status) (0 ∷ 4 ∷ 5 ∷ 8 ∷ []) ≡ true → Allows status bytes
 allows_done status bytes script spelled h = rw spelled (done_status status h)
-
--- of words that ask for a replay
-pub lawful : (mode : Option Mode) (status : ℕ) (left : Option (List ℕ)) → mode ≡ Some Replay → WhereTold left (Allows status)
-    → WhereTold left (λ bytes. list_any (nat_eq status) (statuses_of mode bytes) ≡ true)
-lawful mode status left asked told = subst (λ (m : Option Mode). WhereTold left (λ bytes. list_any (nat_eq status) (statuses_of m bytes) ≡ true)) (sym asked) told

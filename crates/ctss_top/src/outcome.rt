@@ -15,8 +15,8 @@ use std::alloc::Global;
 /// - 8: memory ran out
 /// - 9: the cards are at fault
 ///
-/// `card` and `cause` are 0 but for status 2. `run` is the record with status 0, and with 4 where a report was cut
-/// off; with 5 that of the steps so far, without files; else it is empty.
+/// `card` and `cause` are 0 but for status 2. `run` is the record with status 0 (none for cards), and with 4 where the text of
+/// a run was cut off; with 5 that of the steps so far, without files; else it is empty.
 #[derive(Debug, Drop)]
 pub struct Outcome {
     pub status: u8,

@@ -10,7 +10,8 @@ ghost use Rattle.text_model.specs.Reading.{IsInRange};
 ghost use Rattle.system_model.specs.Record.{start_of};
 ghost use Rattle.supervisor.specs.Seen.{run_with};
 ghost use Rattle.supervisor.specs.Steps.{Ends};
-ghost use Rattle.ctss_top.specs.Played.{IsPlayed, Faulted, HasCores, Reaches, Stops};
+ghost use Rattle.supervisor.specs.Counts.{IsCounted};
+ghost use Rattle.ctss_top.specs.Played.{IsPlayed, Counts, Faulted, HasCores, Reaches, Stops};
 
 use core_bank::Bank;
 use ctss_types::{Account, NoMemory, Record, RunFault, Script};
@@ -72,7 +73,8 @@ fn run_to<D: Medium>(
     requires cores { HasCores supervisor.old slots.quotas.items }
     ensures ended { is_some (D.rows drum.old) ≡ true → Ends result
         (Reaches limit (run_with no_places supervisor.old) supervisor.new) ⊤
-        (Stops limit (run_with no_places supervisor.old) supervisor.new) }
+        (Stops limit (run_with no_places supervisor.old) supervisor.new (D.calls drum.old) (D.calls drum.new)) }
+    ensures counted { Ends result (IsCounted supervisor.old.entries supervisor.new.entries (D.calls drum.old) (D.calls drum.new)) ⊤ ⊤ }
     ensures cause { Ends result ⊤ ⊤ (Rose (D.faults drum.old) (D.faults drum.new)) }
 {
     let mut cores = first_cores(drum, slots, bank, sizes);
@@ -89,7 +91,8 @@ pub fn record_script<D: Medium>(
 ) -> Result<Played, NoMemory>
     requires range { IsInRange script.now }
     requires serves { Serves (D.rows drum.old) (D.record_count drum.old) (D.words_each drum.old) 3840 }
-    ensures played { is_some (D.rows drum.old) ≡ true → IfOk result (λ p. IsPlayed script.now p) }
+    ensures played { is_some (D.rows drum.old) ≡ true → IfOk result (λ p. IsPlayed script.now (D.calls drum.old) (D.calls drum.new) p) }
+    ensures counted { IfOk result (λ p. Counts (D.calls drum.old) (D.calls drum.new) p) }
     ensures cause { IfOk result (λ p. Faulted p (Rose (D.faults drum.old) (D.faults drum.new))) }
 {
     let mut supervisor = opened(alloc, script)?;

@@ -89,18 +89,33 @@ fn faults_of_source_and_sink(rt: HostRuntime) -> Result<(), Fail> {
     faulty(&rt, rt.alloc(), &[1], &[], 3, b"")
 }
 
+/// The cause of a refusal, with its text.
+fn refused(
+    rt: &impl Abort,
+    alloc: Global,
+    script: &[u8],
+    card: u32,
+    cause: u8,
+    want: &[u8],
+) -> Result<(), Fail> {
+    let mut drum = MemoryMedium::new(alloc, 3840, 256, &[], &[], 0)?;
+    let words = words(alloc, "replay")?;
+    let outcome = gives(rt, alloc, &words, script, &mut drum, 2, want)?;
+    assert_eq!(rt; (outcome.card, outcome.cause), (card, cause));
+    Ok(())
+}
+
 #[test]
 fn refusals(rt: HostRuntime) -> Result<(), Fail> {
     let alloc = rt.alloc();
-    let mut drum = MemoryMedium::new(alloc, 3840, 256, &[], &[], 0)?;
+    let falls = b"PARAM 1024 100 10 0 0 0\n* a comment\nAT 2 1 DIAL\nAT 1 1 QUIT\n";
+    refused(&rt, alloc, falls, 4, 2, b"SCRIPT REFUSED AT CARD 4: 2\n")?;
+    let open = b"PARAM 1024 100 10 0 0 0\r\n";
+    refused(&rt, alloc, open, 2, 7, b"SCRIPT REFUSED AT CARD 2: 7\n")?;
     let mut words = words(alloc, "replay")?;
-    let script = b"PARAM 1024 100 10 0 0 0\nEND 0\r\n";
-    let refused = b"SCRIPT REFUSED AT CARD 0: 9\n";
-    let outcome = gives(&rt, alloc, &words, script, &mut drum, 2, refused)?;
-    assert_eq!(rt; (outcome.card, outcome.cause), (0, 9));
     words.add("now")?;
     let mut drum = MemoryMedium::new(alloc, 3840, 256, &[], &[], 0)?;
-    gives(&rt, alloc, &words, script, &mut drum, 1, b"WORDS REFUSED\n")?;
+    gives(&rt, alloc, &words, open, &mut drum, 1, b"WORDS REFUSED\n")?;
     Ok(())
 }
 

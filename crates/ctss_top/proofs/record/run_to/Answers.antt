@@ -1,5 +1,5 @@
-use Rattle.std.proofs.Common.{◌≡◌, ◌∙◌}
-use Rattle.ctss_top.proofs.Playing.{tied_first, played}
+use Rattle.std.proofs.Common.{◌≡◌, ◌∙◌, ap, rules}
+use Rattle.ctss_top.proofs.Playing.{tied_first, played, counted_from, stops_from}
 use Rattle.ctss_top.proofs.record.run_to.Goals as goal
 
 pub advance-ended-requires-clause-tied : goal.advance-ended-requires-clause-tied
@@ -8,5 +8,12 @@ advance-ended-requires-clause-tied g c =
 
 pub returns-clause-ended : goal.returns-clause-ended
 returns-clause-ended g c = λ told.
-    played c.advance-ended.result c.args.limit c.args.supervisor.now c.advance-ended.new.self c.args.slots.quotas.items _ _ _ _ _ _ _ c.requires.cores
-    c.first_cores-cores.ensures.words c.first_cores-cores.ensures.places (c.first_cores-cores.ensures.tells ∙ told) c.advance-ended.ensures.ended
+    stops_from c.advance-ended.result c.args.limit _ c.advance-ended.new.self (g.D.Medium.calls c.first_cores-cores.result.tables.kept.drum.now) (g.D.Medium.calls c.advance-ended.new.cores.tables.kept.drum.now) _ _
+    (ap g.D.Medium.calls c.first_cores-cores.ensures.now) (search rules)
+    (played c.advance-ended.result c.args.limit c.args.supervisor.now c.advance-ended.new.self c.args.slots.quotas.items _ _ _ _ _ _ _ _ _ c.requires.cores
+    c.first_cores-cores.ensures.words c.first_cores-cores.ensures.places (c.first_cores-cores.ensures.tells ∙ told) c.advance-ended.ensures.ended)
+
+pub returns-clause-counted : goal.returns-clause-counted
+returns-clause-counted g c =
+    counted_from c.advance-ended.result c.args.supervisor.now.entries c.advance-ended.new.self.entries (g.D.Medium.calls c.first_cores-cores.result.tables.kept.drum.now) (g.D.Medium.calls c.advance-ended.new.cores.tables.kept.drum.now) _ _ _
+    (ap g.D.Medium.calls c.first_cores-cores.ensures.now) (search rules) c.advance-ended.ensures.counted

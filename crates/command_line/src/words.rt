@@ -1,0 +1,78 @@
+ghost use Rattle.std.specs.Prelude.{◌≡◌, ◌++◌, ◌∷◌, [], IfOk, map, string_bytes, OnOk, OnErr};
+ghost use Rattle.std.specs.List.{list_any};
+ghost use Rattle.text_model.specs.Words.{is_option, mode_of};
+
+use crate::command::matches_of;
+use crate::named::mode_at;
+use ctss_types::NoMemory;
+use std::alloc::Global;
+use std::marker::Model;
+use text_model::Mode;
+
+/// The words of a command line behind the program's own name.
+#[derive(Debug, Drop)]
+pub struct ArgList {
+    alloc: Global,
+    words: Vec<String>,
+}
+
+impl Model for ArgList {
+    ghost use Rattle.std.specs.Prelude.{List, ℕ, map, string_bytes};
+
+    ghost Value = { List (List ℕ) };
+
+    ghost view = { λ a. map string_bytes a.words.items };
+}
+
+impl ArgList {
+    /// No word yet.
+    pub fn new(alloc: Global) -> ArgList
+        ensures { result ≡ [] }
+    {
+        ArgList {
+            alloc,
+            words: Vec::new(alloc),
+        }
+    }
+
+    /// A word more, at the end.
+    pub fn add(&mut self, word: &str) -> Result<(), NoMemory>
+        ensures ok { OnOk result (self.new ≡ self.old ++ word.now ∷ []) }
+        ensures err { OnErr result (self.new ≡ self.old) }
+    {
+        let word = String::from_str(self.alloc, word)?;
+        self.words.push(word)?;
+        Ok(())
+    }
+
+    /// What the words ask for, if they are lawful. It may want memory.
+    pub fn mode(&self) -> Result<Option<Mode>, NoMemory>
+        ensures { IfOk result (λ mode. mode ≡ mode_of self.now) }
+    {
+        let words = self.words.as_slice();
+        if has_option(words) {
+            return Ok(None);
+        }
+        match matches_of(self.alloc, words)? {
+            Some(matches) => Ok(mode_at(matches.get_str("MODE"), matches.get_str("NUMBER"))),
+            None => Ok(None),
+        }
+    }
+}
+
+/// Whether a word begins with `-`.
+fn is_option(word: &str) -> bool
+    ensures { result ≡ is_option word.now }
+{
+    match word.as_bytes() {
+        [b, ..] => *b == b'-',
+        [] => false,
+    }
+}
+
+/// Whether one of the words begins with `-`.
+fn has_option(words: &[String]) -> bool
+    ensures { result ≡ list_any (λ word. is_option (string_bytes word)) words.now }
+{
+    words.iter().any(|word| is_option(word.as_str()))
+}

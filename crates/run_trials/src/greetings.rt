@@ -42,6 +42,49 @@ fn a_program_writes_and_ends(rt: HostRuntime) -> Result<(), Fail> {
     replays(&rt, rt.alloc(), HELLO, HELLO_REPORT)
 }
 
+// The last 14 words of the program are a T card's, and it writes them.
+static HI: &[u8] = b"PARAM 1024 100 10 8 20 5
+USER 1 ALFA SESAME 8 10
+FILE 1 HI BSS 1
+O 000000000001 000025000000 007400400003 000016000007 007400400004
+O 010100000005 010100000006 665126436760 242521246060
+T HI
+AT 0 1 DIAL
+AT 0 1 LINE LOGIN ALFA
+AT 0 1 LINE SESAME
+AT 5 1 LINE LOADGO HI
+END 2000
+";
+
+static HI_REPORT: &[u8] = b"USER 1 ALFA
+O ALFA LOGGED IN
+I LOADGO HI
+O W 0000.0
+O HI
+O R 6
+FILES 1 ALFA
+HI     BSS    1      23
+COMMON
+SCHEDULE
+TAKEN 0 1 DIAL 0 0
+TAKEN 0 1 LINE 0 0
+TAKEN 0 1 LINE 0 0
+LOGIN 0 1 1
+IDLE 0 5
+TAKEN 5 1 LINE 1 0
+CLOCK 5 1
+SERVE 5 1 1 1 SIZE
+SWAP 6 1 0 0 1
+SERVE 6 1 0 5 STOP
+IDLE 11 2000
+END 2000
+";
+
+#[test]
+fn a_card_of_text_is_written(rt: HostRuntime) -> Result<(), Fail> {
+    replays(&rt, rt.alloc(), HI, HI_REPORT)
+}
+
 static LINE_AND_QUIT: &[u8] = b"PARAM 1024 100 10 8 20 5
 USER 1 ALFA SESAME 8 10
 FILE 1 SAY BSS 1

@@ -1,5 +1,5 @@
 -- What follows from cards that were read, and from what was written of them.
-use Rattle.std.proofs.Common.{◌≡◌, ◌≢◌, ℕ, ◌≤◌, ◌<◌, Bool, true, false, cond, ◌||◌, nat_eq, nat_le, List, [], ◌∷◌, ◌++◌, length, map, Option, Some, None, refl, sym, ap, subst, ◌∙◌, append-nil, arith}
+use Rattle.std.proofs.Common.{◌≡◌, ℕ, ◌≤◌, Bool, true, false, cond, nat_eq, nat_le, List, [], ◌∷◌, ◌++◌, length, Option, Some, None, refl, sym, ap, subst, arith}
 use Rattle.std.specs.List.{list_any, flat_map}
 use Rattle.std.proofs.lemmas.Bool.Decides.{nat_tests}
 use Rattle.faults.specs.Faults.{WhereTold}
@@ -14,9 +14,9 @@ use Rattle.text_model.specs.declared.mode.Mode.TheVariants.{Asm}
 use Rattle.text_model.specs.Words.{mode_of, fault_line, faults_text, script_refused}
 use Rattle.text_model.specs.Reading.{max_bytes}
 use Rattle.ctss_top.specs.declared.outcome.Outcome.{Outcome}
-use Rattle.ctss_top.specs.Outcomes.{bare, empty_record}
+use Rattle.ctss_top.specs.Outcomes.{bare}
 use Rattle.ctss_top.specs.Asm.{assembled_from, IsInput, IsTooLong, IsDeckOf, AreFaultsOf, DeckIsWritten, CardsAreRefused, InputIsTooLong, IsTextOfBytes, DeckOf, FaultsOf, IsTextOfCards, OfDeck, OfFaults, OfLong, IsCutOfCards, CardsAreCutOff, statuses_by, statuses_for_cards}
-use Rattle.ctss_top.specs.Top.{IsTextOf, OfCards, IsCutOff, statuses_of}
+use Rattle.ctss_top.specs.Top.{OfCards, IsCutOff, statuses_of}
 
 pub faults_joined : (fs : List CardFault) → flat_map (λ (f : CardFault). fault_line (f.card, f.number)) fs ≡ faults_text (numbered fs)
 faults_joined [] = refl

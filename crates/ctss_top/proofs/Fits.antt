@@ -1,7 +1,6 @@
 -- Scripts that are read fit what a supervisor asks.
-use Rattle.std.proofs.Common.{◌≡◌, ℕ, zero, suc, ◌+◌, ◌-◌, ◌<◌, ◌≤◌, Bool, true, false, not, ◌&&◌, ◌||◌, List, [], ◌∷◌, map, length, get_or, refl, sym, ap, subst, ◌∙◌, arith}
-use Rattle.std.specs.Prelude.{sum}
-use Rattle.std.specs.List.{All, IsDistinct, AllByRecursion, list_any}
+use Rattle.std.proofs.Common.{◌≡◌, ℕ, zero, suc, ◌+◌, ◌-◌, ◌<◌, ◌≤◌, Bool, true, false, not, ◌&&◌, ◌||◌, List, [], ◌∷◌, map, length, get_or, refl, ap, subst, ◌∙◌, arith}
+use Rattle.std.specs.List.{IsDistinct, AllByRecursion, list_any}
 use Rattle.ctss_types.specs.declared.script.Script.{Script}
 use Rattle.ctss_types.specs.declared.script.Account.{Account}
 use Rattle.ctss_types.specs.declared.file.FileBody.{FileBody}
@@ -9,7 +8,6 @@ use Rattle.ctss_types.specs.declared.file.OwnedFile.{OwnedFile}
 use Rattle.file_model.specs.Files.{same_name, tracks_of}
 use Rattle.file_model.specs.Owned.{files_of}
 use Rattle.file_map.specs.Directory.{NamesDiffer}
-use Rattle.text_model.specs.Drafts.{quota_of}
 use Rattle.text_model.specs.Reading.{IsInRange, names_differ}
 use Rattle.supervisor.specs.Seen.{AreFit}
 

@@ -1,17 +1,16 @@
 -- From the run of the supervisor over users' cores to the record of a script.
-use Rattle.std.proofs.Common.{◌≡◌, ◌≢◌, ℕ, zero, suc, ◌+◌, ◌-◌, ◌<◌, ◌≤◌, Bool, true, false, not, ◌&&◌, List, [], ◌∷◌, ◌++◌, map, length, replicate, get_or, Option, Some, None, Ok, Err, refl, sym, ap, subst, ◌∙◌, arith, sum}
-use Rattle.std.specs.Prelude.{⊤, slice_index_or, nat_eq}
-use Rattle.std.specs.List.{All, IsDistinct, list_any}
+use Rattle.std.proofs.Common.{◌≡◌, ℕ, zero, suc, ◌-◌, ◌<◌, ◌≤◌, List, [], ◌∷◌, ◌++◌, map, length, replicate, get_or, Option, Some, None, Ok, Err, refl, sym, ap, subst, ◌∙◌, arith}
+use Rattle.std.specs.Prelude.{⊤, slice_index_or}
+use Rattle.std.specs.List.{All}
 use Rattle.std.specs.declared.result.Result.{Result}
 use Rattle.std.proofs.lemmas.List.{length-map}
 use Rattle.ctss_types.specs.declared.fault.RunFault.{RunFault}
-use Rattle.ctss_types.specs.declared.fault.RunFault.TheVariants.{Drum, Disk, NoMemory}
+use Rattle.ctss_types.specs.declared.fault.RunFault.TheVariants.{Drum}
 use Rattle.ctss_types.specs.declared.script.Script.{Script}
 use Rattle.ctss_types.specs.declared.script.Account.{Account}
 use Rattle.ctss_types.specs.declared.file.FileBody.{FileBody}
 use Rattle.ctss_types.specs.declared.file.OwnedFile.{OwnedFile}
 use Rattle.ctss_types.specs.declared.history.Record.{Record}
-use Rattle.time_sharing.specs.Machine.{Item}
 use Rattle.drum_slots.specs.Keys.{quota_of}
 use Rattle.image_map.specs.Images.{size_of}
 use Rattle.image_map.proofs.Moves.{none_in}
@@ -20,7 +19,7 @@ use Rattle.user_model.specs.Inner.{blocks_of}
 use Rattle.user_model.specs.User.{User}
 use Rattle.plan_model.specs.Loads.{Places, no_places}
 use Rattle.system_model.specs.Run.{Run, run_to, AfterSteps, ended}
-use Rattle.system_model.specs.Cases.{user_at, closed, end_notes, idle_notes}
+use Rattle.system_model.specs.Cases.{closed, end_notes, idle_notes}
 use Rattle.system_model.specs.Joined.{joined, with_cores}
 use Rattle.system_model.specs.Record.{start_of, record_of, record_from, users_from}
 use Rattle.system_model.proofs.CaseLaws.{closes}
@@ -32,7 +31,7 @@ use Rattle.schedule_model.specs.Sums.{dumped_in, read_in}
 use Rattle.system_model.proofs.SwapLaws.{dumped-append, read-append}
 use Rattle.supervisor.specs.Seen.{Bare, run_with, record_so_far}
 use Rattle.supervisor.specs.Counts.{IsCounted, IsCountedToLoad, calls_to_load}
-use Rattle.supervisor.specs.Steps.{IsTied, HasRun, HasRunPart, HasRunToLoad, StopsAtLoad, Ends, Fails}
+use Rattle.supervisor.specs.Steps.{IsTied, StopsAtLoad, Ends, Fails}
 use Rattle.supervisor.proofs.Running.{transcripts_same}
 use Rattle.supervisor.proofs.Serving.{ends_map}
 use Rattle.file_model.specs.Owned.{files_of}
@@ -202,26 +201,29 @@ counted_at_end had b was now h =
     }
 
 -- no entry stands in the state that a script starts with
-no_entry : (script : Script) (b : Bare) → run_with no_places b ≡ start_of script → b.entries ≡ []
+pub no_entry : (script : Script) (b : Bare) → run_with no_places b ≡ start_of script → b.entries ≡ []
 no_entry script b is = ap (λ (r : Run). r.system.entries) is ∙ none_at_start script
 
 -- the calls of a whole run
-pub counted_done : (script : Script) (old new : Bare) (rec : Record) (was now : Option CallList) → run_with no_places old ≡ start_of script → rec ≡ record_from (ended (run_with no_places new))
-    → IsCounted old.entries new.entries was now → IsCounted [] rec.entries was now
-counted_done script old new rec was now start is h =
-    subst (λ (r : Record). IsCounted [] r.entries was now) (sym is)
-    (counted_at_end [] new was now (subst (λ (es : List Entry). IsCounted es new.entries was now) (no_entry script old start) h))
+pub counted_done : (new : Bare) (rec : Record) (was now : Option CallList) → rec ≡ record_from (ended (run_with no_places new)) → IsCounted [] new.entries was now → IsCounted [] rec.entries was now
+counted_done new rec was now is h = subst (λ (r : Record). IsCounted [] r.entries was now) (sym is) (counted_at_end [] new was now h)
 
 -- a run that stopped
-pub stopped_is : (script : Script) (old new : Bare) (rec : Record) (was now : Option CallList) → run_with no_places old ≡ start_of script → rec ≡ record_so_far (run_with no_places new)
-    → Stops script.end (run_with no_places old) new was now → IsStopped script rec was now
-stopped_is script old new rec was now start is s =
+pub stopped_is : (script : Script) (new : Bare) (rec : Record) (was now : Option CallList) → rec ≡ record_so_far (run_with no_places new) → Stops script.end (start_of script) new was now → IsStopped script rec was now
+stopped_is script new rec was now is s =
     record {
       at = s.at;
-      part = subst (λ (r : Run). AfterSteps script.end r s.at) start s.part;
+      part = s.part;
       load = s.load;
       shown = is ∙ s.shown;
       counted =
           subst (λ (es : List Entry). IsCountedToLoad [] es was now (calls_to_load s.load.due.user s.at)) (sym (ap (λ (r : Record). r.entries) is))
-          (subst (λ (es : List Entry). IsCountedToLoad es new.entries was now (calls_to_load s.load.due.user s.at)) (no_entry script old start) s.counted);
+          (subst (λ (es : List Entry). IsCountedToLoad es new.entries was now (calls_to_load s.load.due.user s.at)) (none_at_start script) s.counted);
     }
+
+-- what holds by an end that is known
+pub ends_ok : {T : Type 0} (r : Result T RunFault) (x : T) (A B C : Type 0) → r ≡ Ok x → Ends r A B C → A
+ends_ok r x A B C is h = subst (λ (q : Result _ RunFault). Ends q A B C) is h
+
+pub ends_drum : {T : Type 0} (r : Result T RunFault) (f : RunFault) (A B C : Type 0) → r ≡ Err f → f ≡ Drum → Ends r A B C → C
+ends_drum r f A B C is drum h = subst (λ (q : RunFault). Fails q B C) drum (subst (λ (q : Result _ RunFault). Ends q A B C) is h)

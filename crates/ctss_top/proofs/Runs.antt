@@ -1,10 +1,10 @@
 -- A script's events, given one after another.
-use Rattle.std.proofs.Common.{◌≡◌, ℕ, zero, suc, ◌+◌, ◌≤◌, ◌<◌, length, List, [], ◌∷◌, ◌++◌, take, take_all, get_or, refl, sym, ap, subst, ◌∙◌, append_assoc, arith}
+use Rattle.std.proofs.Common.{◌≡◌, ℕ, zero, suc, ◌+◌, ◌≤◌, ◌<◌, length, List, [], ◌∷◌, ◌++◌, take, get_or, refl, sym, ap, subst, ◌∙◌, append_assoc, arith}
 use Rattle.std.specs.List.{All}
 use Rattle.ctss_types.specs.declared.script.Script.{Script}
 use Rattle.time_sharing.specs.System.{Timed}
-use Rattle.system_model.specs.Run.{Run, given, given_all, run_to, ended}
-use Rattle.system_model.specs.Record.{start_of, record_from, record_of}
+use Rattle.system_model.specs.Run.{Run, given, given_all}
+use Rattle.system_model.specs.Record.{start_of}
 use Rattle.system_model.specs.Sound.{HasSeat}
 
 -- the state at the start, with no event yet

@@ -1,5 +1,5 @@
 -- What follows from what was read and written.
-use Rattle.std.proofs.Common.{◌≡◌, ℕ, ◌≤◌, ◌<◌, Bool, true, false, ◌||◌, nat_eq, nat_le, List, [], ◌∷◌, ◌++◌, length, Option, Some, None, Ok, Err, refl, sym, ap, subst, ◌∙◌, append-nil, arith}
+use Rattle.std.proofs.Common.{◌≡◌, ℕ, ◌≤◌, Bool, true, false, ◌||◌, nat_eq, nat_le, List, [], ◌∷◌, ◌++◌, length, Option, Some, None, Ok, Err, refl, sym, ap, subst, ◌∙◌, append-nil, arith}
 use Rattle.std.specs.List.{list_any}
 use Rattle.std.specs.declared.result.Result.{Result}
 use Rattle.std.proofs.lemmas.Bool.Decides.{nat_tests}
@@ -22,8 +22,8 @@ use Rattle.supervisor.specs.Counts.{IsCounted}
 use Rattle.ctss_top.specs.declared.outcome.Outcome.{Outcome}
 use Rattle.ctss_top.specs.Outcomes.{bare}
 use Rattle.ctss_top.specs.Played.{IsStopped}
-use Rattle.ctss_top.specs.Modes.{runs_script, reads_script, IsSpelled, IsMade, Comes, IsRefused, text_for}
-use Rattle.ctss_top.specs.Top.{IsRun, RunIsStopped, ScriptIsRefused, IsTextOf, OfRefusal, OfRun, IsCutOff, statuses_for, statuses_of}
+use Rattle.ctss_top.specs.Modes.{runs_script, reads_script, Comes, IsRefused, text_for}
+use Rattle.ctss_top.specs.Top.{IsRun, RunIsStopped, ScriptIsRefused, OfRefusal, OfRun, IsCutOff, statuses_for}
 
 -- a list with one more behind its first
 one_more_said : (a n rest : Bool) → (a || rest) ≡ true → (a || (n || rest)) ≡ true

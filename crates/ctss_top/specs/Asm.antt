@@ -1,5 +1,5 @@
 -- Assembly: cards come in, and their deck or their faults go out.
-use Rattle.std.specs.Prelude.{◌≡◌, ◌≤◌, ◌<◌, ℕ, Bool, nat_le, if◌then◌else◌, List, [], ◌∷◌, length, Option}
+use Rattle.std.specs.Prelude.{◌≡◌, ◌≤◌, ◌<◌, ℕ, nat_le, if◌then◌else◌, List, [], ◌∷◌, length, Option}
 use Rattle.std.specs.Str.Lines.{lines}
 use Rattle.ctss_io.specs.Outside.{before, after, IsAtEnd}
 use Rattle.ctss_io.specs.Whole.{GrewByProperPrefix}

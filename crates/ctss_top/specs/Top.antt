@@ -17,7 +17,7 @@ use Rattle.supervisor.specs.Counts.{IsCounted}
 use Rattle.ctss_top.specs.declared.outcome.Outcome.{Outcome}
 use Rattle.ctss_top.specs.Outcomes.{empty_record, bare}
 use Rattle.ctss_top.specs.Played.{IsStopped}
-use Rattle.ctss_top.specs.Modes.{Comes, IsRefused, text_for, runs_script, reads_script}
+use Rattle.ctss_top.specs.Modes.{Comes, IsRefused, text_for, reads_script}
 use Rattle.ctss_top.specs.Asm.{IsTextOfCards, statuses_for_cards}
 
 -- The headline. The script is the one that the mode runs: that of all bytes that came, or a made one. The text of the run has come

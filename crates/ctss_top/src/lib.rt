@@ -10,5 +10,5 @@ mod write;
 
 pub use command_line::ArgList;
 pub use outcome::Outcome;
-pub use record::{Played, record_script};
+pub use record::{Played, ScriptRun, record_script, run_script};
 pub use run::run_ctss;

@@ -83,7 +83,38 @@ fn run_to<D: Medium>(
     ended
 }
 
-/// The record of a script: all its events are given, and the run goes to the script's end, unless the drum fails.
+/// A supervisor behind the run of its script, and how that ended.
+#[derive(Drop)]
+pub struct ScriptRun {
+    pub supervisor: Supervisor,
+    pub ended: Result<(), RunFault>,
+}
+
+/// The run of a script: all its events are given, and it goes to the script's end, unless the drum fails or memory lacks.
+pub fn run_script<D: Medium>(
+    alloc: Global,
+    script: &Script,
+    drum: &mut D,
+) -> Result<ScriptRun, NoMemory>
+    requires range { IsInRange script.now }
+    requires serves { Serves (D.rows drum.old) (D.record_count drum.old) (D.words_each drum.old) 3840 }
+    ensures ended { is_some (D.rows drum.old) ≡ true → IfOk result (λ p. Ends p.ended
+        (Reaches script.now.end (start_of script.now) p.supervisor) ⊤
+        (Stops script.now.end (start_of script.now) p.supervisor (D.calls drum.old) (D.calls drum.new))) }
+    ensures counted { IfOk result (λ p. Ends p.ended (IsCounted [] p.supervisor.entries (D.calls drum.old) (D.calls drum.new)) ⊤ ⊤) }
+    ensures cause { IfOk result (λ p. Ends p.ended ⊤ ⊤ (Rose (D.faults drum.old) (D.faults drum.new))) }
+{
+    let mut supervisor = opened(alloc, script)?;
+    let accounts = script.accounts.as_slice();
+    let quotas = quotas_of(alloc, accounts)?;
+    let slots = Slots::new(alloc, script.params.drum, &quotas)?;
+    let bank = Bank::new(alloc)?;
+    let sizes = no_sizes(alloc, accounts.len())?;
+    let ended = run_to(&mut supervisor, drum, slots, bank, sizes, script.end);
+    Ok(ScriptRun { supervisor, ended })
+}
+
+/// The record of a script, unless the drum fails.
 pub fn record_script<D: Medium>(
     alloc: Global,
     script: &Script,
@@ -95,15 +126,12 @@ pub fn record_script<D: Medium>(
     ensures counted { IfOk result (λ p. Counts (D.calls drum.old) (D.calls drum.new) p) }
     ensures cause { IfOk result (λ p. Faulted p (Rose (D.faults drum.old) (D.faults drum.new))) }
 {
-    let mut supervisor = opened(alloc, script)?;
-    let accounts = script.accounts.as_slice();
-    let quotas = quotas_of(alloc, accounts)?;
-    let slots = Slots::new(alloc, script.params.drum, &quotas)?;
-    let bank = Bank::new(alloc)?;
-    let sizes = no_sizes(alloc, accounts.len())?;
-    match run_to(&mut supervisor, drum, slots, bank, sizes, script.end) {
-        Ok(()) => Ok(Played::Done(supervisor.close(alloc)?)),
-        Err(RunFault::Drum) => Ok(Played::Stopped(supervisor.stop(alloc)?)),
-        Err(_) => Err(NoMemory),
+    let run = run_script(alloc, script, drum)?;
+    match run.ended {
+        Ok(()) => Ok(Played::Done(run.supervisor.close(alloc)?)),
+        Err(fault) => match fault {
+            RunFault::Drum => Ok(Played::Stopped(run.supervisor.stop(alloc)?)),
+            RunFault::Disk | RunFault::NoMemory => Err(NoMemory),
+        },
     }
 }

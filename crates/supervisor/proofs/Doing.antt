@@ -1,9 +1,8 @@
 -- What a step of the code does, as a step of the definitions over users joined with words.
-use Rattle.std.proofs.Common.{◌≡◌, ◌≢◌, ℕ, zero, suc, ◌+◌, ◌-◌, ◌*◌, ◌<◌, ◌≤◌, Bool, true, false, cond, not, nat_eq, List, [], ◌∷◌, ◌++◌, Option, Some, None, length, get_or, set, refl, sym, ◌∙◌, ap, subst, arith, ◌⊎◌, inl, inr}
-use Rattle.std.specs.Prelude.{slice_set}
-use Rattle.time_sharing.specs.Machine.{Ending, Went, Stopped, Resized, Replaced, LoggedOut}
+use Rattle.std.proofs.Common.{◌≡◌, ◌≢◌, ℕ, ◌-◌, ◌<◌, ◌≤◌, Bool, true, false, not, nat_eq, List, [], Option, Some, None, get_or, refl, sym, ◌∙◌, ap, subst, arith, ◌⊎◌, inl, inr}
+use Rattle.time_sharing.specs.Machine.{Ending}
 use Rattle.time_sharing.specs.System.{Timed, Service, Off, Preempt}
-use Rattle.user_model.specs.Inner.{blocks_of, recut, zeros}
+use Rattle.user_model.specs.Inner.{blocks_of}
 use Rattle.user_model.specs.User.{User, can_step, step, ending, asks_clock, in_core, core_after, IsStep}
 use Rattle.plan_model.specs.Levels.{chosen, user_of, level_in}
 use Rattle.plan_model.specs.Loads.{is_loaded}
@@ -11,18 +10,18 @@ use Rattle.image_map.specs.Images.{size_of}
 use Rattle.ctss_types.specs.declared.session.Waiting.{Waiting}
 use Rattle.plan_model.specs.Plan.{must_load}
 use Rattle.system_model.specs.Run.{Run, next, taken, otherwise, attended, by_due, due_of, measure}
-use Rattle.system_model.specs.Cases.{user_at, with_user, brought, stepped, waited, idled, served}
+use Rattle.system_model.specs.Cases.{user_at, brought, waited, idled, served}
 use Rattle.system_model.specs.Joined.{joined, with_core, cut_user, stepped_to}
 use Rattle.system_model.specs.Sound.{Sound, IsUser, HasSeat}
 use Rattle.system_model.proofs.CaseLaws.{next_due, attended_loads, attended_steps, attended_waits, idles, preempts_none, begins, goes_on, preempts}
-use Rattle.system_model.proofs.JoinedLaws.{joined_same, taken_joined, idled_joined, served_joined, waited_joined, brought_joined, stepped_joined, must_same, serves_joined, with_own, with_other, sound_joined, sound_unjoined, measure_joined}
+use Rattle.system_model.proofs.JoinedLaws.{taken_joined, waited_joined, brought_joined, stepped_joined, must_same, serves_joined, with_own, with_other, sound_joined, sound_unjoined, measure_joined}
 use Rattle.system_model.proofs.RunLaws.{measure_next}
 use Rattle.system_model.proofs.SoundLaws.{sound_next}
 use Rattle.medium.specs.Medium.{CallList}
 use Rattle.user_cores.specs.Memory.{Memory}
 use Rattle.user_cores.specs.Swaps.{IsCutOff}
 use Rattle.supervisor.specs.Counts.{calls_to_load}
-use Rattle.supervisor.specs.Steps.{Does, Stays, IsTied, LoadFails}
+use Rattle.supervisor.specs.Steps.{Does, IsTied, LoadFails}
 
 -- a step said in other words
 pub does_as : (f g : Run → Run) (old new : Run) (had has : Memory) → ((w : ℕ → List ℕ) → f (joined w old) ≡ g (joined w old)) → Does f old new had has → Does g old new had has

@@ -5,3 +5,4 @@ pub mod Tied
 pub mod Serving
 pub mod Running
 pub mod Starts
+pub mod Watching

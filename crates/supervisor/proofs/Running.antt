@@ -1,5 +1,5 @@
 -- Whole runs: what the loop over steps keeps, and what it ends with.
-use Rattle.std.proofs.Common.{◌≡◌, ℕ, zero, suc, ◌+◌, ◌-◌, ◌<◌, ◌≤◌, Bool, true, false, List, [], ◌∷◌, ◌++◌, map, Option, Some, None, length, refl, sym, ◌∙◌, ap, subst, arith}
+use Rattle.std.proofs.Common.{◌≡◌, ℕ, suc, ◌+◌, ◌<◌, ◌≤◌, true, List, [], ◌∷◌, map, Option, Some, None, refl, sym, ◌∙◌, ap, subst}
 use Rattle.std.specs.Prelude.{Ok, Err}
 use Rattle.std.specs.declared.result.Result.{Result}
 use Rattle.ctss_types.specs.declared.fault.RunFault.{RunFault}
@@ -23,7 +23,7 @@ use Rattle.supervisor.proofs.Counting.{counted_to_load}
 use Rattle.supervisor.proofs.Doing.{does_sound}
 
 -- a step of users joined with their words
-joined_next : (limit : ℕ) (old new : Run) (had has : Memory) → Does (next limit) old new had has → had.tells ≡ true → joined has.words new ≡ next limit (joined had.words old)
+pub joined_next : (limit : ℕ) (old new : Run) (had has : Memory) → Does (next limit) old new had has → had.tells ≡ true → joined has.words new ≡ next limit (joined had.words old)
 joined_next limit old new had has d told =
     joined_same has.words d.after new (λ u h. sym (d.now told u h)) ∙ d.is ∙ ap (next limit) (joined_same d.before had.words old (d.was told))
 

@@ -1,12 +1,12 @@
 -- Parts of what a step of the user that is served does.
-use Rattle.std.proofs.Common.{◌≡◌, ◌≢◌, ℕ, zero, suc, ◌+◌, ◌-◌, ◌*◌, ◌<◌, ◌≤◌, Bool, true, false, List, [], ◌∷◌, ◌++◌, length, take, replicate, refl, sym, ◌∙◌, ap, subst, arith}
+use Rattle.std.proofs.Common.{◌≡◌, ℕ, zero, ◌-◌, ◌*◌, Bool, List, [], ◌++◌, length, take, replicate, refl, sym, ◌∙◌, ap, arith}
 use Rattle.std.proofs.lemmas.List.{append-nil}
 use Rattle.std.proofs.Math.Seq.{take-length}
 use Rattle.time_sharing.specs.Machine.{Ending, Went, Stopped, Resized, Replaced, LoggedOut}
 use Rattle.time_sharing.specs.System.{Service, Entry, Cause}
 use Rattle.image_map.specs.Images.{size_of}
-use Rattle.user_model.specs.Inner.{blocks_of, recut, zeros}
-use Rattle.user_model.specs.User.{User, step, ending, in_core, core_after, IsStep}
+use Rattle.user_model.specs.Inner.{blocks_of, recut}
+use Rattle.user_model.specs.User.{User, in_core, core_after, IsStep}
 use Rattle.user_model.proofs.WentLaws.{went_stays}
 use Rattle.system_model.specs.Run.{Run}
 use Rattle.system_model.specs.Cases.{waited, idled, served}
@@ -110,3 +110,9 @@ pub fails_to : (f : RunFault) (B C P : Type 0) → (B → P) → (C → P) → F
 fails_to NoMemory B C P unchanged failed h = unchanged h
 fails_to Drum B C P unchanged failed h = failed h
 fails_to Disk B C P unchanged failed h = cc
+
+-- what follows from two such facts
+pub fails_both : (f : RunFault) (B C D E P Q : Type 0) → (B → D → P) → (C → E → Q) → Fails f B C → Fails f D E → Fails f P Q
+fails_both NoMemory B C D E P Q unchanged failed h k = unchanged h k
+fails_both Drum B C D E P Q unchanged failed h k = failed h k
+fails_both Disk B C D E P Q unchanged failed h k = h

@@ -1,11 +1,10 @@
 -- The state at the start of a script.
-use Rattle.std.proofs.Common.{◌≡◌, ℕ, zero, suc, ◌+◌, ◌≤◌, ◌<◌, length, List, [], ◌∷◌, ◌++◌, take, map, replicate, get_or, None, refl, sym, ap, subst, ◌∙◌, arith}
+use Rattle.std.proofs.Common.{◌≡◌, ℕ, zero, suc, ◌≤◌, ◌<◌, length, List, [], ◌∷◌, ◌++◌, take, replicate, get_or, None, refl, sym, ap, arith}
 use Rattle.ctss_types.specs.declared.script.Script.{Script}
 use Rattle.ctss_types.specs.declared.script.Account.{Account}
 use Rattle.ctss_types.specs.declared.file.OwnedFile.{OwnedFile}
-use Rattle.time_sharing.specs.System.{Console, Off}
-use Rattle.user_model.specs.Session.{first_state, nobody}
-use Rattle.user_model.specs.User.{User}
+use Rattle.time_sharing.specs.System.{Off}
+use Rattle.user_model.specs.Session.{nobody}
 use Rattle.plan_model.specs.Levels.{empty_levels, waits}
 use Rattle.plan_model.specs.Loads.{no_places}
 use Rattle.system_model.specs.Run.{Run}

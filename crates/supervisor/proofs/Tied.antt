@@ -1,9 +1,8 @@
 -- Users and cores agree in sizes and quotas, whatever happens.
-use Rattle.std.proofs.Common.{◌≡◌, ◌≢◌, ℕ, zero, suc, ◌+◌, ◌-◌, ◌<◌, ◌≤◌, Bool, true, false, nat_eq, List, [], ◌∷◌, Option, Some, None, length, get_or, set, refl, sym, ◌∙◌, ap, subst, arith, ◌⊎◌, inl, inr}
-use Rattle.std.specs.Prelude.{slice_set, slice_index_or}
+use Rattle.std.proofs.Common.{◌≡◌, ◌≢◌, ℕ, suc, ◌-◌, ◌<◌, ◌≤◌, List, length, get_or, refl, sym, ◌∙◌, ap, arith, ◌⊎◌, inl, inr}
 use Rattle.std.proofs.lemmas.List.{length-set, get_or-set_same, get_or-set_other}
-use Rattle.time_sharing.specs.System.{Timed, Off, Service}
-use Rattle.time_sharing.specs.Machine.{CutKind, Quit, Hang, Spent, Ending}
+use Rattle.time_sharing.specs.System.{Timed, Off}
+use Rattle.time_sharing.specs.Machine.{Quit, Hang, Spent}
 use Rattle.drum_slots.specs.Keys.{quota_of}
 use Rattle.image_map.specs.Images.{size_of}
 use Rattle.user_model.specs.Inner.{blocks_of}

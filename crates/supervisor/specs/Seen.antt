@@ -1,5 +1,5 @@
 -- The state that the fields stand for, with users' blocks in these places.
-use Rattle.std.specs.Prelude.{ℕ, suc, ◌≤◌, Bool, List, [], ◌∷◌, map, Option, Some, None}
+use Rattle.std.specs.Prelude.{ℕ, suc, ◌≤◌, Bool, false, List, [], ◌∷◌, map, Option, Some, None}
 use Rattle.ctss_types.specs.declared.script.Account.{Account}
 use Rattle.ctss_types.specs.declared.file.OwnedFile.{OwnedFile}
 use Rattle.ctss_types.specs.declared.history.Record.{Record}
@@ -13,7 +13,8 @@ use Rattle.plan_model.specs.Loads.{Places, given_up}
 use Rattle.system_model.specs.Run.{Run}
 use Rattle.supervisor.specs.declared.state.State.{State}
 
--- a run but for users' cores: no words, and no places of blocks
+-- a run but for users' cores: no words, and no places of blocks; with what each console has shown of it, and whether it was
+-- cut off
 pub record Bare : Type 0 where
   pub swap : ℕ
   pub accounts : List Account
@@ -25,6 +26,8 @@ pub record Bare : Type 0 where
   pub service : Option Service
   pub idling : Option ℕ
   pub entries : List Entry
+  pub texts : List (List ℕ)
+  pub ended : Bool
 
 -- the run with blocks in these places; there are no common files yet
 abbrev pub run_with : Places → Bare → Run
@@ -49,7 +52,7 @@ abbrev pub bare_of : State → Bare
 bare_of s =
     record {
       swap = s.swap;
-      accounts = s.accounts.items;
+      accounts = s.accounts.list;
       users = s.sessions.items;
       levels = s.queues;
       consoles = s.consoles.items;
@@ -58,6 +61,8 @@ bare_of s =
       service = s.service;
       idling = s.idling;
       entries = s.entries.items;
+      texts = [];
+      ended = false;
     }
 
 abbrev pub seen : Places → State → Run

@@ -1,6 +1,6 @@
 //! Events: what each of them does at each console.
-ghost use Rattle.std.specs.Prelude.{◌≡◌, ◌<◌, ◌≤◌, ◌-◌, [], length, option_to_list, get_or, IfOk, OnOk, OnErr};
-ghost use Rattle.time_sharing.specs.System.{Off, On, Password, Session as Inside, Types};
+ghost use Rattle.std.specs.Prelude.{◌≡◌, ◌<◌, ◌≤◌, ◌-◌, ◌∷◌, [], length, option_to_list, get_or, IfOk, OnOk, OnErr};
+ghost use Rattle.time_sharing.specs.System.{Off, On, Password, Session as Inside, Types, LineTaken, Refused};
 ghost use Rattle.plan_model.specs.Levels.{woken};
 ghost use Rattle.plan_model.specs.Loads.{Places, no_places, given_up};
 ghost use Rattle.system_model.specs.Round.{line_blocks};
@@ -10,9 +10,10 @@ ghost use Rattle.system_model.specs.Cases.{quit_taken, hang_taken, spent_taken, 
 ghost use Rattle.system_model.specs.Sound.{Sound, HasSeat};
 ghost use Rattle.supervisor.specs.Seen.{seen, number_of, left_places};
 
-use crate::login::{asked, check};
+use crate::login::{asked, mark_on, password_in};
 use crate::notes::{idle_note, leave_consoles, note, note_some, service_left, stop_note};
 use crate::state::State;
+use accounts::Login;
 use ctss_types::{Console, Entry, Event, EventKind, LineText, NoMemory, Timed, UserNo};
 use level_queues::Queues;
 use user_session::{Put, Session};
@@ -73,6 +74,22 @@ impl State {
         note_some(&mut self.entries, more);
         self.idling = None;
         Ok(())
+    }
+
+    /// A login is refused.
+    fn take_refusal(&mut self, console: u8, cause: u8) -> Result<(), NoMemory>
+        requires seat { 0 < console }
+        requires here { console ≤ length self.old.consoles.items }
+        ensures ok { (places : Places) → OnOk result (seen places self.new
+            ≡ heard console LineTaken On (Refused self.old.clock console cause ∷ []) (seen places self.old)) }
+        ensures err { (places : Places) → OnErr result (seen places self.new ≡ seen places self.old) }
+    {
+        let entry = Entry::Refused {
+            tick: self.clock,
+            console,
+            cause,
+        };
+        self.take_heard(console, EventKind::Line, Console::On, Some(entry))
     }
 
     /// A session begins.
@@ -297,16 +314,7 @@ impl State {
         ensures err { (places : Places) → OnErr result (seen places self.new ≡ seen places self.old) }
     {
         match asked(&line) {
-            None => self.take_heard(
-                console,
-                EventKind::Line,
-                Console::On,
-                Some(Entry::Refused {
-                    tick: self.clock,
-                    console,
-                    cause: 1,
-                }),
-            ),
+            None => self.take_refusal(console, 1),
             Some(name) => self.take_heard(console, EventKind::Line, Console::Password(name), None),
         }
     }
@@ -329,44 +337,27 @@ impl State {
     #[tactic(auto, using(system_model::proofs::CaseLaws::word_laws))]
     fn at_word(&mut self, console: u8, name: Word, line: LineText) -> Result<(), NoMemory>
         requires few { length self.old.sessions.items ≤ 30 }
-        requires accounts { length self.old.accounts.items ≤ length self.old.sessions.items }
+        requires accounts { length self.old.accounts.list ≤ length self.old.sessions.items }
         requires seat { 0 < console }
         requires here { console ≤ length self.old.consoles.items }
         ensures ok { (places : Places) → OnOk result (seen places self.new ≡ at_console console (Password name) (Types line) (seen places self.old)) }
         ensures err { (places : Places) → OnErr result (seen places self.new ≡ seen places self.old) }
     {
-        let Some(user) = check(self.accounts.as_slice(), name, &line) else {
-            return self.take_heard(
-                console,
-                EventKind::Line,
-                Console::On,
-                Some(Entry::Refused {
-                    tick: self.clock,
-                    console,
-                    cause: 1,
-                }),
-            );
+        let Some(password) = password_in(&line) else {
+            return self.take_refusal(console, 1);
         };
-        let session = &self.sessions[user as usize - 1];
-        if session.is_open() {
-            return self.take_heard(
-                console,
-                EventKind::Line,
-                Console::On,
-                Some(Entry::Refused {
-                    tick: self.clock,
-                    console,
-                    cause: 2,
-                }),
-            );
+        mark_on(&mut self.accounts, self.sessions.as_slice());
+        match self.accounts.check(name, password) {
+            Login::Unknown => self.take_refusal(console, 1),
+            Login::Already => self.take_refusal(console, 2),
+            Login::Right(user) => self.take_login(console, user.number()),
         }
-        self.take_login(console, user)
     }
 
     #[tactic(auto, using(system_model::proofs::CaseLaws::asked_laws))]
     fn at_password(&mut self, console: u8, name: Word, event: Event) -> Result<(), NoMemory>
         requires few { length self.old.sessions.items ≤ 30 }
-        requires accounts { length self.old.accounts.items ≤ length self.old.sessions.items }
+        requires accounts { length self.old.accounts.list ≤ length self.old.sessions.items }
         requires seat { 0 < console }
         requires here { console ≤ length self.old.consoles.items }
         ensures ok { (places : Places) → OnOk result (seen places self.new ≡ at_console console (Password name) event (seen places self.old)) }

@@ -1,7 +1,7 @@
 //! The supervisor: consoles, events, logins, the queues, the clock and users' programs, one atomic step at a time.
 //!
 //! `State` holds all but the cores of users' programs and has a method for each case of a step; in `whole` it steps
-//! together with them. `Supervisor` is the same for callers.
+//! together with them, in `watch` with what the consoles show. `Supervisor` is the same for callers.
 #![tactic(auto)]
 
 mod events;
@@ -12,6 +12,7 @@ mod service;
 mod start;
 mod state;
 mod supervisor;
+mod watch;
 mod whole;
 
 pub use supervisor::Supervisor;

@@ -1,21 +1,20 @@
 //! Who logs in.
-ghost use Rattle.std.specs.Prelude.{◌≡◌, ◌<◌, ◌≤◌, ◌+◌, length, IfSome};
+ghost use Rattle.std.specs.Prelude.{◌≡◌, ◌<◌, ◌≤◌, ℕ, false, length};
 ghost use Rattle.ctss_types.specs.Words.{words_of};
-ghost use Rattle.system_model.specs.Round.{asked as asked_in, check as check_in, password_by, account_in};
+ghost use Rattle.time_sharing.specs.System.{at};
+ghost use Rattle.system_model.specs.Round.{asked as asked_in, name_in as name_by, password_by};
+ghost use Rattle.system_model.specs.Cases.{user_at};
 
-use ctss_types::{Account, LineText, first_word, name_word};
+use accounts::{Accounts, split};
+use ctss_types::{LineText, UserNo, name_word};
+use user_session::Session;
 use word36::Word;
 
-/// The name in a text of just one word of at most six characters.
-fn only_name(text: &[u8]) -> Option<Word>
-    ensures { result ≡ password_by (words_of text.now) }
+/// A word of at most six characters is a name.
+fn name_in(word: &[u8]) -> Option<Word>
+    ensures { result ≡ name_by word.now }
 {
-    let (word, rest) = first_word(text);
-    if word.is_empty() || word.len() > 6 {
-        return None;
-    }
-    let (more, _) = first_word(rest);
-    if more.is_empty() {
+    if word.len() <= 6 {
         Some(name_word(word))
     } else {
         None
@@ -23,45 +22,40 @@ fn only_name(text: &[u8]) -> Option<Word>
 }
 
 /// The name that the line LOGIN asks for.
-#[tactic(auto, using(crate::proofs::LoginWords::login_words), unfolding(system_model::specs::Round::asked))]
+#[tactic(auto, using(crate::proofs::LoginWords::asked_two, crate::proofs::LoginWords::asked_other), unfolding(system_model::specs::Round::asked))]
 pub(crate) fn asked(line: &LineText) -> Option<Word>
     ensures { result ≡ asked_in line.now }
 {
-    let (word, rest) = first_word(line.as_slice());
-    if word == b"LOGIN".as_slice() {
-        only_name(rest)
+    let words = split(line);
+    if words.len() == 2 && words.word(0) == b"LOGIN".as_slice() {
+        name_in(words.word(1))
     } else {
         None
     }
 }
 
-/// The account with this name and password, numbered from k.
-fn account_from(accounts: &[Account], k: u8, name: Word, password: Word) -> Option<u8>
-    requires { k + length accounts.now ≤ 31 }
-    ensures value { result ≡ account_in k accounts.now name password }
-    ensures within { IfSome result (λ u. (k ≤ u) × (u < k + length accounts.now)) }
+/// The password that a line is: just one word.
+#[tactic(auto, using(crate::proofs::LoginWords::password_one, crate::proofs::LoginWords::password_other))]
+pub(crate) fn password_in(line: &LineText) -> Option<Word>
+    ensures { result ≡ password_by (words_of line.now) }
 {
-    match accounts {
-        [] => None,
-        [a, rest @ ..] => {
-            if a.name == name && a.password == password {
-                Some(k)
-            } else {
-                account_from(rest, k + 1, name, password)
-            }
-        }
+    let words = split(line);
+    if words.len() == 1 {
+        name_in(words.word(0))
+    } else {
+        None
     }
 }
 
-/// The user of this name and of the password that the line is.
-#[tactic(auto, unfolding(system_model::specs::Round::check))]
-pub(crate) fn check(accounts: &[Account], name: Word, line: &LineText) -> Option<u8>
-    requires { length accounts.now ≤ 30 }
-    ensures value { result ≡ check_in accounts.now name line.now }
-    ensures within { IfSome result (λ u. (0 < u) × (u ≤ length accounts.now)) }
+/// The accounts learn whose sessions are open.
+pub(crate) fn mark_on(accounts: &mut Accounts, sessions: &[Session])
+    requires few { length accounts.old.list ≤ 30 }
+    requires all { length accounts.old.list ≤ length sessions.now }
+    ensures list { accounts.new.list ≡ accounts.old.list }
+    ensures on { (u : ℕ) → 0 < u → u ≤ length accounts.old.list → at false accounts.new.on u ≡ (user_at u sessions.now).on }
 {
-    match only_name(line.as_slice()) {
-        Some(password) => account_from(accounts, 1, name, password),
-        None => None,
+    let count = accounts.list().len();
+    'users: for i in 0..count {
+        accounts.set_on(UserNo::of(i as u8 + 1), sessions[i].is_open());
     }
 }

@@ -3,10 +3,17 @@ ghost use Rattle.std.specs.Prelude.{◌≡◌, ◌≤◌, ◌+◌, ◌++◌, ◌
 ghost use Rattle.time_sharing.specs.System.{Off};
 ghost use Rattle.file_model.specs.Owned.{files_of};
 ghost use Rattle.system_model.specs.Record.{users_from};
-ghost use Rattle.supervisor.specs.Seen.{AreFit};
+ghost use Rattle.plan_model.specs.Loads.{no_places};
+ghost use Rattle.system_model.specs.Record.{start_of};
+ghost use Rattle.system_model.specs.Sound.{Sound};
+ghost use Rattle.supervisor.specs.Seen.{AreFit, seen};
 
-use ctss_types::{Account, Console, FileBody, NoMemory, OwnedFile};
+use crate::state::State;
+use accounts::Accounts;
+use ctss_types::{Account, Console, FileBody, NoMemory, OwnedFile, Script};
+use level_queues::Queues;
 use std::alloc::Global;
+use std::collections::VecDeque;
 use user_session::Session;
 
 /// A file more, if it is the user's.
@@ -53,7 +60,7 @@ fn add_sessions(
 }
 
 /// A session of each account, in order, with its first files.
-pub(crate) fn sessions_of(
+fn sessions_of(
     alloc: Global,
     accounts: &[Account],
     files: &[OwnedFile],
@@ -67,20 +74,38 @@ pub(crate) fn sessions_of(
     Ok(sessions)
 }
 
-/// A copy of the accounts.
-pub(crate) fn accounts_of(alloc: Global, accounts: &[Account]) -> Result<Vec<Account>, NoMemory>
-    ensures { IfOk result (λ s. s.items ≡ accounts.now) }
-{
-    let mut list = Vec::new(alloc);
-    list.extend_from_slice(accounts)?;
-    Ok(list)
-}
-
 /// 32 consoles, all off.
-pub(crate) fn consoles_of(alloc: Global) -> Result<Vec<Console>, NoMemory>
+fn consoles_of(alloc: Global) -> Result<Vec<Console>, NoMemory>
     ensures { IfOk result (λ s. s.items ≡ replicate 32 Off) }
 {
     let mut consoles = Vec::new(alloc);
     consoles.extend_from_slice(&[Console::Off; 32])?;
     Ok(consoles)
+}
+
+/// The state at the start of a script, with no event given yet.
+pub(crate) fn first_state(alloc: Global, script: &Script) -> Result<State, NoMemory>
+    requires level { 1 ≤ script.now.params.wq }
+    requires quantum { script.now.params.quantum ≤ 1000000 }
+    requires swap { script.now.params.swap ≤ 1000000 }
+    requires users { length script.now.accounts ≤ 30 }
+    requires fit { AreFit 1 script.now.accounts script.now.files }
+    ensures run { IfOk result (λ s. seen no_places s ≡ start_of (record script.now { events = [] })) }
+    ensures off { IfOk result (λ s. s.consoles.items ≡ replicate 32 Off) }
+    ensures sound { IfOk result (λ s. Sound (seen no_places s)) }
+{
+    let accounts = script.accounts.as_slice();
+    let files = script.files.as_slice();
+    Ok(State {
+        swap: script.params.swap as u32,
+        accounts: Accounts::new(alloc, accounts)?,
+        sessions: sessions_of(alloc, accounts, files)?,
+        queues: Queues::new(script.params.wq, script.params.quantum),
+        consoles: consoles_of(alloc)?,
+        clock: 0,
+        events: VecDeque::new(alloc),
+        service: None,
+        idling: None,
+        entries: Vec::new(alloc),
+    })
 }

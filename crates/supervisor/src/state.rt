@@ -7,7 +7,9 @@ ghost use Rattle.system_model.specs.Cases.{closed};
 ghost use Rattle.supervisor.specs.Seen.{seen, bare_of};
 
 use crate::notes::{end_note, idle_note, note_some};
-use ctss_types::{Account, Console, Entry, Event, NoMemory, Service, Timed};
+use accounts::Accounts;
+use console_texts::Transcripts;
+use ctss_types::{Console, Entry, Event, Item, NoMemory, Service, Timed};
 use level_queues::Queues;
 use std::collections::VecDeque;
 use user_session::Session;
@@ -17,7 +19,7 @@ use user_session::Session;
 pub(crate) struct State {
     /// Ticks for a block that goes to the drum or comes from it.
     pub(crate) swap: u32,
-    pub(crate) accounts: Vec<Account>,
+    pub(crate) accounts: Accounts,
     pub(crate) sessions: Vec<Session>,
     pub(crate) queues: Queues,
     pub(crate) consoles: Vec<Console>,
@@ -26,6 +28,22 @@ pub(crate) struct State {
     pub(crate) service: Option<Service>,
     pub(crate) idling: Option<u64>,
     pub(crate) entries: Vec<Entry>,
+}
+
+impl Transcripts for State {
+    ghost use Rattle.console_texts.specs.Watching.{transcripts_of};
+
+    ghost all = { λ s. transcripts_of s.sessions.items };
+
+    fn transcript(&self, user: u8) -> &[Item] {
+        if user == 0 {
+            return &[];
+        }
+        match self.sessions.get(user as usize - 1) {
+            Some(session) => session.items(),
+            None => &[],
+        }
+    }
 }
 
 impl State {
@@ -46,6 +64,8 @@ impl State {
         requires seat { HasSeat e (seen no_places self.old) }
         ensures ok { (places : Places) → OnOk result (seen places self.new ≡ given e (seen places self.old)) }
         ensures err { OnErr result (bare_of self.new ≡ bare_of self.old) }
+        ensures consoles { self.new.consoles.items ≡ self.old.consoles.items }
+        ensures sessions { self.new.sessions.items ≡ self.old.sessions.items }
         ensures sound { Sound (seen no_places self.new) }
     {
         self.events.reserve(1)?;

@@ -1,43 +1,48 @@
-ghost use Rattle.std.specs.Prelude.{◌≡◌, ◌≤◌, [], length, true, ⊤};
+ghost use Rattle.std.specs.Prelude.{◌≡◌, ◌≤◌, ◌-◌, ◌^◌, ◌++◌, [], min, length, take, drop, replicate, true, false, ⊤};
 ghost use Rattle.faults.specs.Faults.{Rose};
+ghost use Rattle.time_sharing.specs.System.{at};
 ghost use Rattle.system_model.specs.Run.{given, ended};
 ghost use Rattle.plan_model.specs.Loads.{Places, no_places};
 ghost use Rattle.system_model.specs.Record.{start_of, record_from};
 ghost use Rattle.system_model.specs.Sound.{HasSeat};
 ghost use Rattle.supervisor.specs.Counts.{IsCounted};
 ghost use Rattle.supervisor.specs.Seen.{AreFit, record_so_far, run_with};
+ghost use Rattle.supervisor.specs.Shows.{HasTexts, HasTextsPart, HasTextsToLoad};
 ghost use Rattle.supervisor.specs.Steps.{IsTied, HasRun, HasRunPart, HasRunToLoad, Ends, Lasts};
 ghost use Rattle.std.specs.Prelude.{IfOk, OnOk, OnErr};
 
 use crate::finish::{parts_of, transcripts_of};
-use crate::start::{accounts_of, consoles_of, sessions_of};
-use crate::state::State;
-use ctss_types::{Entry, NoMemory, Record, RunFault, Script, Sequence, Timed};
-use level_queues::Queues;
+use crate::start::first_state;
+use crate::watch::Watch;
+use console_texts::ConsoleTexts;
+use ctss_types::{ConsoleNo, Entry, NoMemory, Record, RunFault, Script, Sequence, Timed};
 use std::alloc::Global;
-use std::collections::VecDeque;
 use std::marker::Model;
 use user_cores::Cores;
 
 /// The supervisor of a run: all that its accounts, consoles and clock are at one moment. The cores of users' programs
 /// stand beside it; a run is handed those of the same accounts each time.
 ///
-/// In clauses it is the run but for users' cores; `run_with` adds the places of their blocks, `joined` their words.
+/// In clauses it is the run but for users' cores, with the texts that its consoles have shown; `run_with` adds the places of
+/// users' blocks, `joined` their words.
 #[derive(Drop)]
 pub struct Supervisor {
-    state: State,
+    watch: Watch,
+    ended: bool,
 }
 
 impl Model for Supervisor {
     ghost use Rattle.system_model.specs.Sound.{Sound};
     ghost use Rattle.plan_model.specs.Loads.{no_places};
     ghost use Rattle.supervisor.specs.Seen.{Bare, bare_of, seen};
+    ghost use Rattle.supervisor.specs.Shows.{texts_of, IsTold};
 
     ghost Value = { Bare };
 
-    ghost view = { λ s. bare_of s.state };
+    ghost view = { λ s. record (bare_of s.watch.state) { texts = texts_of s.watch.state.sessions.items s.watch.texts; ended = s.ended } };
 
-    ghost invariant = { λ s. Sound (seen no_places s.state) };
+    ghost invariant = { λ s. Sound (seen no_places s.watch.state)
+        × IsTold s.watch.state.consoles.items s.watch.state.sessions.items s.watch.texts };
 }
 
 impl Supervisor {
@@ -48,23 +53,15 @@ impl Supervisor {
         requires swap { script.now.params.swap ≤ 1000000 }
         requires users { length script.now.accounts ≤ 30 }
         requires fit { AreFit 1 script.now.accounts script.now.files }
-        ensures { IfOk result (λ s. run_with no_places s ≡ start_of (record script.now { events = [] })) }
+        ensures run { IfOk result (λ s. run_with no_places s ≡ start_of (record script.now { events = [] })) }
+        ensures texts { IfOk result (λ s. s.texts ≡ replicate 32 []) }
+        ensures begun { IfOk result (λ s. s.ended ≡ false) }
     {
-        let accounts = script.accounts.as_slice();
-        let files = script.files.as_slice();
+        let state = first_state(alloc, script)?;
+        let texts = ConsoleTexts::new(alloc, 32)?;
         Ok(Supervisor {
-            state: State {
-                swap: script.params.swap as u32,
-                accounts: accounts_of(alloc, accounts)?,
-                sessions: sessions_of(alloc, accounts, files)?,
-                queues: Queues::new(script.params.wq, script.params.quantum),
-                consoles: consoles_of(alloc)?,
-                clock: 0,
-                events: VecDeque::new(alloc),
-                service: None,
-                idling: None,
-                entries: Vec::new(alloc),
-            },
+            watch: Watch { state, texts },
+            ended: false,
         })
     }
 
@@ -73,8 +70,10 @@ impl Supervisor {
         requires seat { HasSeat e (run_with no_places self.old) }
         ensures ok { (places : Places) → OnOk result (run_with places self.new ≡ given e (run_with places self.old)) }
         ensures err { OnErr result (self.new ≡ self.old) }
+        ensures texts { self.new.texts ≡ self.old.texts }
+        ensures same { self.new.ended ≡ self.old.ended }
     {
-        self.state.take(e)
+        self.watch.state.take(e)
     }
 
     /// Whole steps, up to the limit. Where memory lacks, some of them are done; where the drum fails, those before a load.
@@ -91,13 +90,30 @@ impl Supervisor {
             (C.calls cores.old) (C.calls cores.new) × Rose (C.faults cores.old) (C.faults cores.new)) }
         ensures counted { Ends result (IsCounted self.old.entries self.new.entries (C.calls cores.old) (C.calls cores.new))
             (IsCounted self.old.entries self.new.entries (C.calls cores.old) (C.calls cores.new)) ⊤ }
+        ensures texts { Ends result (HasTexts limit (run_with (C.memory cores.old).places self.old) (C.memory cores.old) self.old.texts self.new.texts)
+            (HasTextsPart limit (run_with (C.memory cores.old).places self.old)
+            (run_with (C.memory cores.new).places self.new) (C.memory cores.old) (C.memory cores.new) self.old.texts self.new.texts)
+            (HasTextsToLoad limit (run_with (C.memory cores.old).places self.old) (run_with no_places self.new) (C.memory cores.old)
+            self.old.texts self.new.texts) }
+        ensures cut { Ends result (self.new.ended ≡ self.old.ended) (self.new.ended ≡ true) (self.new.ended ≡ true) }
         ensures tells { Lasts result ((C.memory cores.new).tells ≡ (C.memory cores.old).tells) }
         ensures tied { Lasts result (IsTied self.new.users (C.memory cores.new)) }
         ensures works { Lasts result (C.Works cores.new) }
         ensures keeps { C.Keeps cores.old cores.new }
         ensures kept { C.faults cores.old ≤ C.faults cores.new }
     {
-        self.state.advance(cores, limit)
+        let done = self.watch.advance(cores, limit);
+        if done.is_err() {
+            self.ended = true;
+        }
+        done
+    }
+
+    /// Whether a call of `advance` answered a fault.
+    pub fn ended(&self) -> bool
+        ensures { result ≡ self.now.ended }
+    {
+        self.ended
     }
 
     /// The end of the record: an open service and open idling end, and all is handed out.
@@ -105,7 +121,8 @@ impl Supervisor {
     pub fn close(self, alloc: Global) -> Result<Record, NoMemory>
         ensures { IfOk result (λ rec. (places : Places) → rec ≡ record_from (ended (run_with places self))) }
     {
-        let mut state = self.state;
+        let watch = self.watch;
+        let mut state = watch.state;
         state.close()?;
         let (transcripts, files) = parts_of(alloc, state.sessions)?;
         Ok(Record {
@@ -121,7 +138,8 @@ impl Supervisor {
     pub fn stop(self, alloc: Global) -> Result<Record, NoMemory>
         ensures { IfOk result (λ rec. rec ≡ record_so_far (run_with no_places self)) }
     {
-        let state = self.state;
+        let watch = self.watch;
+        let state = watch.state;
         let transcripts = transcripts_of(alloc, state.sessions)?;
         Ok(Record {
             entries: Sequence::from_vec(state.entries),
@@ -136,6 +154,23 @@ impl Supervisor {
     pub fn entries(&self) -> &[Entry]
         ensures { result.now ≡ self.now.entries }
     {
-        &self.state.entries
+        &self.watch.state.entries
+    }
+
+    /// How many bytes a console has shown; at most what a `u64` can hold.
+    pub fn out_len(&self, console: ConsoleNo) -> u64
+        ensures { result ≡ min (length (at [] self.now.texts console)) (2 ^ 64 - 1) }
+    {
+        self.watch.texts.out_len(&self.watch.state, console)
+    }
+
+    /// Copies what a console has shown from a place on, as much as fits, and answers how many bytes that were.
+    pub fn out_since(&self, console: ConsoleNo, from: u64, into: &mut [u8]) -> usize
+        ensures count { result ≡ min (length into.old) (length (at [] self.now.texts console) - from) }
+        ensures bytes { into.new ≡ take result (drop from (at [] self.now.texts console)) ++ drop result into.old }
+    {
+        self.watch
+            .texts
+            .out_since(&self.watch.state, console, from, into)
     }
 }

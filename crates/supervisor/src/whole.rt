@@ -257,7 +257,7 @@ impl State {
     }
 
     /// One step.
-    fn step<C: Cores>(&mut self, cores: &mut C, limit: u64) -> Result<(), RunFault>
+    pub(crate) fn step<C: Cores>(&mut self, cores: &mut C, limit: u64) -> Result<(), RunFault>
         requires works { C.Works cores.old }
         requires held { IsHeld (seen (C.memory cores.old).places self.old) (C.memory cores.old) }
         requires before { self.old.clock < limit }
@@ -282,34 +282,5 @@ impl State {
             },
             None => self.go_on(cores, limit),
         }
-    }
-
-    /// Whole steps, up to the limit.
-    pub(crate) fn advance<C: Cores>(&mut self, cores: &mut C, limit: u64) -> Result<(), RunFault>
-        requires works { C.Works cores.old }
-        requires held { IsHeld (seen (C.memory cores.old).places self.old) (C.memory cores.old) }
-        requires limit { limit ≤ 100000000 }
-        ensures ended { Ends result (HasRun limit (seen (C.memory cores.old).places self.old)
-            (seen (C.memory cores.new).places self.new) (C.memory cores.old) (C.memory cores.new))
-            (HasRunPart limit (seen (C.memory cores.old).places self.old)
-            (seen (C.memory cores.new).places self.new) (C.memory cores.old) (C.memory cores.new))
-            (HasRunToLoad limit (seen (C.memory cores.old).places self.old) (seen no_places self.new) (C.memory cores.old)
-            (C.calls cores.old) (C.calls cores.new) × Rose (C.faults cores.old) (C.faults cores.new)) }
-        ensures counted { Ends result (IsCounted self.old.entries.items self.new.entries.items (C.calls cores.old) (C.calls cores.new))
-            (IsCounted self.old.entries.items self.new.entries.items (C.calls cores.old) (C.calls cores.new)) ⊤ }
-        ensures tells { Lasts result ((C.memory cores.new).tells ≡ (C.memory cores.old).tells) }
-        ensures held { Lasts result (IsHeld (seen (C.memory cores.new).places self.new) (C.memory cores.new)) }
-        ensures works { Lasts result (C.Works cores.new) }
-        ensures sound { Sound (seen no_places self.new) }
-        ensures keeps { C.Keeps cores.old cores.new }
-        ensures kept { C.faults cores.old ≤ C.faults cores.new }
-    {
-        'steps: while self.clock < limit {
-            match self.step(cores, limit) {
-                Ok(()) => {}
-                Err(fault) => return Err(fault),
-            }
-        }
-        Ok(())
     }
 }

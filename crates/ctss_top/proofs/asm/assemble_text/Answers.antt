@@ -1,4 +1,4 @@
-use Rattle.std.proofs.Common.{◌≡◌, ◌∙◌, sym, ap, length, List}
+use Rattle.std.proofs.Common.{◌∙◌, sym, ap, length, List}
 use Rattle.std.proofs.lemmas.List.{length-map}
 use Rattle.fap_read.specs.declared.card.Card.{Card}
 use Rattle.ctss_top.proofs.Lines.{few_lines}

@@ -1,4 +1,4 @@
-use Rattle.std.proofs.Common.{◌≡◌, List, take_all, sym, ◌∙◌, ap, subst}
+use Rattle.std.proofs.Common.{List, take_all, ◌∙◌, ap}
 use Rattle.plan_model.specs.Loads.{no_places}
 use Rattle.time_sharing.specs.System.{Timed}
 use Rattle.system_model.specs.Run.{given, given_all}

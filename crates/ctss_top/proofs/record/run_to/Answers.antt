@@ -1,4 +1,4 @@
-use Rattle.std.proofs.Common.{◌≡◌, ◌∙◌, ap, rules}
+use Rattle.std.proofs.Common.{◌∙◌, ap, rules}
 use Rattle.ctss_top.proofs.Playing.{tied_first, played, counted_from, stops_from}
 use Rattle.ctss_top.proofs.record.run_to.Goals as goal
 

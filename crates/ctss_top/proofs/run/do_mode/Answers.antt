@@ -1,4 +1,4 @@
-use Rattle.std.proofs.Common.{◌≡◌, ◌∙◌, sym, ap, Some}
+use Rattle.std.proofs.Common.{◌≡◌, ◌∙◌, ap, Some}
 use Rattle.text_model.specs.declared.mode.Mode.TheVariants.{Asm}
 use Rattle.text_model.specs.Words.{mode_of}
 use Rattle.ctss_top.proofs.Cards.{cut_by_words}

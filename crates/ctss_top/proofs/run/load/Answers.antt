@@ -1,4 +1,4 @@
-use Rattle.std.proofs.Common.{◌≡◌, arith}
+use Rattle.std.proofs.Common.{arith}
 use Rattle.std.proofs.lemmas.Bool.Decides.{nat_tests}
 use Rattle.text_model.specs.declared.mode.Mode.TheVariants.{Load}
 use Rattle.ctss_top.proofs.Says.{cut_run, comes_made, is_run, is_stopped}

@@ -10,7 +10,7 @@ use Rattle.text_model.specs.Words.{script_refused}
 use Rattle.ctss_top.specs.Outcomes.{bare}
 use Rattle.text_model.specs.Reading.{script_of}
 use Rattle.text_model.proofs.InRange.{scripts_are_in_range}
-use Rattle.ctss_top.proofs.Says.{refused_long, refused_short, cut_long, cut_short, cut_run, comes_read, reads_runs, is_run, is_stopped, of_told, told_long, told_unread, told_no_memory, allows_refused, allows_done}
+use Rattle.ctss_top.proofs.Says.{refused_long, refused_short, cut_long, cut_short, cut_run, comes_read, reads_runs, is_run, is_stopped, told_long}
 use Rattle.ctss_top.proofs.run.replay.Goals as goal
 
 pub returns-in-Err-TooLong-clause-refused : goal.returns-in-Err-TooLong-clause-refused

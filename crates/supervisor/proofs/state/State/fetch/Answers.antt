@@ -1,8 +1,7 @@
-use Rattle.std.proofs.Common.{◌≡◌, ◌≤◌, ◌-◌, ◌+◌, ℕ, rules, true, false, not, List, refl, sym, ap, subst, ◌∙◌}
+use Rattle.std.proofs.Common.{◌≡◌, ◌+◌, ℕ, rules, not, List, sym, ap, subst, ◌∙◌}
 use Rattle.user_model.specs.Inner.{blocks_of}
 use Rattle.user_model.specs.User.{User}
-use Rattle.time_sharing.specs.System.{Entry}
-use Rattle.plan_model.specs.Loads.{Places, is_loaded, loaded, count_below, is_dumped, is_read, is_fresh}
+use Rattle.plan_model.specs.Loads.{is_loaded, loaded, count_below, is_dumped, is_read, is_fresh}
 use Rattle.image_map.specs.Images.{size_of}
 use Rattle.system_model.specs.Run.{Run}
 use Rattle.system_model.specs.Cases.{user_at, brought}

@@ -1,9 +1,7 @@
-use Rattle.std.proofs.Common.{◌≡◌, ◌≤◌, ◌-◌, ◌+◌, ℕ, true, false, not, List, Option, Some, None, refl, sym, ap, subst, ◌∙◌, arith}
-use Rattle.user_model.specs.User.{User}
+use Rattle.std.proofs.Common.{◌≡◌, ℕ, false, sym, ap, subst, ◌∙◌}
 use Rattle.system_model.specs.Run.{Run}
 use Rattle.user_cores.specs.Memory.{Memory}
 use Rattle.supervisor.specs.Seen.{seen}
-use Rattle.supervisor.specs.Steps.{IsTied}
 use Rattle.ctss_types.specs.declared.session.Waiting.{Waiting}
 use Rattle.time_sharing.specs.System.{Service}
 use Rattle.plan_model.specs.Loads.{is_loaded}

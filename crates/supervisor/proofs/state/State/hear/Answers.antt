@@ -1,4 +1,4 @@
-use Rattle.std.proofs.Common.{◌≡◌, ◌≤◌, ◌-◌, ℕ, List, [], refl, sym, ap, subst, ◌∙◌}
+use Rattle.std.proofs.Common.{ℕ, List, [], refl, sym, ap, subst, ◌∙◌}
 use Rattle.image_map.proofs.Calls.{on_err}
 use Rattle.user_model.specs.User.{User}
 use Rattle.plan_model.specs.Loads.{Places}

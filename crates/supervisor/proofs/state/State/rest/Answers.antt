@@ -1,4 +1,4 @@
-use Rattle.std.proofs.Common.{◌≡◌, ◌≤◌, ◌-◌, ◌+◌, ℕ, true, false, not, List, Option, Some, None, refl, sym, ap, subst, ◌∙◌, arith}
+use Rattle.std.proofs.Common.{List, refl, sym, ap, subst, ◌∙◌}
 use Rattle.user_model.specs.User.{User}
 use Rattle.system_model.specs.Run.{Run}
 use Rattle.user_cores.specs.Memory.{Memory}
@@ -9,7 +9,6 @@ use Rattle.system_model.proofs.JoinedLaws.{idled_joined}
 use Rattle.system_model.proofs.SwapLaws.{idled_moves}
 use Rattle.supervisor.proofs.Counting.{counted_none}
 use Rattle.supervisor.proofs.Doing.{does_apart}
-use Rattle.supervisor.proofs.Tied.{tied_same}
 use Rattle.supervisor.proofs.Serving.{idled_users}
 use Rattle.supervisor.proofs.state.State.rest.Goals as goal
 

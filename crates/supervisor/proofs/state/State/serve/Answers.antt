@@ -1,10 +1,9 @@
-use Rattle.std.proofs.Common.{◌≡◌, ◌≢◌, ◌<◌, ◌≤◌, ◌-◌, ◌*◌, ℕ, Bool, true, false, not, List, [], length, get_or, set, refl, sym, ap, subst, ◌∙◌, arith, inl, inr, ◌⊎◌}
+use Rattle.std.proofs.Common.{◌≡◌, ◌≢◌, ◌<◌, ◌≤◌, ◌-◌, ◌*◌, ℕ, Bool, true, not, List, length, set, refl, sym, ap, subst, ◌∙◌, arith, inl, inr}
 use Rattle.std.proofs.lemmas.List.{get_or_default, set-get_or}
 use Rattle.user_model.specs.Session.{nobody}
 use Rattle.user_model.specs.Inner.{blocks_of}
 use Rattle.user_model.specs.User.{User, can_step, in_core, core_after, IsStep}
 use Rattle.time_sharing.specs.Machine.{Ending, Went}
-use Rattle.time_sharing.specs.System.{Entry}
 use Rattle.plan_model.specs.Loads.{Places, is_loaded}
 use Rattle.plan_model.specs.Plan.{places_after}
 use Rattle.image_map.specs.Images.{size_of}

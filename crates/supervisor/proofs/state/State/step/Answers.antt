@@ -1,9 +1,7 @@
-use Rattle.std.proofs.Common.{◌≡◌, ◌≤◌, ◌-◌, ◌+◌, ℕ, true, false, not, List, Option, Some, None, refl, sym, ap, subst, ◌∙◌, arith}
-use Rattle.user_model.specs.User.{User}
+use Rattle.std.proofs.Common.{sym, ◌∙◌}
 use Rattle.system_model.specs.Run.{Run}
 use Rattle.user_cores.specs.Memory.{Memory}
 use Rattle.supervisor.specs.Seen.{seen}
-use Rattle.supervisor.specs.Steps.{IsTied}
 use Rattle.supervisor.proofs.Doing.{does_event, does_none}
 use Rattle.supervisor.proofs.Serving.{ends_map}
 use Rattle.supervisor.proofs.state.State.step.Goals as goal

@@ -1,6 +1,5 @@
 use Rattle.std.proofs.Common.{◌-◌, ◌<◌, length, arith, sym, ◌∙◌}
 use Rattle.plan_model.specs.Loads.{no_places}
-use Rattle.system_model.specs.Sound.{IsUser}
 use Rattle.system_model.proofs.SoundLaws.{seat_user}
 use Rattle.supervisor.specs.Seen.{seen}
 use Rattle.supervisor.proofs.state.State.take_event.Goals as goal

@@ -1,0 +1,11 @@
+use Rattle.std.proofs.Common.{◌≡◌, ◌++◌, length, map, take, drop}
+use Rattle.console_texts.specs.Parts.{Kept}
+use Rattle.console_texts.specs.Following.{followed}
+use Rattle.console_texts.proofs.texts.ConsoleTexts.follow.Given as goal
+
+abbrev pub invariant-rows : goal.invariant-rows
+invariant-rows l = record {
+  shown : map (λ (k : Kept). k.shown) l.self-inside.rows.items ≡ map (followed l.consoles l.refused l.before l.after) (take l.i (map (λ (k : Kept). k.shown) l.fn.self)) ++ drop l.i (map (λ (k : Kept). k.shown) l.fn.self);
+  rest : drop l.i l.self-inside.rows.items ≡ drop l.i l.fn.self;
+  end : l.i-end ≡ length l.fn.self;
+}

@@ -1,0 +1,4 @@
+pub mod Parts
+pub mod Following
+pub mod Watching
+pub mod Copying

@@ -1,0 +1,122 @@
+use Rattle.std.proofs.Common.{rules, refl, sym, ap, subst, ◌∙◌, arith}
+use Rattle.system_model.specs.Run.{Run}
+use Rattle.system_model.specs.Sound.{Sound}
+use Rattle.plan_model.specs.Loads.{no_places}
+use Rattle.user_cores.specs.Memory.{Memory}
+use Rattle.supervisor.specs.Seen.{seen}
+use Rattle.supervisor.proofs.Counting.{counted_same, counted_on}
+use Rattle.supervisor.proofs.Doing.{does_fall}
+use Rattle.supervisor.proofs.Serving.{fails_map, fails_both, fails_to}
+use Rattle.supervisor.proofs.Running.{sound_places, leads_on, part_on, part_none, run_done, held_on, part_still, stops_at_load}
+use Rattle.supervisor.specs.Shows.{texts_of}
+use Rattle.supervisor.proofs.Watching.{texts_lead, texts_part, texts_none, texts_still, texts_end, texts_stop}
+use Rattle.supervisor.proofs.watch.Watch.advance.Goals as goal
+
+pub steps-init : goal.steps-init
+steps-init g c =
+    record {
+      leads = λ told. refl;
+      part = part_none c.args.limit (seen (g.C.Cores.memory c.args.cores.now).places c.args.self.now.state) (g.C.Cores.memory c.args.cores.now);
+      lead = λ told. refl;
+      texts = texts_none c.args.limit (seen (g.C.Cores.memory c.args.cores.now).places c.args.self.now.state) (g.C.Cores.memory c.args.cores.now) (texts_of c.args.self.now.state.sessions.items c.args.self.now.texts);
+      told = c.requires.told;
+      counted = counted_same _ _ _ _ refl refl;
+      tells = refl;
+      held = c.requires.held;
+      works = c.requires.works;
+      keeps = search rules;
+      kept = omega arith;
+    }
+
+pub steps-smaller : goal.steps-smaller
+steps-smaller g c =
+    let had : Memory = g.C.Cores.memory c.steps.cores in
+    let has : Memory = g.C.Cores.memory c.step.new.cores in
+    does_fall c.args.limit (seen had.places c.steps.self.state) (seen has.places c.step.new.self.state) had has c.steps-test.true c.in-Ok.ensures.ended
+
+pub steps-preserved : goal.steps-preserved
+steps-preserved g c =
+    let first : Memory = g.C.Cores.memory c.args.cores.now in
+    let had : Memory = g.C.Cores.memory c.steps.cores in
+    let has : Memory = g.C.Cores.memory c.step.new.cores in
+    let start : Run = seen first.places c.args.self.now.state in
+    let old : Run = seen had.places c.steps.self.state in
+    let new : Run = seen has.places c.step.new.self.state in
+    let inv = c.steps.invariant in
+    let up = c.steps-test.true in
+    let done = c.in-Ok.ensures.ended in
+    let x = texts_of c.args.self.now.state.sessions.items c.args.self.now.texts in
+    let y = texts_of c.steps.self.state.sessions.items c.steps.self.texts in
+    let z = texts_of c.step.new.self.state.sessions.items c.step.new.self.texts in
+    record {
+      leads = leads_on c.args.limit start old new first had has inv.tells up done inv.leads;
+      part = part_on c.args.limit start old new first had has inv.tells up done inv.part;
+      lead = texts_lead c.args.limit start old new first had has x y z inv.tells up done c.in-Ok.ensures.texts inv.lead;
+      texts = texts_part c.args.limit start old new first had has x y z inv.tells up done c.in-Ok.ensures.texts inv.texts;
+      told = c.in-Ok.ensures.told;
+      counted = counted_on _ _ _ _ _ _ inv.counted c.in-Ok.ensures.counted;
+      tells = done.tells ∙ inv.tells;
+      held = held_on c.args.limit old new had has up inv.held c.in-Ok.ensures.tied done;
+      works = c.in-Ok.ensures.works;
+      keeps = search rules;
+      kept = let a = inv.kept in let b = c.in-Ok.ensures.kept in omega (arith, a, b);
+    }
+
+pub returns-in-Err-clause-ended : goal.returns-in-Err-clause-ended
+returns-in-Err-clause-ended g c =
+    let first : Memory = g.C.Cores.memory c.args.cores.now in
+    let had : Memory = g.C.Cores.memory c.steps.cores in
+    let has : Memory = g.C.Cores.memory c.step.new.cores in
+    let start : Run = seen first.places c.args.self.now.state in
+    let old : Run = seen had.places c.steps.self.state in
+    let new : Run = seen has.places c.step.new.self.state in
+    let inv = c.steps.invariant in
+    fails_map c.in-Err.fault _ _ _ _
+    (λ s. part_still c.args.limit start old new first had has inv.tells s inv.part)
+    (λ f. (stops_at_load c.args.limit start old (seen no_places c.step.new.self.state) first had _ _ _ inv.part inv.held.sound inv.counted f.2 (ap (λ (r : Run). r.system.entries) f.0) (ap (λ (r : Run). r.system.users) f.0) (ap (λ (r : Run). r.system.clock) f.0), search rules))
+    c.in-Err.ensures.ended
+
+pub returns-clause-ended : goal.returns-clause-ended
+returns-clause-ended g c =
+    let first : Memory = g.C.Cores.memory c.args.cores.now in
+    let had : Memory = g.C.Cores.memory c.steps.cores in
+    run_done c.args.limit (seen first.places c.args.self.now.state) (seen had.places c.steps.self.state) first had (omega (arith, c.steps-test.false)) c.steps.invariant.leads
+
+pub returns-in-Err-clause-sound : goal.returns-in-Err-clause-sound
+returns-in-Err-clause-sound g c =
+    let had : Memory = g.C.Cores.memory c.steps.cores in
+    let has : Memory = g.C.Cores.memory c.step.new.cores in
+    let old : Run = seen had.places c.steps.self.state in
+    let new : Run = seen has.places c.step.new.self.state in
+    let held = c.steps.invariant.held in
+    fails_to c.in-Err.fault _ _ _
+    (λ s. sound_places no_places new (subst Sound (sym s.run) held.sound))
+    (λ f. subst Sound (sym f.0) (sound_places no_places old held.sound))
+    c.in-Err.ensures.ended
+
+pub returns-clause-sound : goal.returns-clause-sound
+returns-clause-sound g c = sound_places no_places (seen (g.C.Cores.memory c.steps.cores).places c.steps.self.state) c.steps.invariant.held.sound
+
+pub returns-in-Err-clause-counted : goal.returns-in-Err-clause-counted
+returns-in-Err-clause-counted g c =
+    fails_map c.in-Err.fault _ _ _ _ (λ m. counted_on _ _ _ _ _ _ c.steps.invariant.counted m) (λ u. u) c.in-Err.ensures.counted
+
+pub returns-clause-texts : goal.returns-clause-texts
+returns-clause-texts g c =
+    let first : Memory = g.C.Cores.memory c.args.cores.now in
+    let had : Memory = g.C.Cores.memory c.steps.cores in
+    texts_end c.args.limit (seen first.places c.args.self.now.state) (seen had.places c.steps.self.state) first had _ _ (omega (arith, c.steps-test.false)) c.steps.invariant.lead
+
+pub returns-in-Err-clause-texts : goal.returns-in-Err-clause-texts
+returns-in-Err-clause-texts g c =
+    let first : Memory = g.C.Cores.memory c.args.cores.now in
+    let had : Memory = g.C.Cores.memory c.steps.cores in
+    let has : Memory = g.C.Cores.memory c.step.new.cores in
+    let start : Run = seen first.places c.args.self.now.state in
+    let old : Run = seen had.places c.steps.self.state in
+    let new : Run = seen has.places c.step.new.self.state in
+    let inv = c.steps.invariant in
+    fails_both c.in-Err.fault _ _ _ _ _ _
+    (λ s same. texts_still c.args.limit start old new first had has _ _ _ inv.tells s same inv.texts)
+    (λ f same. texts_stop c.args.limit start old (seen no_places c.step.new.self.state) first had _ _ _ inv.texts same (ap (λ (r : Run). r.system.entries) f.0) (ap (λ (r : Run). r.system.users) f.0) (ap (λ (r : Run). r.system.clock) f.0))
+    c.in-Err.ensures.ended c.in-Err.ensures.texts

@@ -1,0 +1,37 @@
+-- What the consoles have shown of a run.
+use Rattle.std.specs.Prelude.{◌≡◌, ℕ, true, List, map}
+use Rattle.time_sharing.specs.System.{Console}
+use Rattle.user_model.specs.User.{User}
+use Rattle.system_model.specs.Run.{Run, next}
+use Rattle.system_model.specs.Joined.{joined}
+use Rattle.user_cores.specs.Memory.{Memory}
+use Rattle.console_texts.specs.Parts.{Shown, Kept, text_of}
+use Rattle.console_texts.specs.Following.{AreShown}
+use Rattle.console_texts.specs.Watching.{transcripts_of, texts_next, texts_to, AfterShown}
+use Rattle.supervisor.specs.Steps.{Shows}
+
+abbrev pub rows_of : List Kept → List Shown
+rows_of rows = map (λ (k : Kept). k.shown) rows
+
+-- each console's text, the first that of console 1
+abbrev pub texts_of : List User → List Kept → List (List ℕ)
+texts_of users rows = map (text_of (transcripts_of users)) (rows_of rows)
+
+-- the rows are those of these consoles
+abbrev pub IsTold : List Console → List User → List Kept → Type 0
+IsTold consoles users rows = AreShown consoles (transcripts_of users) (rows_of rows)
+
+-- The texts behind a step, with whatever words the users had in core.
+abbrev pub GoesOn : ℕ → (old new : Run) → (had has : List (List ℕ)) → Type 0
+GoesOn limit old new had has = (before after : ℕ → List ℕ) → joined after new ≡ next limit (joined before old) → has ≡ texts_next limit (joined before old) had
+
+-- The texts behind the run to the limit, behind a part of it, and behind a part that ends before a load; where the drum tells
+-- its records.
+abbrev pub HasTexts : ℕ → (old : Run) → (had : Memory) → (told tells : List (List ℕ)) → Type 0
+HasTexts limit old had told tells = had.tells ≡ true → tells ≡ texts_to limit (joined had.words old) told
+
+abbrev pub HasTextsPart : ℕ → (old new : Run) → (had has : Memory) → (told tells : List (List ℕ)) → Type 0
+HasTextsPart limit old new had has told tells = had.tells ≡ true → AfterShown limit (joined had.words old) (joined has.words new) told tells
+
+abbrev pub HasTextsToLoad : ℕ → (old new : Run) → (had : Memory) → (told tells : List (List ℕ)) → Type 0
+HasTextsToLoad limit old new had told tells = had.tells ≡ true → (at : Run) × AfterShown limit (joined had.words old) at told tells × Shows at new

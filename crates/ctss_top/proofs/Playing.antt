@@ -29,6 +29,7 @@ use Rattle.medium.specs.Medium.{CallList}
 use Rattle.time_sharing.specs.System.{Entry, Service}
 use Rattle.schedule_model.specs.Sums.{dumped_in, read_in}
 use Rattle.system_model.proofs.SwapLaws.{dumped-append, read-append}
+use Rattle.console_texts.specs.Watching.{texts_to}
 use Rattle.supervisor.specs.Seen.{Bare, run_with, record_so_far}
 use Rattle.supervisor.specs.Counts.{IsCounted, IsCountedToLoad, calls_to_load}
 use Rattle.supervisor.specs.Steps.{IsTied, StopsAtLoad, Ends, Fails}
@@ -148,6 +149,17 @@ played r limit old new quotas words words' places places' was now told part rose
           shown = λ j. record { entries = s.shown.entries j; transcripts = s.shown.transcripts j; files = []; common = []; clock = s.shown.clock j };
           counted = subst (λ (x : Run). IsCountedToLoad x.system.entries new.entries was now (calls_to_load s.load.due.user s.at)) start s.counted;
         }
+
+-- what the consoles show of it
+pub texts_played : {T : Type 0} (r : Result T RunFault) (limit : ℕ) (old : Bare) (texts : List (List ℕ)) (quotas : List ℕ) (words : ℕ → List ℕ) (places : Places) (told part stopped : Type 0) → HasCores old quotas
+    → ((u : ℕ) → 1 ≤ u → words u ≡ []) → places ≡ no_places → told
+    → Ends r (told → texts ≡ texts_to limit (joined words (run_with places old)) old.texts) part stopped
+    → Ends r (texts ≡ texts_to limit (run_with no_places old) old.texts) ⊤ ⊤
+texts_played r limit old texts quotas words places told part stopped cores none nowhere is_told h =
+    ends_map r _ _ _ (texts ≡ texts_to limit (run_with no_places old) old.texts) ⊤ ⊤
+    (λ shown. shown is_told ∙ ap (λ (x : Run). texts_to limit x old.texts)
+    (ap (λ (p : Places). joined words (run_with p old)) nowhere ∙ joined_same words (λ u. []) (run_with no_places old) none ∙ cores.words))
+    (λ some. tt) (λ f. tt) h
 
 -- the drum's calls, seen from two moments that are known by other words
 pub counted_from : {T : Type 0} (r : Result T RunFault) (had has : List Entry) (was now was' now' : Option CallList) (rest : Type 0) → was ≡ was' → now ≡ now' → Ends r (IsCounted had has was now) (IsCounted had has was now) rest → Ends r (IsCounted had has was' now') ⊤ ⊤

@@ -8,6 +8,7 @@ ghost use Rattle.drum_slots.specs.Table.{slots_of, records_of, quota_in};
 ghost use Rattle.plan_model.specs.Loads.{no_places};
 ghost use Rattle.text_model.specs.Reading.{IsInRange};
 ghost use Rattle.system_model.specs.Record.{start_of};
+ghost use Rattle.console_texts.specs.Watching.{texts_to};
 ghost use Rattle.supervisor.specs.Seen.{run_with};
 ghost use Rattle.supervisor.specs.Steps.{Ends};
 ghost use Rattle.supervisor.specs.Counts.{IsCounted};
@@ -45,7 +46,8 @@ fn quotas_of(alloc: Global, accounts: &[Account]) -> Result<Vec<u8>, NoMemory>
 /// All events of a script are given to its supervisor.
 fn opened(alloc: Global, script: &Script) -> Result<Supervisor, NoMemory>
     requires { IsInRange script.now }
-    ensures { IfOk result (λ s. run_with no_places s ≡ start_of script.now) }
+    ensures run { IfOk result (λ s. run_with no_places s ≡ start_of script.now) }
+    ensures texts { IfOk result (λ s. s.texts ≡ replicate 32 []) }
 {
     let mut supervisor = Supervisor::new(alloc, script)?;
     for event in script.events.as_slice() {
@@ -74,6 +76,8 @@ fn run_to<D: Medium>(
     ensures ended { is_some (D.rows drum.old) ≡ true → Ends result
         (Reaches limit (run_with no_places supervisor.old) supervisor.new) ⊤
         (Stops limit (run_with no_places supervisor.old) supervisor.new (D.calls drum.old) (D.calls drum.new)) }
+    ensures texts { is_some (D.rows drum.old) ≡ true → Ends result
+        (supervisor.new.texts ≡ texts_to limit (run_with no_places supervisor.old) supervisor.old.texts) ⊤ ⊤ }
     ensures counted { Ends result (IsCounted supervisor.old.entries supervisor.new.entries (D.calls drum.old) (D.calls drum.new)) ⊤ ⊤ }
     ensures cause { Ends result ⊤ ⊤ (Rose (D.faults drum.old) (D.faults drum.new)) }
 {
@@ -101,6 +105,8 @@ pub fn run_script<D: Medium>(
     ensures ended { is_some (D.rows drum.old) ≡ true → IfOk result (λ p. Ends p.ended
         (Reaches script.now.end (start_of script.now) p.supervisor) ⊤
         (Stops script.now.end (start_of script.now) p.supervisor (D.calls drum.old) (D.calls drum.new))) }
+    ensures texts { is_some (D.rows drum.old) ≡ true → IfOk result (λ p. Ends p.ended
+        (p.supervisor.texts ≡ texts_to script.now.end (start_of script.now) (replicate 32 [])) ⊤ ⊤) }
     ensures counted { IfOk result (λ p. Ends p.ended (IsCounted [] p.supervisor.entries (D.calls drum.old) (D.calls drum.new)) ⊤ ⊤) }
     ensures cause { IfOk result (λ p. Ends p.ended ⊤ ⊤ (Rose (D.faults drum.old) (D.faults drum.new))) }
 {

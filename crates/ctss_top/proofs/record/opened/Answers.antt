@@ -9,17 +9,21 @@ use Rattle.ctss_top.proofs.record.opened.Goals as goal
 pub take-requires : goal.take-requires
 take-requires c =
     let fits = console_of c.as_slice-event-items.result.now c.args.script.now.events c.loop-event.event-index c.event-item.result c.as_slice-event-items.ensures c.event-item.is c.loop-event-test.true c.requires.seats in
-    record { seat = rw c.loop-event.invariant (seated _ c.args.script.now c.event-item.result fits.0 fits.1) }
+    record { seat = rw c.loop-event.invariant.run (seated _ c.args.script.now c.event-item.result fits.0 fits.1) }
 
 pub loop-event-preserved : goal.loop-event-preserved
 loop-event-preserved c =
-    c.in_ok-take.ensures.ok no_places
-    ∙ ap (given c.event-item.result) c.loop-event.invariant
-    ∙ one_more c.as_slice-event-items.result.now c.loop-event.event-index c.event-item.result c.args.script.now c.loop-event-test.true c.event-item.is
+    record {
+      run =
+          c.in_ok-take.ensures.ok no_places
+          ∙ ap (given c.event-item.result) c.loop-event.invariant.run
+          ∙ one_more c.as_slice-event-items.result.now c.loop-event.event-index c.event-item.result c.args.script.now c.loop-event-test.true c.event-item.is;
+      texts = c.in_ok-take.ensures.texts ∙ c.loop-event.invariant.texts;
+    }
 
-pub returns : goal.returns
-returns c =
-    c.loop-event.invariant
+pub returns-clause-run : goal.returns-clause-run
+returns-clause-run c =
+    c.loop-event.invariant.run
     ∙ ap (λ (es : List Timed). given_all es (at_start c.args.script.now)) (take_all c.loop-event.event-index c.as_slice-event-items.result.now c.loop-event-test.false ∙ c.as_slice-event-items.ensures)
     ∙ all_given c.args.script.now
 

@@ -8,6 +8,9 @@ use Rattle.supervisor.specs.Counts.{IsCounted}
 use Rattle.supervisor.specs.Steps.{Ends}
 use Rattle.ctss_top.specs.Played.{Reaches, Stops}
 use Rattle.ctss_top.proofs.Playing.{has_cores, quota_most, no_entry}
+use Rattle.system_model.specs.Record.{start_of}
+use Rattle.console_texts.specs.Watching.{texts_to}
+use Rattle.supervisor.proofs.Serving.{ends_map}
 use Rattle.ctss_top.proofs.record.run_script.Goals as goal
 
 pub run_to-ended-requires-clause-most : goal.run_to-ended-requires-clause-most
@@ -20,14 +23,21 @@ pub run_to-ended-requires-clause-cores : goal.run_to-ended-requires-clause-cores
 run_to-ended-requires-clause-cores g c =
     let are : c.in_ok-slots.slots.quotas.items ≡ 0 ∷ map (λ (a : Account). a.blocks) c.args.script.now.accounts =
     c.in_ok-slots.ensures.quotas ∙ ap (λ (ns : List ℕ). 0 ∷ ns) (c.deref.ensures.value ∙ c.in_ok-quotas.ensures ∙ ap (map (λ (a : Account). a.blocks)) c.as_slice-accounts.ensures) in
-    has_cores c.args.script.now c.in_ok-supervisor.supervisor c.in_ok-slots.slots.quotas.items (map (λ (a : Account). a.blocks) c.args.script.now.accounts) c.in_ok-supervisor.ensures are refl
+    has_cores c.args.script.now c.in_ok-supervisor.supervisor c.in_ok-slots.slots.quotas.items (map (λ (a : Account). a.blocks) c.args.script.now.accounts) c.in_ok-supervisor.ensures.run are refl
 
 pub returns-clause-ended : goal.returns-clause-ended
 returns-clause-ended g c = λ told.
     subst (λ (r : Run). Ends c.run_to-ended.result (Reaches c.args.script.now.end r c.run_to-ended.new.supervisor) ⊤ (Stops c.args.script.now.end r c.run_to-ended.new.supervisor (g.D.Medium.calls c.args.drum.now) (g.D.Medium.calls c.run_to-ended.new.drum)))
-    c.in_ok-supervisor.ensures (c.run_to-ended.ensures.ended told)
+    c.in_ok-supervisor.ensures.run (c.run_to-ended.ensures.ended told)
 
 pub returns-clause-counted : goal.returns-clause-counted
 returns-clause-counted g c =
     subst (λ (es : List Entry). Ends c.run_to-ended.result (IsCounted es c.run_to-ended.new.supervisor.entries (g.D.Medium.calls c.args.drum.now) (g.D.Medium.calls c.run_to-ended.new.drum)) ⊤ ⊤)
-    (no_entry c.args.script.now c.in_ok-supervisor.supervisor c.in_ok-supervisor.ensures) c.run_to-ended.ensures.counted
+    (no_entry c.args.script.now c.in_ok-supervisor.supervisor c.in_ok-supervisor.ensures.run) c.run_to-ended.ensures.counted
+
+pub returns-clause-texts : goal.returns-clause-texts
+returns-clause-texts g c = λ told.
+    ends_map c.run_to-ended.result _ ⊤ ⊤ _ ⊤ ⊤
+    (λ e. e ∙ ap (λ (r : Run). texts_to c.args.script.now.end r c.in_ok-supervisor.supervisor.texts) c.in_ok-supervisor.ensures.run
+    ∙ ap (texts_to c.args.script.now.end (start_of c.args.script.now)) c.in_ok-supervisor.ensures.texts)
+    (λ h. h) (λ h. h) (c.run_to-ended.ensures.texts told)

@@ -1,5 +1,5 @@
 use Rattle.std.proofs.Common.{◌∙◌, ap, rules}
-use Rattle.ctss_top.proofs.Playing.{tied_first, played, counted_from, stops_from}
+use Rattle.ctss_top.proofs.Playing.{tied_first, played, texts_played, counted_from, stops_from}
 use Rattle.ctss_top.proofs.record.run_to.Goals as goal
 
 pub advance-ended-requires-clause-tied : goal.advance-ended-requires-clause-tied
@@ -17,3 +17,8 @@ pub returns-clause-counted : goal.returns-clause-counted
 returns-clause-counted g c =
     counted_from c.advance-ended.result c.args.supervisor.now.entries c.advance-ended.new.self.entries (g.D.Medium.calls c.first_cores-cores.result.tables.kept.drum.now) (g.D.Medium.calls c.advance-ended.new.cores.tables.kept.drum.now) _ _ _
     (ap g.D.Medium.calls c.first_cores-cores.ensures.now) (search rules) c.advance-ended.ensures.counted
+
+pub returns-clause-texts : goal.returns-clause-texts
+returns-clause-texts g c = λ told.
+    texts_played c.advance-ended.result c.args.limit c.args.supervisor.now c.advance-ended.new.self.texts c.args.slots.quotas.items _ _ _ _ _ c.requires.cores
+    c.first_cores-cores.ensures.words c.first_cores-cores.ensures.places (c.first_cores-cores.ensures.tells ∙ told) c.advance-ended.ensures.texts

@@ -1,8 +1,10 @@
 -- What the answers of a step mean.
-use Rattle.std.specs.Prelude.{ℕ, List, ◌≡◌}
+use Rattle.std.specs.Prelude.{ℕ, Bool, true, false, List, ◌≡◌}
 use Rattle.cpu_regs.specs.declared.regs.Regs.{Regs}
 use Rattle.cpu_regs.specs.declared.regs.OpEnd.{OpEnd}
 use Rattle.cpu_regs.specs.declared.regs.OpEnd.TheVariants as op_end
+use Rattle.opcode_table.specs.declared.op.Op.{Op}
+use Rattle.opcode_table.specs.declared.op.Op.TheVariants as op
 use Rattle.machine_model.specs.Step.{Step}
 use Rattle.machine_model.specs.Step as step
 use Rattle.cpu_step.specs.declared.Stepped.{Stepped}
@@ -29,3 +31,10 @@ Stays stepped.Halt r s core d = Unit {0}
 Stays (stepped.Entry w) r s core d = (s ≡ r) × (d ≡ core)
 Stays stepped.Illegal r s core d = (s ≡ r) × (d ≡ core)
 Stays (stepped.Outside a) r s core d = (s ≡ r) × (d ≡ core)
+
+-- the operations that may halt
+abbrev pub may_halt : Op → Bool
+may_halt op.Dvh = true
+may_halt op.Htr = true
+may_halt op.Hpr = true
+may_halt _ = false

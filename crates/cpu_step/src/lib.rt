@@ -1,15 +1,17 @@
 //! One step of the machine.
 #![tactic(auto)]
 
-ghost use Rattle.std.specs.Prelude.{◌≡◌, ◌<◌, ◌^◌, IfOk};
+ghost use Rattle.std.specs.Prelude.{◌≡◌, ◌<◌, ◌≤◌, ◌^◌, true, false, IfOk};
 ghost use Rattle.opcode_table.specs.Table.{class_of, kind_of};
 ghost use Rattle.opcode_table.specs.Words.{HasFields};
 ghost use Rattle.machine_model.specs.Machine.{table, executed, once, done, row, is_xec, place_of, place_in, indexed};
 ghost use Rattle.machine_model.specs.Results.{ended};
-ghost use Rattle.cpu_step.specs.Results.{outcome, stepped_by, Stays};
+ghost use Rattle.machine_model.specs.Runs.{many};
+ghost use Rattle.machine_model.specs.Step.{went};
+ghost use Rattle.cpu_step.specs.Results.{outcome, stepped_by, may_halt, Stays};
 
 use cpu_regs::{MemoryPort, OpEnd, Regs};
-use opcode_table::{Class, Instr, Kind, class, decode, kind};
+use opcode_table::{Class, Instr, Kind, Op, class, decode, kind};
 use word36::Word;
 
 /// How a step ended.
@@ -45,6 +47,75 @@ pub fn step<M: MemoryPort>(regs: &mut Regs, core: &mut M) -> Stepped
         return Stepped::Illegal;
     };
     execute(regs, core, &i)
+}
+
+/// Does as many steps as go on, at most so many, and says how many they were. It ends before a step that halts, that is a
+/// supervisor entry or no instruction, or whose address is outside, and before an XEC or a DVH: such a step is not done.
+#[tactic(auto, using(machine_model::proofs::Runs::many_none, machine_model::proofs::Runs::many_more))]
+pub fn run<M: MemoryPort>(regs: &mut Regs, core: &mut M, most: u64) -> u64
+    requires { regs.old.ic < 2 ^ 15 }
+    ensures most { result ≤ most }
+    ensures steps { many result regs.old (M.words core.old) ≡ went regs.new (M.words core.new) }
+    ensures keeps { M.Keeps core.old core.new }
+    ensures ic { regs.new.ic < 2 ^ 15 }
+{
+    let mut done = 0;
+    'steps: while done < most {
+        if !go(regs, core) {
+            return done;
+        }
+        done += 1;
+    }
+    done
+}
+
+/// Does a step if it goes on and is no XEC and no DVH; else nothing.
+#[inline(always)]
+fn go<M: MemoryPort>(regs: &mut Regs, core: &mut M) -> bool
+    requires { regs.old.ic < 2 ^ 15 }
+    ensures goes { result ≡ true → table regs.old (M.words core.old) ≡ went regs.new (M.words core.new) }
+    ensures regs { result ≡ false → regs.new ≡ regs.old }
+    ensures core { result ≡ false → M.words core.new ≡ M.words core.old }
+    ensures keeps { M.Keeps core.old core.new }
+    ensures ic { regs.new.ic < 2 ^ 15 }
+{
+    let Ok(fetched) = core.load(regs.ic) else {
+        return false;
+    };
+    let Some(i) = decode(fetched) else {
+        return false;
+    };
+    go_by(regs, core, &i)
+}
+
+/// Does an instruction if it goes on and is no XEC and no DVH; else nothing.
+#[inline(always)]
+#[tactic(auto, using(crate::proofs::Goes::never_halts))]
+fn go_by<M: MemoryPort>(regs: &mut Regs, core: &mut M, i: &Instr) -> bool
+    requires fields { HasFields i.now }
+    requires ic { regs.old.ic < 2 ^ 15 }
+    ensures goes { result ≡ true → executed i.now regs.old (M.words core.old) ≡ went regs.new (M.words core.new) }
+    ensures regs { result ≡ false → regs.new ≡ regs.old }
+    ensures core { result ≡ false → M.words core.new ≡ M.words core.old }
+    ensures keeps { M.Keeps core.old core.new }
+    ensures ic { regs.new.ic < 2 ^ 15 }
+{
+    if is_xec(kind(i.op)) || may_halt(i.op) {
+        return false;
+    }
+    match perform(regs, core, i) {
+        Stepped::Went => true,
+        Stepped::Halt => unreachable!(),
+        Stepped::Entry(_) | Stepped::Illegal | Stepped::Outside(_) => false,
+    }
+}
+
+/// Whether an operation is one of those that may halt.
+#[inline(always)]
+fn may_halt(op: Op) -> bool
+    ensures { result ≡ may_halt op }
+{
+    matches!(op, Op::Dvh | Op::Htr | Op::Hpr)
 }
 
 /// Does an instruction.

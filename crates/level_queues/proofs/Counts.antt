@@ -6,6 +6,7 @@ use Rattle.std.proofs.lemmas.Map.Steps.{length-le_from_distinct_below}
 use Rattle.std.proofs.lemmas.List.Edits.{map_over_more}
 use Rattle.ctss_types.specs.declared.session.Waiting.{Waiting}
 use Rattle.plan_model.specs.Levels.{Levels, is_user, is_in, without_user, one_less, waits, dropped, drop_user, enter_at, first_of}
+use Rattle.plan_model.specs.Spent.{less}
 use Rattle.level_queues.specs.Sound.{times, count, IsSound}
 
 pub over_more : {X : Type 0} (f : X → X) (xs ys : List X) (i : ℕ) (x : X) → i < length xs → ys ≡ map f (take i xs) ++ drop i xs → x ≡ get_or ys i x → set ys i (f x) ≡ map f (take (i + 1) xs) ++ drop (i + 1) xs
@@ -208,6 +209,28 @@ sound_less wq quantum rows u sound =
       nine = simp length-map sound.nine;
       once = λ v. let a = count-less v u rows in let b = sound.once v in omega (arith, a, b);
       known = λ v h. let a = count-less v u rows in let more : 1 ≤ count v rows = omega (arith, a, h) in sound.known v more;
+    }
+
+times-spent_by : (v n u : ℕ) (b : Bool) (x : Waiting) → nat_eq x.user u ≡ b → nat_eq (less n u x).user v ≡ nat_eq x.user v
+times-spent_by v n u true x e = rw e refl
+times-spent_by v n u false x e = rw e refl
+
+times-spent : (v n u : ℕ) (row : List Waiting) → times v (map (less n u) row) ≡ times v row
+times-spent v n u [] = refl
+times-spent v n u (x ∷ xs) = rw (times-spent_by v n u (nat_eq x.user u) x refl, times-spent v n u xs) refl
+
+count-spent : (v n u : ℕ) (rows : List (List Waiting)) → count v (map (map (less n u)) rows) ≡ count v rows
+count-spent v n u [] = refl
+count-spent v n u (row ∷ rows) = rw (times-spent v n u row, count-spent v n u rows) refl
+
+pub sound_spent : (wq quantum : ℕ) (rows : List (List Waiting)) (n u : ℕ) → IsSound wq quantum rows → IsSound wq quantum (map (map (less n u)) rows)
+sound_spent wq quantum rows n u sound =
+    record {
+      some = sound.some;
+      small = sound.small;
+      nine = simp length-map sound.nine;
+      once = λ v. let a = count-spent v n u rows in let b = sound.once v in omega (arith, a, b);
+      known = λ v h. let a = count-spent v n u rows in let more : 1 ≤ count v rows = omega (arith, a, h) in sound.known v more;
     }
 
 first_counts : (k : ℕ) (rows : List (List Waiting)) (p : ℕ × Waiting) → first_of k rows ≡ Some p → 1 ≤ count (p.1).user rows

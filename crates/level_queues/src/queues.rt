@@ -1,7 +1,10 @@
 ghost use Rattle.std.specs.Prelude.{◌≡◌, ◌≤◌, ◌↔◌, Some, None, false, IfSome, IfNone};
 ghost use Rattle.plan_model.specs.Levels.{empty_levels, chosen, waits, entered, dropped, charged, sunk, ticked, enter_at, has_time, level_in, left_in};
+ghost use Rattle.plan_model.specs.Spent.{spent};
 
-use crate::row::{Row, add_in, drop_in_all, first_in, has_in_any, level_of, tick_in_all};
+use crate::row::{
+    Row, add_in, drop_in_all, first_in, has_in_any, level_of, spend_in_all, tick_in_all,
+};
 use ctss_types::{UserNo, Waiting};
 use std::marker::Model;
 
@@ -134,6 +137,14 @@ impl Queues {
         ensures { self.new ≡ ticked user self.old }
     {
         tick_in_all(&mut self.rows, user.number());
+    }
+
+    /// So many ticks of a user's time go by; it keeps its place.
+    #[tactic(auto, unfolding(plan_model::specs::Spent::spent))]
+    pub fn spend(&mut self, user: UserNo, ticks: u64)
+        ensures { self.new ≡ spent ticks user self.old }
+    {
+        spend_in_all(&mut self.rows, user.number(), ticks);
     }
 
     #[tactic(auto, using(crate::proofs::Counts::not_waits), unfolding(plan_model::specs::Levels::sunk))]

@@ -1,5 +1,6 @@
 ghost use Rattle.std.specs.Prelude.{◌≡◌, ◌<◌, ◌≤◌, ◌+◌, ◌*◌, ◌/◌, ◌^◌, ◌++◌, ◌∷◌, [], ℕ, false, map, length, IfSome, set, get_or};
 ghost use Rattle.std.specs.List.{list_any};
+ghost use Rattle.plan_model.specs.Spent.{less};
 ghost use Rattle.plan_model.specs.Levels.{is_user, is_in, without_user, one_less, first_of, head_of, greatest, level_of_words};
 ghost use Rattle.arrayvec.specs.ArrayVec.{array_vec_len};
 
@@ -64,6 +65,13 @@ impl Row {
         tick_each(self.items.as_mut_slice(), user);
     }
 
+    /// So many ticks of a user's quantum go by.
+    pub(crate) fn spend(&mut self, user: u8, ticks: u64)
+        ensures { self.new ≡ map (less ticks user) self.old }
+    {
+        spend_each(self.items.as_mut_slice(), user, ticks);
+    }
+
     /// The next user.
     pub(crate) fn head(&self) -> Option<Waiting>
         ensures { result ≡ head_of self.now }
@@ -86,6 +94,34 @@ fn tick_each(items: &mut [Waiting], user: u8)
 {
     for waiting in items.iter_mut() {
         tick_one(waiting, user);
+    }
+}
+
+fn spend_one(waiting: &mut Waiting, user: u8, ticks: u64)
+    ensures { waiting.new ≡ less ticks user waiting.old }
+{
+    if waiting.user != user {
+        return;
+    }
+    waiting.left = waiting.left.saturating_sub(ticks);
+}
+
+#[tactic(auto, using(crate::proofs::Counts::over_more))]
+fn spend_each(items: &mut [Waiting], user: u8, ticks: u64)
+    ensures { items.new ≡ map (less ticks user) items.old }
+{
+    for waiting in items.iter_mut() {
+        spend_one(waiting, user, ticks);
+    }
+}
+
+/// So many ticks of a user's quantum go by, wherever it stands.
+#[tactic(auto, using(crate::proofs::Counts::over_more))]
+pub(crate) fn spend_in_all(rows: &mut [Row], user: u8, ticks: u64)
+    ensures { rows.new ≡ map (map (less ticks user)) rows.old }
+{
+    for row in rows.iter_mut() {
+        row.spend(user, ticks);
     }
 }
 

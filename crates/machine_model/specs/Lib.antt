@@ -5,3 +5,4 @@ pub mod Index
 pub mod Machine
 pub mod Results
 pub mod Rows
+pub mod Runs

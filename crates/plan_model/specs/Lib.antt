@@ -2,3 +2,4 @@ pub mod Levels
 pub mod Loads
 pub mod Plan
 pub mod Rows
+pub mod Spent

@@ -48,7 +48,7 @@ either u v = by_test (nat_eq v u) refl
     by_test false e = inr (λ k. grind (arith, e, k))
 
 -- the words with others for one user, where the others are the same
-same_but : (k : ℕ) (c : List ℕ) (f g : ℕ → List ℕ) → g k ≡ c → ((u : ℕ) → 1 ≤ u → u ≢ k → g u ≡ f u) → (u : ℕ) → 1 ≤ u → with_core k c f u ≡ g u
+pub same_but : (k : ℕ) (c : List ℕ) (f g : ℕ → List ℕ) → g k ≡ c → ((u : ℕ) → 1 ≤ u → u ≢ k → g u ≡ f u) → (u : ℕ) → 1 ≤ u → with_core k c f u ≡ g u
 same_but k c f g mine others u pos = by_case (either k u)
   where
     by_case : (u ≡ k) ⊎ (u ≢ k) → with_core k c f u ≡ g u

@@ -6,3 +6,4 @@ pub mod Serving
 pub mod Running
 pub mod Starts
 pub mod Watching
+pub mod Passing

@@ -30,15 +30,15 @@ lengths_joined : (f : ℕ → List ℕ) (r : Run) → AreLengths (lengths_of r.s
 unfolding joined
 lengths_joined f r = subst (AreLengths (lengths_of r.system.users)) (transcripts_same 1 f r.system.users) (are_lengths r.system.users)
 
-told_joined : (f : ℕ → List ℕ) (r : Run) (rows : List Shown) → AreShown r.system.consoles (transcripts_of r.system.users) rows → AreShown (joined f r).system.consoles (transcripts_of (joined f r).system.users) rows
+pub told_joined : (f : ℕ → List ℕ) (r : Run) (rows : List Shown) → AreShown r.system.consoles (transcripts_of r.system.users) rows → AreShown (joined f r).system.consoles (transcripts_of (joined f r).system.users) rows
 unfolding joined
 told_joined f r rows told = subst (λ (ts : Transcripts). AreShown r.system.consoles ts rows) (transcripts_same 1 f r.system.users) told
 
-told_apart : (f : ℕ → List ℕ) (r : Run) (rows : List Shown) → AreShown (joined f r).system.consoles (transcripts_of (joined f r).system.users) rows → AreShown r.system.consoles (transcripts_of r.system.users) rows
+pub told_apart : (f : ℕ → List ℕ) (r : Run) (rows : List Shown) → AreShown (joined f r).system.consoles (transcripts_of (joined f r).system.users) rows → AreShown r.system.consoles (transcripts_of r.system.users) rows
 unfolding joined
 told_apart f r rows told = subst (λ (ts : Transcripts). AreShown r.system.consoles ts rows) (sym (transcripts_same 1 f r.system.users)) told
 
-texts_same : (f : ℕ → List ℕ) (r : Run) (rows : List Shown) → map (text_of (transcripts_of r.system.users)) rows ≡ map (text_of (transcripts_of (joined f r).system.users)) rows
+pub texts_same : (f : ℕ → List ℕ) (r : Run) (rows : List Shown) → map (text_of (transcripts_of r.system.users)) rows ≡ map (text_of (transcripts_of (joined f r).system.users)) rows
 unfolding joined
 texts_same f r rows = ap (λ (ts : Transcripts). map (text_of ts) rows) (transcripts_same 1 f r.system.users)
 

@@ -3,6 +3,7 @@ ghost use Rattle.std.specs.Prelude.{◌≡◌, ◌<◌, ◌≤◌, ◌+◌, ◌-
 ghost use Rattle.plan_model.specs.Loads.{Places};
 ghost use Rattle.system_model.specs.Cases.{idled, served, waited};
 ghost use Rattle.system_model.specs.Joined.{counted, moved};
+ghost use Rattle.system_model.specs.Runs.{elapsed};
 ghost use Rattle.supervisor.specs.Seen.{seen, left_queues};
 
 use crate::notes::{
@@ -121,6 +122,25 @@ impl State {
         note_some(&mut self.entries, serve_note(v, cause));
         self.clock += 1;
         self.service = service_after(v, cause);
+    }
+
+    /// The clock, the queues and the service behind so many steps of the user that is served, which went on.
+    #[tactic(auto, unfolding(system_model::specs::Runs::elapsed))]
+    pub(crate) fn count_ticks(&mut self, v: Service, ticks: u64)
+        requires some { 0 < v.user }
+        requires few { v.user ≤ 30 }
+        requires ran { v.ran ≤ self.old.clock }
+        requires before { self.old.clock + ticks ≤ 100000000 }
+        ensures { (places : Places) → seen places self.new ≡ elapsed ticks v (seen places self.old) }
+    {
+        self.queues.spend(UserNo::of(v.user), ticks);
+        self.clock += ticks;
+        self.service = Some(Service {
+            tick: v.tick,
+            user: v.user,
+            level: v.level,
+            ran: v.ran + ticks,
+        });
     }
 
     /// A chosen user that can't step.

@@ -214,6 +214,7 @@ impl Watch {
                 Ok(()) => {}
                 Err(fault) => return Err(fault),
             }
+            self.state.run(cores, limit);
         }
         Ok(())
     }

@@ -1,5 +1,5 @@
 //! Steps of the state together with users' cores, one after another.
-ghost use Rattle.std.specs.Prelude.{◌≡◌, ◌<◌, ◌≤◌, ◌-◌, ◌^◌, length, true, false, OnOk, OnErr, IfOk, ⊤};
+ghost use Rattle.std.specs.Prelude.{◌≡◌, ◌<◌, ◌≤◌, ◌+◌, ◌-◌, ◌^◌, length, true, false, Some, OnOk, OnErr, IfOk, ⊤};
 ghost use Rattle.faults.specs.Faults.{Rose};
 ghost use Rattle.drum_slots.specs.Keys.{quota_of};
 ghost use Rattle.image_map.specs.Images.{size_of};
@@ -9,14 +9,16 @@ ghost use Rattle.system_model.specs.Run.{next, taken, otherwise, attended};
 ghost use Rattle.system_model.specs.Cases.{served, idled};
 ghost use Rattle.system_model.specs.Sound.{HasSeat, IsUser, Sound};
 ghost use Rattle.time_sharing.specs.Machine.{Went};
-ghost use Rattle.time_sharing.specs.System.{Preempt};
+ghost use Rattle.time_sharing.specs.System.{Preempt, next_tick};
 ghost use Rattle.user_cores.specs.Swaps.{IsCutOff};
 ghost use Rattle.supervisor.specs.Counts.{IsCounted, calls_to_load};
+ghost use Rattle.supervisor.specs.Runs.{DoesMany};
 ghost use Rattle.supervisor.specs.Seen.{seen, number_of};
 ghost use Rattle.supervisor.specs.Steps.{Does, Stays, IsHeld, IsTied, IsLeft, IsSettled, LoadFails, NextLoadFails, HasRun, HasRunPart, HasRunToLoad, Ends, Lasts};
 
 use crate::state::State;
 use ctss_types::{Cause, Ending, NoMemory, RunFault, Service, Timed, UserNo};
+use level_queues::Chosen;
 use user_cores::Cores;
 use user_session::Turn;
 
@@ -281,6 +283,105 @@ impl State {
                 Err(_) => Err(RunFault::NoMemory),
             },
             None => self.go_on(cores, limit),
+        }
+    }
+
+    /// So many ticks at most may go by until something else than the user of the service is to be looked at: an event, the
+    /// limit, or the end of the user's time, of which so many ticks are left.
+    fn spare(&self, left: u64, limit: u64) -> u64
+        ensures left { 0 < result → result < left }
+        ensures limit { 0 < result → self.now.clock + result ≤ limit }
+        ensures quiet { 0 < result → self.now.clock + result ≤ next_tick limit self.now.events.items }
+    {
+        let until = match self.events.front() {
+            Some(e) => e.tick.min(limit),
+            None => limit,
+        };
+        until.saturating_sub(self.clock).min(left.saturating_sub(1))
+    }
+
+    /// Instructions of the user of the service, one after another: as many as go on, at most so many.
+    fn work<C: Cores>(&mut self, cores: &mut C, v: Service, next: Chosen, most: u64, limit: u64)
+        requires works { C.Works cores.old }
+        requires held { IsHeld (seen (C.memory cores.old).places self.old) (C.memory cores.old) }
+        requires user { IsUser v.user (seen (C.memory cores.old).places self.old) }
+        requires loaded { is_loaded (C.memory cores.old).places v.user (size_of (C.memory cores.old).sizes v.user) ≡ true }
+        requires serves { self.old.service ≡ Some v }
+        requires first { chosen self.old.queues ≡ Some (next.level, record { user = next.user; left = next.left }) }
+        requires mine { next.user ≡ v.user }
+        requires left { most < next.left }
+        requires up { self.old.clock + most ≤ limit }
+        requires quiet { self.old.clock + most ≤ next_tick limit self.old.events.items }
+        requires limit { limit ≤ 100000000 }
+        ensures many { DoesMany limit (seen (C.memory cores.old).places self.old)
+            (seen (C.memory cores.new).places self.new) (C.memory cores.old) (C.memory cores.new) }
+        ensures entries { self.new.entries.items ≡ self.old.entries.items }
+        ensures tied { IsTied self.new.sessions.items (C.memory cores.new) }
+        ensures works { C.Works cores.new }
+        ensures keeps { C.Keeps cores.old cores.new }
+        ensures calls { C.calls cores.new ≡ C.calls cores.old }
+        ensures faults { C.faults cores.new ≡ C.faults cores.old }
+    {
+        let user = UserNo::of(v.user);
+        let session = &mut self.sessions[v.user as usize - 1];
+        let ticks = cores.advance(user, session, most);
+        self.count_ticks(v, ticks);
+    }
+
+    /// Instructions of the user of the service, if it is the head of the lowest level and all its blocks are in core, until
+    /// something else is to be looked at.
+    #[tactic(auto, using(crate::proofs::Passing::stands_still))]
+    fn work_on<C: Cores>(&mut self, cores: &mut C, v: Service, next: Chosen, limit: u64)
+        requires works { C.Works cores.old }
+        requires held { IsHeld (seen (C.memory cores.old).places self.old) (C.memory cores.old) }
+        requires user { IsUser v.user (seen (C.memory cores.old).places self.old) }
+        requires serves { self.old.service ≡ Some v }
+        requires first { chosen self.old.queues ≡ Some (next.level, record { user = next.user; left = next.left }) }
+        requires mine { next.user ≡ v.user }
+        requires limit { limit ≤ 100000000 }
+        ensures many { DoesMany limit (seen (C.memory cores.old).places self.old)
+            (seen (C.memory cores.new).places self.new) (C.memory cores.old) (C.memory cores.new) }
+        ensures entries { self.new.entries.items ≡ self.old.entries.items }
+        ensures tied { IsTied self.new.sessions.items (C.memory cores.new) }
+        ensures works { C.Works cores.new }
+        ensures keeps { C.Keeps cores.old cores.new }
+        ensures calls { C.calls cores.new ≡ C.calls cores.old }
+        ensures faults { C.faults cores.new ≡ C.faults cores.old }
+    {
+        if !cores.is_loaded(UserNo::of(v.user)) {
+            return;
+        }
+        let most = self.spare(next.left, limit);
+        if most == 0 {
+            return;
+        }
+        self.work(cores, v, next, most, limit);
+    }
+
+    /// As many instructions of the user of the service as can be done before anything else is to be looked at, one after
+    /// another: each is a step, but none of them asks again whom to serve.
+    #[tactic(auto, using(crate::proofs::Passing::stands_still))]
+    pub(crate) fn run<C: Cores>(&mut self, cores: &mut C, limit: u64)
+        requires works { C.Works cores.old }
+        requires held { IsHeld (seen (C.memory cores.old).places self.old) (C.memory cores.old) }
+        requires limit { limit ≤ 100000000 }
+        ensures many { DoesMany limit (seen (C.memory cores.old).places self.old)
+            (seen (C.memory cores.new).places self.new) (C.memory cores.old) (C.memory cores.new) }
+        ensures entries { self.new.entries.items ≡ self.old.entries.items }
+        ensures tied { IsTied self.new.sessions.items (C.memory cores.new) }
+        ensures works { C.Works cores.new }
+        ensures keeps { C.Keeps cores.old cores.new }
+        ensures calls { C.calls cores.new ≡ C.calls cores.old }
+        ensures faults { C.faults cores.new ≡ C.faults cores.old }
+    {
+        match (self.queues.choose(), self.service) {
+            (Some(next), Some(v)) => {
+                if v.user != next.user.number() {
+                    return;
+                }
+                self.work_on(cores, v, next, limit);
+            }
+            (None, _) | (Some(_), None) => {}
         }
     }
 }

@@ -74,7 +74,7 @@ was_set k f (q ∷ ps) (suc i) c p =
     ∙ ap (λ (d : List ℕ). in_core d q ∷ with_cores (suc k) (with_core (suc k + i) c f) (set ps i p)) (other (suc k + i) k c f (λ e. omega (arith, e)))
     ∙ ap (λ (qs : List User). in_core (f k) q ∷ qs) (was_set (suc k) f ps i c p)
 
-set_joined : (f : ℕ → List ℕ) (ps : List User) (u : ℕ) (c : List ℕ) (p : User) → 0 < u → with_cores 1 (with_core u c f) (with_user u p ps) ≡ with_user u (in_core c p) (with_cores 1 f ps)
+pub set_joined : (f : ℕ → List ℕ) (ps : List User) (u : ℕ) (c : List ℕ) (p : User) → 0 < u → with_cores 1 (with_core u c f) (with_user u p ps) ≡ with_user u (in_core c p) (with_cores 1 f ps)
 set_joined f ps u c p pos =
     let e : 1 + (u - 1) ≡ u = omega arith in
     ap (λ (n : ℕ). with_cores 1 (with_core n c f) (with_user u p ps)) (sym e) ∙ was_set 1 f ps (u - 1) c p
@@ -109,7 +109,7 @@ unfolding waited joined
 waited_joined f v r = refl
 
 -- the joined users are as many
-is_user_too : (f : ℕ → List ℕ) (u : ℕ) (r : Run) → IsUser u r → IsUser u (joined f r)
+pub is_user_too : (f : ℕ → List ℕ) (u : ℕ) (r : Run) → IsUser u r → IsUser u (joined f r)
 unfolding joined
 is_user_too f u r who = let e = as_many 1 f r.system.users in let h = who.within in record { some = who.some; within = omega (arith, e, h) }
 

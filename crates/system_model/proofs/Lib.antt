@@ -7,3 +7,4 @@ pub mod RunLaws
 pub mod AloneLaws
 pub mod PartLaws
 pub mod RowsComputed
+pub mod PassLaws

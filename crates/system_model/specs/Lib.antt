@@ -6,3 +6,4 @@ pub mod Joined
 pub mod Record
 pub mod Claims
 pub mod Rows
+pub mod Runs

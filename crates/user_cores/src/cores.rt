@@ -6,6 +6,7 @@ ghost use Rattle.drum_slots.specs.Keys.{quota_of};
 ghost use Rattle.image_map.specs.Images.{size_of};
 ghost use Rattle.plan_model.specs.Loads.{is_loaded, loaded, given_up, count_below, is_dumped, is_read, is_fresh};
 ghost use Rattle.user_model.specs.Inner.{blocks_of, recut, zeros};
+ghost use Rattle.user_model.specs.Runs.{HaveGone};
 ghost use Rattle.user_session.specs.Turns.{IsTurn};
 ghost use Rattle.user_cores.specs.Memory.{Memory};
 ghost use Rattle.user_cores.specs.Swaps.{IsMade, IsCutOff};
@@ -110,6 +111,27 @@ pub trait Cores {
         ensures err { OnErr result (session.new ≡ session.old) }
         ensures err_words { OnErr result (window self.new user ≡ window self.old user) }
         ensures len { length (window self.new user) ≡ 256 * size_of (memory self.old).sizes user }
+        ensures works { Works self.new }
+        ensures keeps { Keeps self.old self.new }
+        ensures was { (memory self.old).tells ≡ true → (memory self.old).words user ≡ window self.old user }
+        ensures mine { (memory self.old).tells ≡ true → (memory self.new).words user ≡ window self.new user }
+        ensures others { (u : ℕ) → 1 ≤ u → u ≢ user → (memory self.new).words u ≡ (memory self.old).words u }
+        ensures tells { (memory self.new).tells ≡ (memory self.old).tells }
+        ensures sizes { (memory self.new).sizes ≡ (memory self.old).sizes }
+        ensures quotas { (memory self.new).quotas ≡ (memory self.old).quotas }
+        ensures places { (memory self.new).places ≡ (memory self.old).places }
+        ensures calls { calls self.new ≡ calls self.old }
+        ensures faults { faults self.new ≡ faults self.old };
+
+    /// As many instructions as go on, at most so many, of the session of a user whose blocks are all in core; and how many
+    /// they were.
+    fn advance(&mut self, user: UserNo, session: &mut Session, most: u64) -> u64
+        requires works { Works self.old }
+        requires user { user < length (memory self.old).sizes }
+        requires loaded { is_loaded (memory self.old).places user (size_of (memory self.old).sizes user) ≡ true }
+        requires fits { session.old.own + most < 2 ^ 64 }
+        ensures most { result ≤ most }
+        ensures gone { HaveGone result session.old session.new (window self.old user) (window self.new user) }
         ensures works { Works self.new }
         ensures keeps { Keeps self.old self.new }
         ensures was { (memory self.old).tells ≡ true → (memory self.old).words user ≡ window self.old user }

@@ -1,6 +1,6 @@
 //! Users' cores that are swapped with a drum.
 use crate::cores::Cores;
-use crate::turn::turn_in;
+use crate::turn::{advance_in, turn_in};
 use ctss_types::{NoMemory, UserNo};
 use image_map::{DrumFault, Image, Plan};
 use medium::Medium;
@@ -56,5 +56,11 @@ impl<D: Medium> Cores for Image<'_, D> {
     fn turn(&mut self, user: UserNo, session: &mut Session, now: u64) -> Result<Turn, NoMemory> {
         let blocks = self.size(user);
         turn_in(self.bank_mut(), blocks, session, now)
+    }
+
+    #[tactic(auto, using(crate::proofs::Images::whole_turned, crate::proofs::Images::words_resident, crate::proofs::Images::words_stay))]
+    fn advance(&mut self, user: UserNo, session: &mut Session, most: u64) -> u64 {
+        let blocks = self.size(user);
+        advance_in(self.bank_mut(), blocks, session, most)
     }
 }

@@ -1,7 +1,8 @@
 //! A step of a session over the first blocks of a bank.
-ghost use Rattle.std.specs.Prelude.{◌≡◌, ◌<◌, ◌≤◌, ◌-◌, ◌*◌, ◌^◌, length, take, drop, IfOk, OnErr};
+ghost use Rattle.std.specs.Prelude.{◌≡◌, ◌<◌, ◌≤◌, ◌+◌, ◌-◌, ◌*◌, ◌^◌, length, take, drop, IfOk, OnErr};
 ghost use Rattle.core_bank.specs.Bank.{AreWords};
 ghost use Rattle.user_model.specs.Inner.{blocks_of};
+ghost use Rattle.user_model.specs.Runs.{HaveGone};
 ghost use Rattle.user_session.specs.Turns.{IsTurn};
 
 use core_bank::Bank;
@@ -32,4 +33,20 @@ pub fn turn_in(
 {
     let mut port = Port::over(bank, blocks);
     session.step(&mut port, now)
+}
+
+/// Instructions of a session whose program's words are the first blocks of a bank: as many as go on, at most so many. The
+/// words behind them stay.
+pub fn advance_in(bank: &mut Bank, blocks: u8, session: &mut Session, most: u64) -> u64
+    requires blocks { blocks ≤ 128 }
+    requires words { AreWords bank.old }
+    requires fits { session.old.own + most < 2 ^ 64 }
+    ensures words { AreWords bank.new }
+    ensures len { length bank.new ≡ 32768 }
+    ensures most { result ≤ most }
+    ensures gone { HaveGone result session.old session.new (take (256 * blocks) bank.old) (take (256 * blocks) bank.new) }
+    ensures rest { drop (256 * blocks) bank.new ≡ drop (256 * blocks) bank.old }
+{
+    let mut window = Port::over(bank, blocks);
+    session.advance(&mut window, most)
 }

@@ -95,6 +95,13 @@ goes_by t p c c' s r h none is on zero_given reads row size =
     ∙ ap (λ (ts : List Item). in_core c' (record p { inner = record p.inner { regs = r }; transcript = ts; own = suc p.own })) (sym (nil p.transcript))
     ∙ by_row t p c c' s None (record p.inner { regs = r }) [] Went h none is on zero_given (ap (λ (b : Bool). first_line b p.unread) reads) (row (suc p.own - p.before)) refl
 
+-- other registers, and any words
+pub plain_step : (t : ℕ) (p : User) (c c' : List ℕ) (r : Regs) → is_command_in p.inner.state ≡ false → p.inner.fill ≡ None → table p.inner.regs c ≡ went r c' → p.on ≡ true → p.given ≡ 0 →
+    in_core c' (record p { inner = record p.inner { regs = r }; own = suc p.own }) ≡ step t (in_core c p)
+plain_step t p c c' r h none is on zero_given =
+    ap (λ (ts : List Item). in_core c' (record p { inner = record p.inner { regs = r }; transcript = ts; own = suc p.own })) (sym (nil p.transcript))
+    ∙ by_row t p c c' (went r c') None (record p.inner { regs = r }) [] Went h none is on zero_given refl refl refl
+
 pub went_step : (t : ℕ) (p : User) (c c' : List ℕ) (r : Regs) → is_command_in p.inner.state ≡ false → p.inner.fill ≡ None → table p.inner.regs c ≡ went r c' → p.on ≡ true → p.given ≡ 0 → length c' ≡ 256 * p.inner.blocks →
     in_core (recut p.inner.blocks c') (record p { inner = record p.inner { regs = r }; own = suc p.own }) ≡ step t (in_core c p)
 went_step t p c c' r h none is on zero_given size = goes_by t p c c' (went r c') r h none is on zero_given refl (λ n. refl) size

@@ -2,3 +2,4 @@ pub mod StepLaws
 pub mod CoreLaws
 pub mod TurnLaws
 pub mod WentLaws
+pub mod RunLaws

@@ -5,3 +5,4 @@ pub mod Commands
 pub mod Session
 pub mod User
 pub mod Steps
+pub mod Runs

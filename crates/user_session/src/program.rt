@@ -1,17 +1,18 @@
 //! Steps of a program that works, and one step of a user.
-ghost use Rattle.std.specs.Prelude.{◌≡◌, ◌<◌, ◌≤◌, ◌-◌, ◌*◌, ◌^◌, suc, true, false, None, Some, length, IfOk, OnOk, OnErr};
+ghost use Rattle.std.specs.Prelude.{◌≡◌, ◌<◌, ◌≤◌, ◌+◌, ◌-◌, ◌*◌, ◌^◌, suc, true, false, None, Some, length, IfOk, OnOk, OnErr};
 ghost use Rattle.file_model.specs.Files.{got};
 ghost use Rattle.program_model.specs.Decks.{words_got, filled};
 ghost use Rattle.program_model.specs.declared.Fill.{Fill};
 ghost use Rattle.user_model.specs.Session.{is_command_in};
+ghost use Rattle.user_model.specs.Runs.{HaveGone, IsAtWork};
 ghost use Rattle.user_session.specs.Turns.{IsTurn};
 
 use crate::entry::note_stop;
-use crate::session::Session;
+use crate::session::{Session, is_command_in};
 use crate::{Step, Turn};
 use cmd_program::fill;
 use cpu_regs::MemoryPort;
-use cpu_step::{Stepped, step};
+use cpu_step::{Stepped, run, step};
 use ctss_types::{Ending, NoMemory};
 use program_model::Fill;
 
@@ -115,6 +116,29 @@ impl Session {
                 }))
             }
         }
+    }
+
+    /// Whether a program works, with nothing that is still to be stored.
+    fn is_at_work(&self) -> bool
+        ensures { result ≡ true → IsAtWork self.now }
+    {
+        self.on && !is_command_in(self.state) && self.fill.is_none()
+    }
+
+    /// Does as many instructions of a program that works as go on, at most so many, and says how many steps they were.
+    #[tactic(auto, using(user_model::proofs::RunLaws::gone_still))]
+    pub fn advance<M: MemoryPort>(&mut self, core: &mut M, most: u64) -> u64
+        requires fits { self.old.own + most < 2 ^ 64 }
+        ensures most { result ≤ most }
+        ensures gone { HaveGone result self.old self.new (M.words core.old) (M.words core.new) }
+        ensures keeps { M.Keeps core.old core.new }
+    {
+        if !self.is_at_work() {
+            return 0;
+        }
+        let done = run(&mut self.regs, core, most);
+        self.own += done;
+        done
     }
 
     /// A step at a tick, if one can be done: the command of the first unread line, or the next step of a program.

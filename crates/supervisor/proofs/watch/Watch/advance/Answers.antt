@@ -1,4 +1,5 @@
-use Rattle.std.proofs.Common.{rules, refl, sym, ap, subst, ◌∙◌, arith}
+use Rattle.std.proofs.Common.{◌≡◌, List, rules, refl, sym, ap, subst, ◌∙◌, arith}
+use Rattle.console_texts.specs.Parts.{Shown}
 use Rattle.system_model.specs.Run.{Run}
 use Rattle.system_model.specs.Sound.{Sound}
 use Rattle.plan_model.specs.Loads.{no_places}
@@ -8,7 +9,9 @@ use Rattle.supervisor.proofs.Counting.{counted_same, counted_on}
 use Rattle.supervisor.proofs.Doing.{does_fall}
 use Rattle.supervisor.proofs.Serving.{fails_map, fails_both, fails_to}
 use Rattle.supervisor.proofs.Running.{sound_places, leads_on, part_on, part_none, run_done, held_on, part_still, stops_at_load}
-use Rattle.supervisor.specs.Shows.{texts_of}
+use Rattle.supervisor.specs.Steps.{IsHeld}
+use Rattle.supervisor.specs.Shows.{texts_of, rows_of}
+use Rattle.supervisor.proofs.Passing.{pass_leads, pass_part, pass_falls, pass_held, pass_told, pass_texts_lead, pass_texts_part}
 use Rattle.supervisor.proofs.Watching.{texts_lead, texts_part, texts_none, texts_still, texts_end, texts_stop}
 use Rattle.supervisor.proofs.watch.Watch.advance.Goals as goal
 
@@ -28,38 +31,54 @@ steps-init g c =
       kept = omega arith;
     }
 
+pub run-requires-clause-held : goal.run-requires-clause-held
+run-requires-clause-held g c =
+    let had : Memory = g.C.Cores.memory c.steps.cores in
+    let mid : Memory = g.C.Cores.memory c.step.new.cores in
+    held_on c.args.limit (seen had.places c.steps.self.state) (seen mid.places c.step.new.self.state) had mid c.steps-test.true c.steps.invariant.held c.in-Ok.ensures.tied c.in-Ok.ensures.ended
+
 pub steps-smaller : goal.steps-smaller
 steps-smaller g c =
     let had : Memory = g.C.Cores.memory c.steps.cores in
-    let has : Memory = g.C.Cores.memory c.step.new.cores in
-    does_fall c.args.limit (seen had.places c.steps.self.state) (seen has.places c.step.new.self.state) had has c.steps-test.true c.in-Ok.ensures.ended
+    let mid : Memory = g.C.Cores.memory c.step.new.cores in
+    let has : Memory = g.C.Cores.memory c.run.new.cores in
+    let down = does_fall c.args.limit (seen had.places c.steps.self.state) (seen mid.places c.step.new.self.state) had mid c.steps-test.true c.in-Ok.ensures.ended in
+    let more = pass_falls c.args.limit (seen mid.places c.step.new.self.state) (seen has.places c.run.new.self) mid has c.run.ensures.many in
+    omega (arith, down, more)
 
 pub steps-preserved : goal.steps-preserved
 steps-preserved g c =
     let first : Memory = g.C.Cores.memory c.args.cores.now in
     let had : Memory = g.C.Cores.memory c.steps.cores in
-    let has : Memory = g.C.Cores.memory c.step.new.cores in
+    let mid : Memory = g.C.Cores.memory c.step.new.cores in
+    let has : Memory = g.C.Cores.memory c.run.new.cores in
     let start : Run = seen first.places c.args.self.now.state in
     let old : Run = seen had.places c.steps.self.state in
-    let new : Run = seen has.places c.step.new.self.state in
+    let next : Run = seen mid.places c.step.new.self.state in
+    let new : Run = seen has.places c.run.new.self in
     let inv = c.steps.invariant in
     let up = c.steps-test.true in
     let done = c.in-Ok.ensures.ended in
+    let many = c.run.ensures.many in
+    let rows : List Shown = rows_of c.step.new.self.texts in
     let x = texts_of c.args.self.now.state.sessions.items c.args.self.now.texts in
     let y = texts_of c.steps.self.state.sessions.items c.steps.self.texts in
     let z = texts_of c.step.new.self.state.sessions.items c.step.new.self.texts in
+    let tells : mid.tells ≡ first.tells = done.tells ∙ inv.tells in
+    let held : IsHeld next mid = held_on c.args.limit old next had mid up inv.held c.in-Ok.ensures.tied done in
+    let told = c.in-Ok.ensures.told in
     record {
-      leads = leads_on c.args.limit start old new first had has inv.tells up done inv.leads;
-      part = part_on c.args.limit start old new first had has inv.tells up done inv.part;
-      lead = texts_lead c.args.limit start old new first had has x y z inv.tells up done c.in-Ok.ensures.texts inv.lead;
-      texts = texts_part c.args.limit start old new first had has x y z inv.tells up done c.in-Ok.ensures.texts inv.texts;
-      told = c.in-Ok.ensures.told;
-      counted = counted_on _ _ _ _ _ _ inv.counted c.in-Ok.ensures.counted;
-      tells = done.tells ∙ inv.tells;
-      held = held_on c.args.limit old new had has up inv.held c.in-Ok.ensures.tied done;
-      works = c.in-Ok.ensures.works;
-      keeps = search rules;
-      kept = let a = inv.kept in let b = c.in-Ok.ensures.kept in omega (arith, a, b);
+      leads = pass_leads c.args.limit next new mid has many start first tells (leads_on c.args.limit start old next first had mid inv.tells up done inv.leads);
+      part = pass_part c.args.limit next new mid has many start first tells (part_on c.args.limit start old next first had mid inv.tells up done inv.part);
+      lead = pass_texts_lead c.args.limit next new mid has many rows held.sound told start first x tells (texts_lead c.args.limit start old next first had mid x y z inv.tells up done c.in-Ok.ensures.texts inv.lead);
+      texts = pass_texts_part c.args.limit next new mid has many rows held.sound told start first x tells (texts_part c.args.limit start old next first had mid x y z inv.tells up done c.in-Ok.ensures.texts inv.texts);
+      told = pass_told c.args.limit next new mid has many rows held.sound told;
+      counted = counted_on _ _ _ _ _ _ (counted_on _ _ _ _ _ _ inv.counted c.in-Ok.ensures.counted) (counted_same _ _ _ _ c.run.ensures.entries c.run.ensures.calls);
+      tells = many.tells ∙ tells;
+      held = pass_held c.args.limit next new mid has many held c.run.ensures.tied;
+      works = c.run.ensures.works;
+      keeps = g.met.C.Cores.goes_on _ _ _ (g.met.C.Cores.goes_on _ _ _ inv.keeps c.in-Ok.ensures.keeps) c.run.ensures.keeps;
+      kept = let a = inv.kept in let b = c.in-Ok.ensures.kept in let e = c.run.ensures.faults in omega (arith, a, b, e);
     }
 
 pub returns-in-Err-clause-ended : goal.returns-in-Err-clause-ended

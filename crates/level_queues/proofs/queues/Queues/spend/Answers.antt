@@ -1,0 +1,5 @@
+use Rattle.level_queues.proofs.Counts.{sound_spent}
+use Rattle.level_queues.proofs.queues.Queues.spend.Goals as goal
+
+pub invariant_of-self : goal.invariant_of-self
+invariant_of-self c = rw c.spend_in_all.ensures (sound_spent _ _ _ _ _ c.self.invariant)

@@ -1,0 +1,7 @@
+use Rattle.std.proofs.Common.{map}
+use Rattle.plan_model.specs.Spent.{less}
+use Rattle.level_queues.proofs.Counts.{over_at}
+use Rattle.level_queues.proofs.row.spend_in_all.Goals as goal
+
+pub loop-row-preserved : goal.loop-row-preserved
+loop-row-preserved c = over_at (map (less c.args.ticks c.args.user)) c.args.rows.now c.loop-row.rows c.loop-row.row-index _ _ c.loop-row-test.true c.loop-row.auto.rows c.loop-row.invariant c.spend.ensures

@@ -1,0 +1,152 @@
+-- What many steps of the user that is served keep, over users joined with words.
+use Rattle.std.proofs.Common.{◌≡◌, ◌≢◌, ℕ, zero, suc, ◌+◌, ◌-◌, ◌<◌, ◌≤◌, true, false, List, length, map, Option, Some, None, refl, sym, ◌∙◌, ap, subst, arith}
+use Rattle.time_sharing.specs.System.{Service, next_tick}
+use Rattle.ctss_types.specs.declared.session.Waiting.{Waiting}
+use Rattle.user_model.specs.Inner.{blocks_of}
+use Rattle.user_model.specs.User.{User}
+use Rattle.user_model.specs.Runs.{HaveGone}
+use Rattle.plan_model.specs.Levels.{chosen}
+use Rattle.plan_model.specs.Plan.{must_load}
+use Rattle.system_model.specs.Run.{Run, next, run_to, measure, AfterSteps, due_of}
+use Rattle.system_model.specs.Cases.{user_at}
+use Rattle.system_model.specs.Joined.{joined, with_core}
+use Rattle.system_model.specs.Runs.{Passes, passed}
+use Rattle.system_model.specs.Sound.{Sound, IsUser}
+use Rattle.system_model.proofs.JoinedLaws.{joined_same, with_own, with_other, sound_joined, sound_unjoined, measure_joined}
+use Rattle.system_model.proofs.PassLaws.{passes_joined, passes_keep}
+use Rattle.system_model.proofs.RunLaws.{measure_next, run_to_next, after_next}
+use Rattle.system_model.proofs.SoundLaws.{sound_next}
+use Rattle.console_texts.specs.Parts.{Shown, Transcripts, text_of}
+use Rattle.console_texts.specs.Following.{AreShown}
+use Rattle.console_texts.specs.Watching.{transcripts_of, texts_next, texts_to, AfterShown}
+use Rattle.console_texts.proofs.Watched.{shown_still, texts_on, shown_on}
+use Rattle.user_cores.specs.Memory.{Memory}
+use Rattle.supervisor.specs.Runs.{DoesMany}
+use Rattle.supervisor.specs.Steps.{IsTied, IsHeld, HasRunPart}
+use Rattle.supervisor.specs.Shows.{HasTextsPart}
+use Rattle.supervisor.proofs.Doing.{same_but}
+use Rattle.supervisor.proofs.Running.{Leads}
+use Rattle.supervisor.proofs.Watching.{TextsLead, texts_same, told_joined, told_apart}
+
+-- no step
+pub does_none_at_all : (limit : ℕ) (old new : Run) (had has : Memory) → new ≡ old → (had.tells ≡ true → (u : ℕ) → 1 ≤ u → has.words u ≡ had.words u) → has.tells ≡ had.tells → DoesMany limit old new had has
+does_none_at_all limit old new had has is words tells =
+    record { steps = 0; before = had.words; after = had.words; passes = ap (joined had.words) is; was = λ t u h. refl; now = λ t u h. sym (words t u h); tells = tells }
+
+pub stands_still : (limit : ℕ) (old : Run) (had : Memory) → DoesMany limit old old had had
+stands_still limit old had = does_none_at_all limit old old had had refl (λ t u h. refl) refl
+
+-- instructions of the user of the service
+pub does_many : (limit n l : ℕ) (w : Waiting) (v : Service) (p : User) (old new : Run) (had has : Memory) (window after : List ℕ) → IsUser v.user old → old.system.service ≡ Some v
+    → chosen old.system.plan.levels ≡ Some (l, w) → w.user ≡ v.user → (0 < n → n < w.left)
+    → old.system.clock + n ≤ limit → old.system.clock + n ≤ next_tick limit old.system.events
+    → must_load old.system.plan v.user (blocks_of (user_at v.user old.system.users).inner) ≡ false
+    → HaveGone n (user_at v.user old.system.users) p window after
+    → new ≡ passed n v p old
+    → (had.tells ≡ true → had.words v.user ≡ window)
+    → (had.tells ≡ true → has.words v.user ≡ after)
+    → ((u : ℕ) → 1 ≤ u → u ≢ v.user → has.words u ≡ had.words u) → has.tells ≡ had.tells → DoesMany limit old new had has
+does_many limit n l w v p old new had has window after who serves first mine left up quiet loaded gone is was here others tells =
+    record {
+      steps = n;
+      before = f;
+      after = with_core v.user after f;
+      passes = subst (λ (r : Run). Passes limit n (joined f old) (joined (with_core v.user after f) r)) (sym is)
+          (passes_joined limit n l w v f window after p old who serves first mine left up quiet loaded (with_own v.user window had.words) gone);
+      was = λ told u h. same_but v.user window had.words had.words (was told) (λ x k n. refl) u h;
+      now = λ told u h. same_but v.user after f has.words (here told) (λ x k n. others x k n ∙ sym (with_other v.user x window had.words n)) u h;
+      tells = tells;
+    }
+  where
+    f : ℕ → List ℕ
+    f = with_core v.user window had.words
+
+-- what the loop over steps keeps
+
+module _ (limit : ℕ) (mid new : Run) (had has : Memory) (d : DoesMany limit mid new had has) where
+  abbrev from : Run
+  from = joined d.before mid
+
+  abbrev to : Run
+  to = joined d.after new
+
+  was_joined : had.tells ≡ true → joined had.words mid ≡ from
+  was_joined told = joined_same had.words d.before mid (λ u h. sym (d.was told u h))
+
+  now_joined : had.tells ≡ true → joined has.words new ≡ to
+  now_joined told = joined_same has.words d.after new (λ u h. sym (d.now told u h))
+
+  pub pass_sound : Sound mid → Sound new
+  pass_sound sound = sound_unjoined d.after new (passes_keep Sound limit d.steps from to (λ r up quiet same h. sound_next limit r up h) d.passes (sound_joined d.before mid sound))
+
+  pub pass_held : IsHeld mid had → IsTied new.system.users has → IsHeld new has
+  pass_held held tied = record { sound = pass_sound held.sound; tied = tied }
+
+  falls : measure limit to ≤ measure limit from
+  falls = passes_keep (λ r. measure limit r ≤ measure limit from) limit d.steps from to (λ r up quiet same h. let k = measure_next limit r up in omega (arith, h, k)) d.passes (omega arith)
+
+  pub pass_falls : measure limit new ≤ measure limit mid
+  pass_falls = let a = measure_joined limit d.before mid in let b = measure_joined limit d.after new in let f = falls in omega (arith, a, b, f)
+
+  runs : run_to limit to ≡ run_to limit from
+  runs = passes_keep (λ r. run_to limit r ≡ run_to limit from) limit d.steps from to (λ r up quiet same h. run_to_next limit r up ∙ h) d.passes refl
+
+  pub pass_leads : (start : Run) (first : Memory) → had.tells ≡ first.tells → Leads limit start mid first had → Leads limit start new first has
+  pass_leads start first tells leads = λ told.
+      let t = tells ∙ told in ap (run_to limit) (now_joined t) ∙ runs ∙ ap (run_to limit) (sym (was_joined t)) ∙ leads told
+
+  pub pass_part : (start : Run) (first : Memory) → had.tells ≡ first.tells → HasRunPart limit start mid first had → HasRunPart limit start new first has
+  pass_part start first tells part = λ told.
+      let t = tells ∙ told in
+      subst (AfterSteps limit (joined first.words start)) (sym (now_joined t))
+      (passes_keep (AfterSteps limit (joined first.words start)) limit d.steps from to (λ r up quiet same h. after_next limit (joined first.words start) r h up) d.passes (subst (AfterSteps limit (joined first.words start)) (was_joined t) (part told)))
+
+  -- with what the consoles show
+
+  module _ (rows : List Shown) where
+    abbrev shows : Run → List (List ℕ)
+    shows r = map (text_of (transcripts_of r.system.users)) rows
+
+    abbrev Told : Run → Type 0
+    Told r = AreShown r.system.consoles (transcripts_of r.system.users) rows
+
+    abbrev Quiet : Run → Type 0
+    Quiet r = Sound r × Told r
+
+    quietly : (r : Run) → r.system.clock < limit → due_of r.system.events r.system.clock ≡ None → length (next limit r).system.entries ≡ length r.system.entries → Quiet r → Quiet (next limit r)
+    quietly r up quiet same h = (sound_next limit r up h.0, (shown_still limit r rows quiet h.0 same h.1).1)
+
+    quiet_from : Sound mid → Told mid → Quiet from
+    quiet_from sound told = (sound_joined d.before mid sound, told_joined d.before mid rows told)
+
+    pub pass_told : Sound mid → Told mid → Told new
+    pass_told sound told = told_apart d.after new rows (passes_keep Quiet limit d.steps from to quietly d.passes (quiet_from sound told)).1
+
+    texts_from : Sound mid → Told mid → texts_to limit to (shows to) ≡ texts_to limit from (shows from)
+    texts_from sound told =
+        (passes_keep (λ r. Quiet r × (texts_to limit r (shows r) ≡ texts_to limit from (shows from))) limit d.steps from to
+        (λ r up quiet same h. (quietly r up quiet same h.0, ap (texts_to limit (next limit r)) (sym (shown_still limit r rows quiet (h.0).0 same (h.0).1).0) ∙ texts_on limit r (shows r) up ∙ h.1))
+        d.passes (quiet_from sound told, refl)).1
+
+    shown_from : Sound mid → Told mid → (start : Run) (x : List (List ℕ)) → AfterShown limit start from x (shows from) → AfterShown limit start to x (shows to)
+    shown_from sound told start x begun =
+        (passes_keep (λ r. Quiet r × AfterShown limit start r x (shows r)) limit d.steps from to
+        (λ r up quiet same h. (quietly r up quiet same h.0, subst (AfterShown limit start (next limit r) x) (shown_still limit r rows quiet (h.0).0 same (h.0).1).0 (shown_on limit start r x (shows r) h.1 up)))
+        d.passes (quiet_from sound told, begun)).1
+
+    pub pass_texts_lead : Sound mid → Told mid → (start : Run) (first : Memory) (x : List (List ℕ)) → had.tells ≡ first.tells → TextsLead limit start mid first had x (shows mid) → TextsLead limit start new first has x (shows new)
+    pass_texts_lead sound told start first x tells lead = λ t.
+        let k = tells ∙ t in
+        (λ j. texts_to limit (now_joined k j) (texts_same d.after new rows j))
+        ∙ texts_from sound told
+        ∙ (λ j. texts_to limit (sym (was_joined k) j) (sym (texts_same d.before mid rows) j))
+        ∙ lead t
+
+    pub pass_texts_part : Sound mid → Told mid → (start : Run) (first : Memory) (x : List (List ℕ)) → had.tells ≡ first.tells → HasTextsPart limit start mid first had x (shows mid) → HasTextsPart limit start new first has x (shows new)
+    pass_texts_part sound told start first x tells part = λ t.
+        let k = tells ∙ t in
+        subst (λ (q : Run). AfterShown limit (joined first.words start) q x (shows new)) (sym (now_joined k))
+        (subst (AfterShown limit (joined first.words start) to x) (sym (texts_same d.after new rows))
+        (shown_from sound told (joined first.words start) x
+        (subst (AfterShown limit (joined first.words start) from x) (texts_same d.before mid rows)
+        (subst (λ (q : Run). AfterShown limit (joined first.words start) q x (shows mid)) (was_joined k) (part t)))))

@@ -95,6 +95,8 @@ fn simple_call(name: Word) -> Result<Call, EntryFault>
         Ok(Call::GetTime)
     } else if name == name_word(b"GETMEM") {
         Ok(Call::GetMemory)
+    } else if name == name_word(b"GETUSR") {
+        Ok(Call::GetBlocks)
     } else if name == name_word(b"DEAD") {
         Ok(Call::Dead)
     } else if name == name_word(b"DORMNT") {

@@ -3,3 +3,4 @@ pub mod CoreLaws
 pub mod TurnLaws
 pub mod WentLaws
 pub mod RunLaws
+pub mod RowTurns

@@ -1,12 +1,11 @@
 -- An instruction of a program that goes on, as a step.
-use Rattle.std.proofs.Common.{◌≡◌, ℕ, zero, suc, ◌+◌, ◌<◌, Bool, true, false, ◌&&◌, List, [], ◌∷◌, ◌++◌, None, refl, sym, ap, ◌∙◌, arith}
-use Rattle.time_sharing.specs.Machine.{Item, Went}
+use Rattle.std.proofs.Common.{◌≡◌, ℕ, suc, ◌+◌, Bool, true, false, ◌&&◌, List, sym, ap, ◌∙◌, arith}
+use Rattle.time_sharing.specs.Machine.{Went}
 use Rattle.cpu_regs.specs.declared.regs.Regs.{Regs}
-use Rattle.machine_model.specs.Step.{Step, went}
+use Rattle.machine_model.specs.Step.{went}
 use Rattle.machine_model.specs.Machine.{table}
 use Rattle.machine_model.specs.Runs.{many}
 use Rattle.machine_model.proofs.Runs.{many_none, none_regs, none_words}
-use Rattle.user_model.specs.Session.{is_command_in}
 use Rattle.user_model.specs.User.{User, can_step, step, ending, asks_clock, in_core}
 use Rattle.user_model.specs.Runs.{IsAtWork, gone, HaveGone}
 use Rattle.user_model.proofs.CoreLaws.{plain_step}

@@ -1,8 +1,8 @@
 -- What a step is: a command's, a fill, a program's.
-use Rattle.std.proofs.Common.{◌≡◌, ℕ, suc, ◌-◌, ◌+◌, Bool, true, false, not, ◌&&◌, ◌||◌, cond, List, [], ◌∷◌, ◌++◌, length, Option, Some, None, Ok, Err, refl, sym, ap, ◌∙◌, zero-add, arith}
-use Rattle.std.specs.Prelude.{slice_get, if◌then◌else◌, nat_eq, nat_lt, zero}
+use Rattle.std.proofs.Common.{◌≡◌, ℕ, suc, ◌-◌, ◌+◌, Bool, true, false, not, ◌&&◌, ◌||◌, List, [], ◌∷◌, ◌++◌, length, Option, Some, None, Ok, Err, refl, ap, ◌∙◌, zero-add, arith}
+use Rattle.std.specs.Prelude.{slice_get, if◌then◌else◌, nat_eq, nat_lt}
 use Rattle.std.specs.declared.result.Result.{Result}
-use Rattle.time_sharing.specs.Machine.{Line, Item, Ending, Went, Stopped, Resized, Replaced, LoggedOut, Done}
+use Rattle.time_sharing.specs.Machine.{Line, Went}
 use Rattle.time_sharing.specs.Rows.{Outcome, some_line, is_logout, out_all, in_line, behind, one_less, first_line, line_of, before_of, done}
 use Rattle.time_sharing.specs.System.{clock_for}
 use Rattle.ctss_types.specs.declared.session.Command.{Command}
@@ -11,7 +11,7 @@ use Rattle.file_model.specs.Files.{got}
 use Rattle.machine_model.specs.Step.{Step, went, halt, entry, illegal, outside}
 use Rattle.machine_model.specs.Machine.{table}
 use Rattle.program_model.specs.declared.Call.{Call}
-use Rattle.program_model.specs.declared.Call.TheVariants.{ReadLine, WriteLine, GetTime, GetMemory, SetMemory, Dead as EndsDead, Dormant as EndsDormant}
+use Rattle.program_model.specs.declared.Call.TheVariants.{ReadLine, WriteLine, GetTime, GetMemory, GetBlocks, SetMemory, Dead as EndsDead, Dormant as EndsDormant}
 use Rattle.program_model.specs.declared.EntryFault.{EntryFault}
 use Rattle.program_model.specs.declared.EntryFault.TheVariants.{NoSuchEntry, Outside}
 use Rattle.program_model.specs.declared.LoadFault.{LoadFault}
@@ -23,7 +23,7 @@ use Rattle.program_model.specs.Calls.{call_of, is_line_count}
 use Rattle.program_model.specs.Decks.{deck_of, deck_name}
 use Rattle.user_model.specs.Inner.{Inner}
 use Rattle.user_model.specs.Commands.{command_of, command_row, prepared}
-use Rattle.user_model.specs.Programs.{step_row, entry_row, call_row, read_line, set_memory, program_row, program_reads, program_asks, reads_line, is_read, is_clock, asks_time, filled_program, goes}
+use Rattle.user_model.specs.Programs.{step_row, entry_row, call_row, program_row, program_reads, program_asks, reads_line, is_clock, asks_time, filled_program, goes}
 use Rattle.user_model.specs.Session.{user_rows, is_command_in, act_in, asks_clock_in, takes_line_in}
 use Rattle.user_model.specs.User.{User, can_step, step, ending, asks_clock}
 use Rattle.user_model.specs.Steps.{left}
@@ -40,6 +40,7 @@ call_front (ReadLine at count) i (Some l) n t = if_front (is_line_count count) _
 call_front (WriteLine at count) i l n t = if_front (is_line_count count) _ _ refl refl
 call_front GetTime i l n t = refl
 call_front GetMemory i l n t = refl
+call_front GetBlocks i l n t = refl
 call_front (SetMemory blocks) i l n t = if_front (nat_eq blocks 0 || nat_lt i.account.blocks blocks) _ _ refl (if_front (nat_eq blocks i.blocks) _ _ refl refl)
 call_front EndsDead i l n t = refl
 call_front EndsDormant i l n t = refl
@@ -101,6 +102,7 @@ call_clock (ReadLine at count) i l n t = refl
 call_clock (WriteLine at count) i l n t = refl
 call_clock GetTime i l n t = refl
 call_clock GetMemory i l n t = refl
+call_clock GetBlocks i l n t = refl
 call_clock (SetMemory blocks) i l n t = refl
 call_clock EndsDead i l n t = refl
 call_clock EndsDormant i l n t = refl

@@ -4,7 +4,7 @@ use Rattle.std.specs.declared.result.Result.{Result}
 use Rattle.ctss_types.specs.declared.session.Command.{Command}
 use Rattle.ctss_types.specs.declared.session.Command.TheVariants.{Empty, Logout, LoadGo, BadArguments, Unknown}
 use Rattle.ctss_types.specs.Words.{words_of, name_of}
-use Rattle.time_sharing.specs.Machine.{Line, Ending, Stopped, Replaced, LoggedOut}
+use Rattle.time_sharing.specs.Machine.{Line, Stopped, Replaced, LoggedOut}
 use Rattle.time_sharing.specs.Rows.{Outcome}
 use Rattle.file_model.specs.Files.{got, lasting}
 use Rattle.cpu_regs.specs.Registers.{no_registers}

@@ -5,4 +5,5 @@ pub mod Commands
 pub mod Session
 pub mod User
 pub mod Steps
+pub mod Answers
 pub mod Runs

@@ -1,14 +1,13 @@
 -- The steps of a program that works: what each end of an instruction and each supervisor entry does.
 use Rattle.std.specs.Prelude.{ℕ, ◌*◌, Bool, true, false, if◌then◌else◌, ◌||◌, nat_eq, nat_lt, List, [], ◌∷◌, ◌++◌, length, codes, Option, Some, None, Ok, Err}
 use Rattle.std.specs.declared.result.Result.{Result}
-use Rattle.time_sharing.specs.Machine.{Line, Ending, Went, Stopped, Resized}
+use Rattle.time_sharing.specs.Machine.{Line, Went, Stopped, Resized}
 use Rattle.time_sharing.specs.Rows.{Outcome}
 use Rattle.file_model.specs.Files.{got}
-use Rattle.cpu_regs.specs.declared.regs.Regs.{Regs}
 use Rattle.machine_model.specs.Step.{Step, went, halt, entry, illegal, outside}
 use Rattle.machine_model.specs.Machine.{table}
 use Rattle.program_model.specs.declared.Call.{Call}
-use Rattle.program_model.specs.declared.Call.TheVariants.{ReadLine, WriteLine, GetTime, GetMemory, SetMemory, Dead, Dormant}
+use Rattle.program_model.specs.declared.Call.TheVariants.{ReadLine, WriteLine, GetTime, GetMemory, GetBlocks, SetMemory, Dead, Dormant}
 use Rattle.program_model.specs.declared.EntryFault.{EntryFault}
 use Rattle.program_model.specs.declared.EntryFault.TheVariants.{NoSuchEntry, Outside}
 use Rattle.program_model.specs.declared.ProgramState.TheVariants as program
@@ -54,6 +53,7 @@ call_row (ReadLine at count) i l n t = if is_line_count count then read_line i a
 call_row (WriteLine at count) i l n t = if is_line_count count then write_line i at count else goes (replied i 1 7 None)
 call_row GetTime i l n t = goes (replied i 0 0 (Some t))
 call_row GetMemory i l n t = goes (replied i 0 0 (Some (256 * i.blocks)))
+call_row GetBlocks i l n t = goes (replied i 0 0 (Some i.blocks))
 call_row (SetMemory blocks) i l n t = set_memory i blocks
 call_row Dead i l n t = record { inner = without_program i; written = ready_text n ∷ []; front = []; ending = Stopped }
 call_row Dormant i l n t = stops [] (replied i 0 0 None) n
@@ -74,13 +74,7 @@ step_row (outside a) i l n t = stops (stop_text (codes "PROTECTION") i.regs.ic �
 -- whether a call reads a line, so that it waits for one
 abbrev pub is_read : Result Call EntryFault → Bool
 is_read (Ok (ReadLine at count)) = is_line_count count
-is_read (Ok (WriteLine at count)) = false
-is_read (Ok GetTime) = false
-is_read (Ok GetMemory) = false
-is_read (Ok (SetMemory blocks)) = false
-is_read (Ok Dead) = false
-is_read (Ok Dormant) = false
-is_read (Err fault) = false
+is_read _ = false
 
 abbrev pub reads_line : Step → Inner → Bool
 reads_line (went r core) i = false
@@ -91,14 +85,8 @@ reads_line (outside a) i = false
 
 -- whether a call asks for the clock
 abbrev pub is_clock : Result Call EntryFault → Bool
-is_clock (Ok (ReadLine at count)) = false
-is_clock (Ok (WriteLine at count)) = false
 is_clock (Ok GetTime) = true
-is_clock (Ok GetMemory) = false
-is_clock (Ok (SetMemory blocks)) = false
-is_clock (Ok Dead) = false
-is_clock (Ok Dormant) = false
-is_clock (Err fault) = false
+is_clock _ = false
 
 abbrev pub asks_time : Step → Inner → Bool
 asks_time (went r core) i = false

@@ -1,5 +1,5 @@
 -- A step that was done, field by field.
-use Rattle.std.specs.Prelude.{ℕ, suc, Bool, true, false, if◌then◌else◌, not, List, [], ◌++◌, Option, Some, None}
+use Rattle.std.specs.Prelude.{suc, Bool, if◌then◌else◌, not, [], ◌++◌, Option}
 use Rattle.time_sharing.specs.Machine.{Line}
 use Rattle.time_sharing.specs.Rows.{Outcome, is_logout, behind, in_line, out_all}
 use Rattle.user_model.specs.Inner.{Inner}

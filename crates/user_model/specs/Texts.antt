@@ -1,5 +1,5 @@
 -- The lines that a user's steps write.
-use Rattle.std.specs.Prelude.{ℕ, ◌+◌, ◌/◌, ◌%◌, List, [], ◌∷◌, ◌++◌, codes}
+use Rattle.std.specs.Prelude.{ℕ, ◌+◌, ◌/◌, ◌%◌, [], ◌∷◌, ◌++◌, codes}
 use Rattle.std.specs.Fmt.{decimal}
 use Rattle.time_sharing.specs.Machine.{Line}
 use Rattle.word36.specs.Octal.{octal_digits}

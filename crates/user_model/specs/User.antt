@@ -1,6 +1,6 @@
 -- One user's machine, closed: what contracts cite.
 use Rattle.std.specs.Prelude.{◌≡◌, ℕ, Bool, true, List}
-use Rattle.time_sharing.specs.Machine.{Machine, Line, CutKind, Ending, Went, Stopped, Resized, Replaced, LoggedOut, Done}
+use Rattle.time_sharing.specs.Machine.{Line, CutKind, Ending, Went, Stopped, Resized, Replaced, LoggedOut, Done}
 use Rattle.time_sharing.specs.Rows.{Private, machine}
 use Rattle.time_sharing.specs.System.{clock_for}
 use Rattle.user_model.specs.Inner.{Inner, zeros, recut}

@@ -1,2 +1,3 @@
+pub mod Enters
 pub mod Texts
 pub mod Turns

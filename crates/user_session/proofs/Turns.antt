@@ -1,9 +1,9 @@
 -- Turns of users that are told in another way.
-use Rattle.std.proofs.Common.{◌≡◌, ℕ, suc, ◌+◌, ◌-◌, Bool, List, [], ◌∷◌, ◌++◌, drop, sym, ap, ◌∙◌, subst, add-one}
-use Rattle.time_sharing.specs.Machine.{Line, Item, In, Out, Ending}
+use Rattle.std.proofs.Common.{◌≡◌, ℕ, suc, ◌+◌, ◌-◌, Bool, List, [], ◌∷◌, ◌++◌, sym, ap, ◌∙◌, subst, add-one}
+use Rattle.time_sharing.specs.Machine.{Line, Item, Out, Ending}
 use Rattle.cpu_regs.specs.declared.regs.Regs.{Regs}
 use Rattle.program_model.specs.declared.ProgramState.TheVariants.{Dormant}
-use Rattle.user_model.specs.Texts.{time_text, ready_text, stop_text}
+use Rattle.user_model.specs.Texts.{ready_text, stop_text}
 use Rattle.user_model.specs.User.{User, IsStep}
 
 -- what a step leaves
@@ -14,13 +14,6 @@ left_so e asked t p q r c d is h = subst (λ (x : User). IsStep e asked t p x c 
 pub left_both : (e : Ending) (asked : Bool) (t : ℕ) (p q r : User) (c d b : List ℕ) → r ≡ q → b ≡ d → IsStep e asked t p q c d → IsStep e asked t p r c b
 left_both e asked t p q r c d b is same h =
     subst (λ (ws : List ℕ). IsStep e asked t p r c ws) (sym same) (left_so e asked t p q r c d is h)
-
--- a line that was taken, with this text
-pub told_so : (p q : User) (l : Line) (t : ℕ) (x y : Line) → x ≡ y →
-    q ≡ record p { unread = drop 1 p.unread; transcript = p.transcript ++ In l ∷ Out (time_text t) ∷ Out x ∷ Out (ready_text 1) ∷ []; own = suc p.own; before = p.own } →
-    q ≡ record p { unread = drop 1 p.unread; transcript = p.transcript ++ In l ∷ Out (time_text t) ∷ Out y ∷ Out (ready_text 1) ∷ []; own = suc p.own; before = p.own }
-told_so p q l t x y e is =
-    is ∙ ap (λ (z : Line). record p { unread = drop 1 p.unread; transcript = p.transcript ++ In l ∷ Out (time_text t) ∷ Out z ∷ Out (ready_text 1) ∷ []; own = suc p.own; before = p.own }) e
 
 -- a program that went on with these registers
 pub went_so : (p v : User) (r : Regs) (items : List Item) (own : ℕ) → v ≡ p → items ≡ v.transcript → own ≡ suc v.own →

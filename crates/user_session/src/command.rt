@@ -1,5 +1,7 @@
 //! Steps of a user without a program that works: the command of the first unread line.
 ghost use Rattle.std.specs.Prelude.{◌≡◌, ◌<◌, ◌≤◌, ◌+◌, ◌-◌, ◌*◌, ◌^◌, ◌++◌, ◌∷◌, [], suc, true, false, Some, None, length, drop, option_to_list, slice_get, IfOk, OnOk, OnErr};
+ghost use Rattle.std.specs.List.{list_all};
+ghost use Rattle.bcd48.specs.Characters.{is_character};
 ghost use Rattle.cpu_regs.specs.Registers.{no_registers};
 ghost use Rattle.ctss_types.specs.declared.session.Command.{Command};
 ghost use Rattle.file_model.specs.Files.{got, lasting};
@@ -10,6 +12,7 @@ ghost use Rattle.time_sharing.specs.Rows.{out_all};
 ghost use Rattle.user_model.specs.Commands.{command_of};
 ghost use Rattle.user_model.specs.Session.{is_command_in};
 ghost use Rattle.user_model.specs.Texts.{time_text, ready_text, logged_out_text};
+ghost use Rattle.user_model.specs.Answers.{DidCommand};
 ghost use Rattle.user_session.specs.Turns.{IsTurn};
 
 use crate::session::{Session, note};
@@ -55,18 +58,33 @@ impl Session {
         Ok(())
     }
 
-    /// A logout. The program goes, and files of mode 0.
-    fn log_out(&mut self, line: LineText, now: u64) -> Result<(), NoMemory>
+    /// A line is taken, with the time, this text and R 1.
+    fn say_why(&mut self, line: LineText, why: &[u8], now: u64) -> Result<(), NoMemory>
+        requires short { length why.now ≤ 84 }
+        requires characters { list_all is_character why.now ≡ true }
         requires fits { self.old.own < 2 ^ 64 - 1 }
         ensures ok { OnOk result (self.new ≡ record self.old {
-          inner = record self.old.inner { files = lasting self.old.inner.files; state = Dead; regs = no_registers; blocks = 0; fill = None };
-          on = false;
-          unread = [];
-          transcript = self.old.transcript ++ In line ∷ Out (time_text now) ∷ Out (logged_out_text self.old.inner.account.name) ∷ [];
+          unread = drop 1 self.old.unread;
+          transcript = self.old.transcript ++ In line ∷ Out (time_text now) ∷ Out why.now ∷ Out (ready_text 1) ∷ [];
           own = suc self.old.own;
           before = self.old.own;
         }) }
-        ensures given { self.old.given ≡ 0 }
+        ensures err { OnErr result (self.new ≡ self.old) }
+    {
+        self.say(line, Some(LineText::of(why)), now)
+    }
+
+    /// LOGOUT: the program goes, and files of mode 0.
+    #[tactic(auto, using(user_model::proofs::CoreLaws::recut_none))]
+    fn log_out<M: MemoryPort>(
+        &mut self,
+        core: &M,
+        line: LineText,
+        now: u64,
+    ) -> Result<Step, NoMemory>
+        requires fits { self.old.own < 2 ^ 64 - 1 }
+        ensures row { IfOk result (λ s. DidCommand line Command.Logout s.ending s.clock now self.old self.new (M.words core.now) (M.words core.now)) }
+        ensures account { self.new.inner.account ≡ self.old.inner.account }
         ensures err { OnErr result (self.new ≡ self.old) }
     {
         self.items.reserve(3)?;
@@ -85,7 +103,10 @@ impl Session {
         self.regs = Regs::new();
         self.blocks = 0;
         self.fill = None;
-        Ok(())
+        Ok(Step {
+            ending: Ending::LoggedOut,
+            clock: true,
+        })
     }
 
     /// The deck of a program of this name, or why there is none.
@@ -135,42 +156,84 @@ impl Session {
     }
 
     /// LOADGO: the program of a deck, or why there is none.
+    #[tactic(auto, using(user_model::proofs::CoreLaws::recut_same))]
     fn load<M: MemoryPort>(
         &mut self,
         core: &M,
         line: LineText,
         name: Word,
         now: u64,
-    ) -> Result<Turn, NoMemory>
+    ) -> Result<Step, NoMemory>
         requires on { self.old.on ≡ true }
-        requires command { is_command_in self.old.inner.state ≡ true }
-        requires first { slice_get self.old.unread 0 ≡ Some line }
-        requires asked { command_of line ≡ Command.LoadGo name }
         requires size { length (M.words core.now) ≡ 256 * self.old.inner.blocks }
         requires fits { self.old.own < 2 ^ 64 - 1 }
-        ensures turn { IfOk result (λ turn. IsTurn turn now self.old self.new (M.words core.now) (M.words core.now)) }
+        ensures row { IfOk result (λ s. DidCommand line (Command.LoadGo name) s.ending s.clock now self.old self.new (M.words core.now) (M.words core.now)) }
         ensures account { self.new.inner.account ≡ self.old.inner.account }
         ensures err { OnErr result (self.new ≡ self.old) }
     {
         match self.read_deck(name)? {
             Ok(deck) => {
                 self.begin(line, name, deck, now)?;
-                Ok(Turn::Done(Step {
+                Ok(Step {
                     ending: Ending::Replaced,
                     clock: true,
-                }))
+                })
             }
             Err(fault) => {
                 self.say(line, Some(load_text(fault)), now)?;
-                Ok(Turn::Done(Step {
+                Ok(Step {
                     ending: Ending::Stopped,
                     clock: true,
-                }))
+                })
+            }
+        }
+    }
+
+    /// A command is done.
+    #[tactic(auto, using(user_model::proofs::CoreLaws::recut_same, user_model::proofs::CoreLaws::recut_none))]
+    fn obey<M: MemoryPort>(
+        &mut self,
+        core: &M,
+        line: LineText,
+        command: Command,
+        now: u64,
+    ) -> Result<Step, NoMemory>
+        requires on { self.old.on ≡ true }
+        requires size { length (M.words core.now) ≡ 256 * self.old.inner.blocks }
+        requires fits { self.old.own < 2 ^ 64 - 1 }
+        ensures row { IfOk result (λ s. DidCommand line command s.ending s.clock now self.old self.new (M.words core.now) (M.words core.now)) }
+        ensures account { self.new.inner.account ≡ self.old.inner.account }
+        ensures err { OnErr result (self.new ≡ self.old) }
+    {
+        match command {
+            Command::Empty => {
+                self.say(line, None, now)?;
+                Ok(Step {
+                    ending: Ending::Stopped,
+                    clock: true,
+                })
+            }
+            Command::Logout => self.log_out(core, line, now),
+            Command::LoadGo(name) => self.load(core, line, name, now),
+            Command::BadArguments => {
+                self.say_why(line, b"BAD ARGUMENTS", now)?;
+                Ok(Step {
+                    ending: Ending::Stopped,
+                    clock: true,
+                })
+            }
+            Command::Unknown => {
+                self.say_why(line, b"NOT A COMMAND", now)?;
+                Ok(Step {
+                    ending: Ending::Stopped,
+                    clock: true,
+                })
             }
         }
     }
 
     /// The command of the first unread line.
+    #[tactic(auto, using(user_model::proofs::RowTurns::command_waits))]
     pub(crate) fn command<M: MemoryPort>(&mut self, core: &M, now: u64) -> Result<Turn, NoMemory>
         requires on { self.old.on ≡ true }
         requires command { is_command_in self.old.inner.state ≡ true }
@@ -180,39 +243,11 @@ impl Session {
         ensures account { self.new.inner.account ≡ self.old.inner.account }
         ensures err { OnErr result (self.new ≡ self.old) }
     {
+        let _ = &self.account;
         let Some(line) = self.first_line() else {
             return Ok(Turn::Waits);
         };
-        match command_of(&line) {
-            Command::Empty => {
-                self.say(line, None, now)?;
-                Ok(Turn::Done(Step {
-                    ending: Ending::Stopped,
-                    clock: true,
-                }))
-            }
-            Command::Logout => {
-                self.log_out(line, now)?;
-                Ok(Turn::Done(Step {
-                    ending: Ending::LoggedOut,
-                    clock: true,
-                }))
-            }
-            Command::LoadGo(name) => self.load(core, line, name, now),
-            Command::BadArguments => {
-                self.say(line, Some(LineText::of(b"BAD ARGUMENTS")), now)?;
-                Ok(Turn::Done(Step {
-                    ending: Ending::Stopped,
-                    clock: true,
-                }))
-            }
-            Command::Unknown => {
-                self.say(line, Some(LineText::of(b"NOT A COMMAND")), now)?;
-                Ok(Turn::Done(Step {
-                    ending: Ending::Stopped,
-                    clock: true,
-                }))
-            }
-        }
+        let done = self.obey(core, line, command_of(&line), now)?;
+        Ok(Turn::Done(done))
     }
 }

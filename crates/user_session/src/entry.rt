@@ -13,7 +13,7 @@ ghost use Rattle.time_sharing.specs.Machine.{In, Out};
 ghost use Rattle.tia_entry.specs.Buffers.{HasBuffer};
 ghost use Rattle.user_model.specs.Session.{is_command_in};
 ghost use Rattle.user_model.specs.Texts.{ready_text, stop_text};
-ghost use Rattle.user_session.specs.Turns.{IsTurn};
+ghost use Rattle.user_session.specs.Turns.{IsTurn, Enters};
 
 use crate::session::{Session, note};
 use crate::text::{ready_text, stop_text};
@@ -66,21 +66,17 @@ impl Session {
     }
 
     /// A program that stops at a call that can't be done.
+    #[tactic(auto, using(user_model::proofs::CoreLaws::recut_same))]
     fn refuse<M: MemoryPort>(
         &mut self,
         core: &M,
-        name: Word,
         fault: EntryFault,
         now: u64,
     ) -> Result<Turn, NoMemory>
         requires on { self.old.on ≡ true }
-        requires works { is_command_in self.old.inner.state ≡ false }
-        requires filled { self.old.inner.fill ≡ None }
-        requires at { table self.old.inner.regs (M.words core.now) ≡ entry name }
-        requires asked { call_of self.old.inner.regs (M.words core.now) name ≡ Err fault }
         requires size { length (M.words core.now) ≡ 256 * self.old.inner.blocks }
         requires fits { self.old.own < 2 ^ 64 - 1 }
-        ensures turn { IfOk result (λ turn. IsTurn turn now self.old self.new (M.words core.now) (M.words core.now)) }
+        ensures row { IfOk result (λ turn. Enters (Err fault) turn now self.old self.new (M.words core.now) (M.words core.now)) }
         ensures account { self.new.inner.account ≡ self.old.inner.account }
         ensures err { OnErr result (self.new ≡ self.old) }
     {
@@ -115,18 +111,6 @@ impl Session {
         self.own += 1;
     }
 
-    /// Another size, and the program goes on.
-    fn resize(&mut self, blocks: u8)
-        requires quota { blocks ≤ self.old.inner.account.blocks }
-        requires fits { self.old.own < 2 ^ 64 - 1 }
-        ensures user { self.new ≡ record self.old { inner = record self.old.inner { regs = answered self.old.inner.regs 1 0 None; blocks = blocks }; own = suc self.old.own } }
-        ensures given { self.old.given ≡ 0 }
-    {
-        answer(&mut self.regs, 1, 0, None);
-        self.blocks = blocks;
-        self.own += 1;
-    }
-
     /// Whether a program of the user can't have so many blocks: none, or more than the quota.
     fn is_no_size(&self, blocks: u16) -> bool
         ensures value { result ≡ (nat_eq blocks 0 || nat_lt self.now.inner.account.blocks blocks) }
@@ -135,57 +119,20 @@ impl Session {
         blocks == 0 || u16::from(self.account.blocks) < blocks
     }
 
-    /// The next line goes to a buffer, and its length is told.
-    fn take_line<M: MemoryPort>(
-        &mut self,
-        core: &mut M,
-        at: u16,
-        count: u16,
-        line: LineText,
-    ) -> Result<(), NoMemory>
-        requires fits { self.old.own < 2 ^ 64 - 1 }
-        requires within { at + count ≤ length (M.words core.old) }
-        ensures ok { OnOk result (self.new ≡ record self.old {
-          inner = record self.old.inner { regs = answered self.old.inner.regs 1 0 (Some (length line)) };
-          unread = drop 1 self.old.unread;
-          transcript = self.old.transcript ++ In line ∷ [];
-          own = suc self.old.own;
-        }) }
-        ensures words { OnOk result (M.words core.new ≡ with_words (M.words core.old) at (words_of_line count line)) }
-        ensures given { self.old.given ≡ 0 }
-        ensures err { OnErr result (self.new ≡ self.old) }
-        ensures err_core { OnErr result (M.words core.new ≡ M.words core.old) }
-        ensures keeps { M.Keeps core.old core.new }
-    {
-        self.items.reserve(1)?;
-        let _ = self.lines.take();
-        note(&mut self.items, Item::In(line));
-        // Then it is known of the core how many words it has at most.
-        let _blocks = core.size();
-        store_line(core, at, count, line.as_slice());
-        answer(&mut self.regs, 1, 0, Some(u64::from(line.len())));
-        self.own += 1;
-        Ok(())
-    }
-
     /// RDFLX: the next line goes to a buffer.
+    #[tactic(auto, using(user_model::proofs::CoreLaws::recut_same))]
     fn read_line<M: MemoryPort>(
         &mut self,
         core: &mut M,
-        name: Word,
         at: u16,
         count: u16,
         now: u64,
     ) -> Result<Turn, NoMemory>
         requires on { self.old.on ≡ true }
-        requires works { is_command_in self.old.inner.state ≡ false }
-        requires filled { self.old.inner.fill ≡ None }
-        requires at { table self.old.inner.regs (M.words core.old) ≡ entry name }
-        requires asked { call_of self.old.inner.regs (M.words core.old) name ≡ Ok (Call.ReadLine at count) }
         requires size { length (M.words core.old) ≡ 256 * self.old.inner.blocks }
         requires fits { self.old.own < 2 ^ 64 - 1 }
         requires within { HasBuffer (length (M.words core.old)) (Call.ReadLine at count) }
-        ensures turn { IfOk result (λ turn. IsTurn turn now self.old self.new (M.words core.old) (M.words core.new)) }
+        ensures row { IfOk result (λ turn. Enters (Ok (Call.ReadLine at count)) turn now self.old self.new (M.words core.old) (M.words core.new)) }
         ensures account { self.new.inner.account ≡ self.old.inner.account }
         ensures err { OnErr result (self.new ≡ self.old) }
         ensures err_core { OnErr result (M.words core.new ≡ M.words core.old) }
@@ -201,7 +148,13 @@ impl Session {
         match self.first_line() {
             None => Ok(Turn::Waits),
             Some(line) => {
-                self.take_line(core, at, count, line)?;
+                self.items.reserve(1)?;
+                let _ = self.lines.take();
+                note(&mut self.items, Item::In(line));
+                // Then it is known of the core how many words it has at most.
+                let _blocks = core.size();
+                store_line(core, at, count, line.as_slice());
+                self.reply(1, 0, Some(u64::from(line.len())));
                 Ok(Turn::Done(Step {
                     ending: Ending::Went,
                     clock: false,
@@ -210,43 +163,20 @@ impl Session {
         }
     }
 
-    /// A buffer is written as a line.
-    fn put_line<M: MemoryPort>(&mut self, core: &M, at: u16, count: u16) -> Result<(), NoMemory>
-        requires fits { self.old.own < 2 ^ 64 - 1 }
-        requires count { count ≤ 14 }
-        requires within { at + count ≤ length (M.words core.now) }
-        ensures ok { OnOk result (self.new ≡ record self.old {
-          inner = record self.old.inner { regs = answered self.old.inner.regs 1 0 None };
-          transcript = self.old.transcript ++ Out (line_of_words (words_at (M.words core.now) at count)) ∷ [];
-          own = suc self.old.own;
-        }) }
-        ensures given { self.old.given ≡ 0 }
-        ensures err { OnErr result (self.new ≡ self.old) }
-    {
-        self.items.reserve(1)?;
-        note(&mut self.items, Item::Out(line_in(core, at, count)));
-        self.reply(1, 0, None);
-        Ok(())
-    }
-
     /// WRFLX: a buffer is written as a line.
+    #[tactic(auto, using(user_model::proofs::CoreLaws::recut_same))]
     fn write_line<M: MemoryPort>(
         &mut self,
         core: &M,
-        name: Word,
         at: u16,
         count: u16,
         now: u64,
     ) -> Result<Turn, NoMemory>
         requires on { self.old.on ≡ true }
-        requires works { is_command_in self.old.inner.state ≡ false }
-        requires filled { self.old.inner.fill ≡ None }
-        requires at { table self.old.inner.regs (M.words core.now) ≡ entry name }
-        requires asked { call_of self.old.inner.regs (M.words core.now) name ≡ Ok (Call.WriteLine at count) }
         requires size { length (M.words core.now) ≡ 256 * self.old.inner.blocks }
         requires fits { self.old.own < 2 ^ 64 - 1 }
         requires within { HasBuffer (length (M.words core.now)) (Call.WriteLine at count) }
-        ensures turn { IfOk result (λ turn. IsTurn turn now self.old self.new (M.words core.now) (M.words core.now)) }
+        ensures row { IfOk result (λ turn. Enters (Ok (Call.WriteLine at count)) turn now self.old self.new (M.words core.now) (M.words core.now)) }
         ensures account { self.new.inner.account ≡ self.old.inner.account }
         ensures err { OnErr result (self.new ≡ self.old) }
     {
@@ -257,7 +187,9 @@ impl Session {
                 clock: false,
             }));
         }
-        self.put_line(core, at, count)?;
+        self.items.reserve(1)?;
+        note(&mut self.items, Item::Out(line_in(core, at, count)));
+        self.reply(1, 0, None);
         Ok(Turn::Done(Step {
             ending: Ending::Went,
             clock: false,
@@ -265,15 +197,12 @@ impl Session {
     }
 
     /// SETMEM: another size, from 1 block to the quota.
-    fn set_memory<M: MemoryPort>(&mut self, core: &M, name: Word, blocks: u16, now: u64) -> Turn
+    #[tactic(auto, using(user_model::proofs::CoreLaws::recut_same))]
+    fn set_memory<M: MemoryPort>(&mut self, core: &M, blocks: u16, now: u64) -> Turn
         requires on { self.old.on ≡ true }
-        requires works { is_command_in self.old.inner.state ≡ false }
-        requires filled { self.old.inner.fill ≡ None }
-        requires at { table self.old.inner.regs (M.words core.now) ≡ entry name }
-        requires asked { call_of self.old.inner.regs (M.words core.now) name ≡ Ok (Call.SetMemory blocks) }
         requires size { length (M.words core.now) ≡ 256 * self.old.inner.blocks }
         requires fits { self.old.own < 2 ^ 64 - 1 }
-        ensures turn { IsTurn result now self.old self.new (M.words core.now) (M.words core.now) }
+        ensures row { Enters (Ok (Call.SetMemory blocks)) result now self.old self.new (M.words core.now) (M.words core.now) }
         ensures account { self.new.inner.account ≡ self.old.inner.account }
     {
         if self.is_no_size(blocks) {
@@ -290,7 +219,9 @@ impl Session {
                 clock: false,
             });
         }
-        self.resize(blocks as u8);
+        answer(&mut self.regs, 1, 0, None);
+        self.blocks = blocks as u8;
+        self.own += 1;
         Turn::Done(Step {
             ending: Ending::Resized,
             clock: false,
@@ -298,17 +229,13 @@ impl Session {
     }
 
     /// GETTM: the clock.
-    fn tell_time<M: MemoryPort>(&mut self, core: &M, name: Word, now: u64) -> Turn
+    #[tactic(auto, using(user_model::proofs::CoreLaws::recut_same))]
+    fn tell_time<M: MemoryPort>(&mut self, core: &M, now: u64) -> Turn
         requires on { self.old.on ≡ true }
-        requires works { is_command_in self.old.inner.state ≡ false }
-        requires filled { self.old.inner.fill ≡ None }
-        requires at { table self.old.inner.regs (M.words core.now) ≡ entry name }
-        requires asked { call_of self.old.inner.regs (M.words core.now) name ≡ Ok Call.GetTime }
         requires size { length (M.words core.now) ≡ 256 * self.old.inner.blocks }
         requires fits { self.old.own < 2 ^ 64 - 1 }
         requires time { now < 2 ^ 35 }
-        ensures turn { IsTurn result now self.old self.new (M.words core.now) (M.words core.now) }
-        ensures account { self.new.inner.account ≡ self.old.inner.account }
+        ensures row { Enters (Ok Call.GetTime) result now self.old self.new (M.words core.now) (M.words core.now) }
     {
         self.reply(0, 0, Some(now));
         Turn::Done(Step {
@@ -318,15 +245,12 @@ impl Session {
     }
 
     /// GETMEM: the size in words.
-    fn tell_memory<M: MemoryPort>(&mut self, core: &M, name: Word, now: u64) -> Turn
+    #[tactic(auto, using(user_model::proofs::CoreLaws::recut_same))]
+    fn tell_memory<M: MemoryPort>(&mut self, core: &M, now: u64) -> Turn
         requires on { self.old.on ≡ true }
-        requires works { is_command_in self.old.inner.state ≡ false }
-        requires filled { self.old.inner.fill ≡ None }
-        requires at { table self.old.inner.regs (M.words core.now) ≡ entry name }
-        requires asked { call_of self.old.inner.regs (M.words core.now) name ≡ Ok Call.GetMemory }
         requires size { length (M.words core.now) ≡ 256 * self.old.inner.blocks }
         requires fits { self.old.own < 2 ^ 64 - 1 }
-        ensures turn { IsTurn result now self.old self.new (M.words core.now) (M.words core.now) }
+        ensures row { Enters (Ok Call.GetMemory) result now self.old self.new (M.words core.now) (M.words core.now) }
         ensures account { self.new.inner.account ≡ self.old.inner.account }
     {
         let words = 256 * u64::from(self.blocks());
@@ -337,15 +261,31 @@ impl Session {
         })
     }
 
-    /// The program goes, with R n.
-    fn drop_program(&mut self) -> Result<(), NoMemory>
+    /// GETUSR: the size in blocks.
+    #[tactic(auto, using(user_model::proofs::CoreLaws::recut_same))]
+    fn tell_blocks<M: MemoryPort>(&mut self, core: &M, now: u64) -> Turn
+        requires on { self.old.on ≡ true }
+        requires size { length (M.words core.now) ≡ 256 * self.old.inner.blocks }
         requires fits { self.old.own < 2 ^ 64 - 1 }
-        ensures ok { OnOk result (self.new ≡ record self.old {
-          inner = record self.old.inner { state = program.Dead; regs = no_registers; blocks = 0; fill = None };
-          transcript = self.old.transcript ++ Out (ready_text (suc self.old.own - self.old.before)) ∷ [];
-          own = suc self.old.own;
-        }) }
-        ensures given { self.old.given ≡ 0 }
+        ensures row { Enters (Ok Call.GetBlocks) result now self.old self.new (M.words core.now) (M.words core.now) }
+        ensures account { self.new.inner.account ≡ self.old.inner.account }
+    {
+        let blocks = u64::from(self.blocks());
+        self.reply(0, 0, Some(blocks));
+        Turn::Done(Step {
+            ending: Ending::Went,
+            clock: false,
+        })
+    }
+
+    /// DEAD: the program is over and goes.
+    #[tactic(auto, using(user_model::proofs::CoreLaws::recut_none))]
+    fn end_dead<M: MemoryPort>(&mut self, core: &M, now: u64) -> Result<Turn, NoMemory>
+        requires on { self.old.on ≡ true }
+        requires size { length (M.words core.now) ≡ 256 * self.old.inner.blocks }
+        requires fits { self.old.own < 2 ^ 64 - 1 }
+        ensures row { IfOk result (λ turn. Enters (Ok Call.Dead) turn now self.old self.new (M.words core.now) (M.words core.now)) }
+        ensures account { self.new.inner.account ≡ self.old.inner.account }
         ensures err { OnErr result (self.new ≡ self.old) }
     {
         self.items.reserve(1)?;
@@ -356,42 +296,6 @@ impl Session {
         self.regs = Regs::new();
         self.blocks = 0;
         self.fill = None;
-        Ok(())
-    }
-
-    /// The program stops behind its call, with R n.
-    fn rest_program(&mut self) -> Result<(), NoMemory>
-        requires fits { self.old.own < 2 ^ 64 - 1 }
-        ensures ok { OnOk result (self.new ≡ record self.old {
-          inner = record self.old.inner { state = program.Dormant; regs = answered self.old.inner.regs 0 0 None };
-          transcript = self.old.transcript ++ Out (ready_text (suc self.old.own - self.old.before)) ∷ [];
-          own = suc self.old.own;
-        }) }
-        ensures given { self.old.given ≡ 0 }
-        ensures err { OnErr result (self.new ≡ self.old) }
-    {
-        self.items.reserve(1)?;
-        let n = self.own + 1 - self.before;
-        note(&mut self.items, Item::Out(ready_text(n)));
-        answer(&mut self.regs, 0, 0, None);
-        self.stop();
-        Ok(())
-    }
-
-    /// DEAD: the program is over and goes.
-    fn end_dead<M: MemoryPort>(&mut self, core: &M, name: Word, now: u64) -> Result<Turn, NoMemory>
-        requires on { self.old.on ≡ true }
-        requires works { is_command_in self.old.inner.state ≡ false }
-        requires filled { self.old.inner.fill ≡ None }
-        requires at { table self.old.inner.regs (M.words core.now) ≡ entry name }
-        requires asked { call_of self.old.inner.regs (M.words core.now) name ≡ Ok Call.Dead }
-        requires size { length (M.words core.now) ≡ 256 * self.old.inner.blocks }
-        requires fits { self.old.own < 2 ^ 64 - 1 }
-        ensures turn { IfOk result (λ turn. IsTurn turn now self.old self.new (M.words core.now) (M.words core.now)) }
-        ensures account { self.new.inner.account ≡ self.old.inner.account }
-        ensures err { OnErr result (self.new ≡ self.old) }
-    {
-        self.drop_program()?;
         Ok(Turn::Done(Step {
             ending: Ending::Stopped,
             clock: false,
@@ -399,24 +303,20 @@ impl Session {
     }
 
     /// DORMNT: the program is over and stays.
-    fn end_dormant<M: MemoryPort>(
-        &mut self,
-        core: &M,
-        name: Word,
-        now: u64,
-    ) -> Result<Turn, NoMemory>
+    #[tactic(auto, using(user_model::proofs::CoreLaws::recut_same))]
+    fn end_dormant<M: MemoryPort>(&mut self, core: &M, now: u64) -> Result<Turn, NoMemory>
         requires on { self.old.on ≡ true }
-        requires works { is_command_in self.old.inner.state ≡ false }
-        requires filled { self.old.inner.fill ≡ None }
-        requires at { table self.old.inner.regs (M.words core.now) ≡ entry name }
-        requires asked { call_of self.old.inner.regs (M.words core.now) name ≡ Ok Call.Dormant }
         requires size { length (M.words core.now) ≡ 256 * self.old.inner.blocks }
         requires fits { self.old.own < 2 ^ 64 - 1 }
-        ensures turn { IfOk result (λ turn. IsTurn turn now self.old self.new (M.words core.now) (M.words core.now)) }
+        ensures row { IfOk result (λ turn. Enters (Ok Call.Dormant) turn now self.old self.new (M.words core.now) (M.words core.now)) }
         ensures account { self.new.inner.account ≡ self.old.inner.account }
         ensures err { OnErr result (self.new ≡ self.old) }
     {
-        self.rest_program()?;
+        self.items.reserve(1)?;
+        let n = self.own + 1 - self.before;
+        note(&mut self.items, Item::Out(ready_text(n)));
+        answer(&mut self.regs, 0, 0, None);
+        self.stop();
         Ok(Turn::Done(Step {
             ending: Ending::Stopped,
             clock: false,
@@ -427,37 +327,34 @@ impl Session {
     fn answer_call<M: MemoryPort>(
         &mut self,
         core: &mut M,
-        name: Word,
         call: Call,
         now: u64,
     ) -> Result<Turn, NoMemory>
         requires on { self.old.on ≡ true }
-        requires works { is_command_in self.old.inner.state ≡ false }
-        requires filled { self.old.inner.fill ≡ None }
-        requires at { table self.old.inner.regs (M.words core.old) ≡ entry name }
-        requires asked { call_of self.old.inner.regs (M.words core.old) name ≡ Ok call }
         requires size { length (M.words core.old) ≡ 256 * self.old.inner.blocks }
         requires fits { self.old.own < 2 ^ 64 - 1 }
         requires within { HasBuffer (length (M.words core.old)) call }
         requires time { now < 2 ^ 35 }
-        ensures turn { IfOk result (λ turn. IsTurn turn now self.old self.new (M.words core.old) (M.words core.new)) }
+        ensures row { IfOk result (λ turn. Enters (Ok call) turn now self.old self.new (M.words core.old) (M.words core.new)) }
         ensures account { self.new.inner.account ≡ self.old.inner.account }
         ensures err { OnErr result (self.new ≡ self.old) }
         ensures err_core { OnErr result (M.words core.new ≡ M.words core.old) }
         ensures keeps { M.Keeps core.old core.new }
     {
         match call {
-            Call::ReadLine { at, count } => self.read_line(core, name, at, count, now),
-            Call::WriteLine { at, count } => self.write_line(core, name, at, count, now),
-            Call::GetTime => Ok(self.tell_time(core, name, now)),
-            Call::GetMemory => Ok(self.tell_memory(core, name, now)),
-            Call::SetMemory { blocks } => Ok(self.set_memory(core, name, blocks, now)),
-            Call::Dead => self.end_dead(core, name, now),
-            Call::Dormant => self.end_dormant(core, name, now),
+            Call::ReadLine { at, count } => self.read_line(core, at, count, now),
+            Call::WriteLine { at, count } => self.write_line(core, at, count, now),
+            Call::GetTime => Ok(self.tell_time(core, now)),
+            Call::GetMemory => Ok(self.tell_memory(core, now)),
+            Call::GetBlocks => Ok(self.tell_blocks(core, now)),
+            Call::SetMemory { blocks } => Ok(self.set_memory(core, blocks, now)),
+            Call::Dead => self.end_dead(core, now),
+            Call::Dormant => self.end_dormant(core, now),
         }
     }
 
     /// A supervisor entry.
+    #[tactic(auto, using(crate::proofs::Enters::entered))]
     pub(crate) fn enter<M: MemoryPort>(
         &mut self,
         core: &mut M,
@@ -478,8 +375,8 @@ impl Session {
         ensures keeps { M.Keeps core.old core.new }
     {
         match read_call(&self.regs, core, name) {
-            Err(fault) => self.refuse(core, name, fault, now),
-            Ok(call) => self.answer_call(core, name, call, now),
+            Err(fault) => self.refuse(core, fault, now),
+            Ok(call) => self.answer_call(core, call, now),
         }
     }
 }

@@ -1,5 +1,5 @@
 use Rattle.std.proofs.Common.{◌∙◌, sym, refl}
-use Rattle.user_model.proofs.TurnLaws.{closed_waits}
+use Rattle.user_model.proofs.RowTurns.{closed_waits}
 use Rattle.user_session.proofs.session.Session.step.Goals as goal
 
 pub returns-then-not-is_open-clause-turn : goal.returns-then-not-is_open-clause-turn

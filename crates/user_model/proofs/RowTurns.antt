@@ -1,0 +1,128 @@
+-- Any row as a step of a user whose words lie apart: one law for all ends of an instruction and all supervisor entries, one for all
+-- commands.
+use Rattle.std.proofs.Common.{◌≡◌, ℕ, suc, ◌-◌, Bool, true, false, not, ◌&&◌, ◌||◌, List, [], ◌∷◌, ◌++◌, drop, Option, Some, None, refl, sym, ap, ◌∙◌, subst}
+use Rattle.std.specs.Prelude.{slice_get, if◌then◌else◌}
+
+use Rattle.std.specs.declared.result.Result.{Result}
+use Rattle.time_sharing.specs.Machine.{Line, Item, Ending}
+use Rattle.time_sharing.specs.Rows.{Outcome, some_line, is_logout, in_line, out_all, behind, first_line}
+use Rattle.ctss_types.specs.declared.session.Command.{Command}
+use Rattle.machine_model.specs.Step.{Step, entry}
+use Rattle.machine_model.specs.Machine.{table}
+use Rattle.program_model.specs.declared.Call.{Call}
+use Rattle.program_model.specs.declared.EntryFault.{EntryFault}
+use Rattle.program_model.specs.Calls.{call_of}
+use Rattle.user_model.specs.Inner.{Inner}
+use Rattle.user_model.specs.Commands.{command_of, command_row}
+use Rattle.user_model.specs.Programs.{step_row, reads_line, asks_time, is_read}
+use Rattle.user_model.specs.Session.{is_command_in}
+use Rattle.user_model.specs.User.{User, can_step, in_core, core_after, IsStep}
+use Rattle.user_model.specs.Steps.{left}
+use Rattle.user_model.specs.Answers.{IsRow, noted, line_count, by_row, DidEntry, DidCommand}
+use Rattle.user_model.proofs.StepLaws.{run_left, run_ends, run_asks, run_can, command_left, command_ends, command_asks, command_can}
+
+-- the two forms of what a row leaves
+append-nil : (xs : List Item) → xs ++ [] ≡ xs
+append-nil [] = refl
+append-nil (x ∷ xs) = ap (λ (ys : List Item). x ∷ ys) (append-nil xs)
+
+noted_is : (xs ys : List Item) → noted xs ys ≡ xs ++ ys
+noted_is xs [] = sym (append-nil xs)
+noted_is xs (y ∷ ys) = refl
+
+still_on : (b on : Bool) → on ≡ true → (if b then false else on) ≡ not b
+still_on true on h = refl
+still_on false on h = h
+
+behind_is : (line : Option Line) (xs : List Line) → drop (line_count line) xs ≡ behind line xs
+behind_is None xs = refl
+behind_is (Some l) [] = refl
+behind_is (Some l) (x ∷ xs) = refl
+
+given_back : (can b : Bool) (line : Option Line) (o : Outcome Inner) (asks : Bool) (e : Ending) (asked : Bool) (p q : User) (c d : List ℕ) → p.on ≡ true → p.given ≡ 0 → IsRow can b line o asks e asked p q d →
+    in_core (core_after e q.inner.blocks d) q ≡ left b line o (in_core c p)
+unfolding left
+given_back can b line o asks e asked p q c d on zero_given is =
+    (λ j. in_core (core_after e (is.1 j).inner.blocks d) (is.1 j))
+    ∙ ap (λ (x : List ℕ). in_core x (by_row b line o p)) is.2
+    ∙ (λ j. record p {
+      inner = o.inner;
+      on = still_on (is_logout o.ending) p.on on j;
+      unread = if is_logout o.ending then [] else behind_is line p.unread j;
+      given = zero_given j;
+      transcript = noted_is p.transcript (in_line line ++ out_all o.written) j;
+      own = suc p.own;
+      before = if b then p.own else p.before;
+    })
+
+-- an end of an instruction
+abbrev line_at : Step → User → Option Line
+line_at s p = first_line (reads_line s p.inner) p.unread
+
+abbrev said_at : Step → ℕ → User → Outcome Inner
+said_at s t p = step_row s p.inner (line_at s p) (suc p.own - p.before) t
+
+pub row_turn : (t : ℕ) (p q : User) (c d : List ℕ) (s : Step) (e : Ending) (asked : Bool) → is_command_in p.inner.state ≡ false → p.inner.fill ≡ None → table p.inner.regs c ≡ s → p.on ≡ true → p.given ≡ 0
+    → IsRow (not (reads_line s (in_core c p).inner) || some_line p.unread) false (line_at s (in_core c p)) (said_at s t (in_core c p)) (asks_time s (in_core c p).inner) e asked p q d
+    → IsStep e asked t p q c d
+row_turn t p q c d s e asked h none is on zero_given row =
+    record {
+      can = run_can (in_core c p) s h none is ∙ (λ j. on j && row.0 j);
+      left = given_back (not (reads_line s (in_core c p).inner) || some_line p.unread) false (line_at s (in_core c p)) (said_at s t (in_core c p)) (asks_time s (in_core c p).inner) e asked p q c d on zero_given row ∙ sym (run_left t (in_core c p) s h none is zero_given);
+      ends = row.3 ∙ sym (run_ends t (in_core c p) s h none is);
+      asks = row.4 ∙ sym (run_asks (in_core c p) s h none is);
+    }
+
+-- a supervisor entry
+pub entry_turn : (t : ℕ) (p q : User) (c d : List ℕ) (w : ℕ) (call : Result Call EntryFault) (e : Ending) (asked : Bool) → is_command_in p.inner.state ≡ false → p.inner.fill ≡ None → table p.inner.regs c ≡ entry w → call_of p.inner.regs c w ≡ call → p.on ≡ true → p.given ≡ 0
+    → DidEntry call e asked t p q c d
+    → IsStep e asked t p q c d
+entry_turn t p q c d w call e asked h none is what on zero_given row =
+    row_turn t p q c d (entry w) e asked h none is on zero_given
+    (subst (λ (r : Result Call EntryFault). DidEntry r e asked t p q c d) (sym what) row)
+
+-- a command
+
+some_at : (xs : List Line) (l : Line) → slice_get xs 0 ≡ Some l → some_line xs ≡ true
+some_at [] l h = cc
+some_at (x ∷ xs) l h = refl
+
+pub command_turn : (t : ℕ) (p q : User) (c d : List ℕ) (l : Line) (command : Command) (e : Ending) (asked : Bool) → is_command_in p.inner.state ≡ true → slice_get p.unread 0 ≡ Some l → command_of l ≡ command → p.on ≡ true → p.given ≡ 0
+    → DidCommand l command e asked t p q c d
+    → IsStep e asked t p q c d
+command_turn t p q c d l command e asked h first what on zero_given row =
+    record {
+      can = command_can (in_core c p) h ∙ (λ j. on j && some_at p.unread l first j);
+      left = given_back true true (Some l) (command_row command (in_core c p).inner 1 t) true e asked p q c d on zero_given row ∙ sym (command_left t (in_core c p) l command h first zero_given what);
+      ends = row.3 ∙ sym (command_ends t (in_core c p) l command h first what);
+      asks = row.4 ∙ sym (command_asks (in_core c p) l h first);
+    }
+
+-- a supervisor entry that waits for a line
+none_at : (xs : List Line) → slice_get xs 0 ≡ None → some_line xs ≡ false
+none_at [] h = refl
+none_at (x ∷ xs) h = cc
+
+and_none : (a : Bool) → (a && false) ≡ false
+and_none true = refl
+and_none false = refl
+
+pub entry_waits : (p : User) (c : List ℕ) (w : ℕ) (call : Result Call EntryFault) → is_command_in p.inner.state ≡ false → p.inner.fill ≡ None → table p.inner.regs c ≡ entry w → call_of p.inner.regs c w ≡ call
+    → is_read call ≡ true → slice_get p.unread 0 ≡ None → can_step (in_core c p) ≡ false
+entry_waits p c w call h none is what reads empty =
+    run_can (in_core c p) (entry w) h none is
+    ∙ (λ j. p.on && (not ((ap is_read what ∙ reads) j) || none_at p.unread empty j))
+    ∙ and_none p.on
+
+-- a command that waits for a line
+pub command_waits : (p : User) (c : List ℕ) → is_command_in p.inner.state ≡ true → slice_get p.unread 0 ≡ None → can_step (in_core c p) ≡ false
+command_waits p c h none = command_can (in_core c p) h ∙ ap (λ (b : Bool). p.on && b) (none_at p.unread none) ∙ and_none p.on
+
+and_off : (a b : Bool) → a ≡ false → (a && b) ≡ false
+and_off true b h = cc
+and_off false b h = refl
+
+-- a session that isn't open
+pub closed_waits : (p : User) (c : List ℕ) → p.on ≡ false → can_step (in_core c p) ≡ false
+unfolding can_step
+closed_waits p c off = and_off p.on _ off

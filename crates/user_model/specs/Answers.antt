@@ -1,0 +1,55 @@
+-- What a row says of a user whose words lie apart: one statement for every supervisor entry and every command.
+use Rattle.std.specs.Prelude.{◌≡◌, ℕ, suc, ◌-◌, Bool, true, false, not, ◌||◌, if◌then◌else◌, List, [], ◌∷◌, ◌++◌, drop, Option, Some, None}
+use Rattle.std.specs.declared.result.Result.{Result}
+use Rattle.time_sharing.specs.Machine.{Line, Item, Ending}
+use Rattle.time_sharing.specs.Rows.{Outcome, some_line, is_logout, in_line, out_all, first_line}
+use Rattle.ctss_types.specs.declared.session.Command.{Command}
+use Rattle.program_model.specs.declared.Call.{Call}
+use Rattle.program_model.specs.declared.EntryFault.{EntryFault}
+use Rattle.user_model.specs.Inner.{Inner}
+use Rattle.user_model.specs.Programs.{entry_row, is_read, is_clock}
+use Rattle.user_model.specs.Commands.{command_row}
+use Rattle.user_model.specs.User.{User, in_core, core_after}
+
+-- how many unread lines are taken
+abbrev pub line_count : Option Line → ℕ
+line_count None = 0
+line_count (Some l) = 1
+
+-- items behind others
+abbrev pub noted : List Item → List Item → List Item
+noted xs [] = xs
+noted xs (y ∷ ys) = xs ++ y ∷ ys
+
+-- What a row leaves of an open session that no command file feeds, in the form that code gives it.
+abbrev pub by_row : Bool → Option Line → Outcome Inner → User → User
+by_row is_command line o p =
+    record p {
+      inner = record o.inner { core = p.inner.core };
+      on = if is_logout o.ending then false else p.on;
+      unread = if is_logout o.ending then [] else drop (line_count line) p.unread;
+      transcript = noted p.transcript (in_line line ++ out_all o.written);
+      own = suc p.own;
+      before = if is_command then p.own else p.before;
+    }
+
+-- A step could be done and did what a row says: it took this line, ended so, and took the clock or not.
+abbrev pub IsRow : (can is_command : Bool) → Option Line → Outcome Inner → (asks : Bool) → Ending → (asked : Bool) → (old new : User) → (after : List ℕ) → Type 0
+IsRow can is_command line o asks e asked old new after =
+    (can ≡ true) × (new ≡ by_row is_command line o old) × (core_after e o.inner.blocks after ≡ o.inner.core) × (e ≡ o.ending) × (asked ≡ asks)
+
+-- what the row of a supervisor entry says of this user
+abbrev pub entry_line : Result Call EntryFault → User → Option Line
+entry_line call p = first_line (is_read call) p.unread
+
+abbrev pub entry_said : Result Call EntryFault → ℕ → User → List ℕ → Outcome Inner
+entry_said call t p c = entry_row call (in_core c p).inner (entry_line call p) (suc p.own - p.before) t
+
+-- a step that did what the row of this entry says
+abbrev pub DidEntry : Result Call EntryFault → Ending → Bool → ℕ → (old new : User) → (before after : List ℕ) → Type 0
+DidEntry call e asked t old new before after =
+    IsRow (not (is_read call) || some_line old.unread) false (entry_line call old) (entry_said call t old before) (is_clock call) e asked old new after
+
+-- a step that did what the row of this command says
+abbrev pub DidCommand : Line → Command → Ending → Bool → ℕ → (old new : User) → (before after : List ℕ) → Type 0
+DidCommand l command e asked t old new before after = IsRow true true (Some l) (command_row command (in_core before old).inner 1 t) true e asked old new after

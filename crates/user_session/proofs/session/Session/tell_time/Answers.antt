@@ -1,8 +1,0 @@
-use Rattle.user_model.proofs.TurnLaws.{time_told_turn}
-use Rattle.user_session.proofs.Turns.{left_so}
-use Rattle.user_session.proofs.session.Session.tell_time.Goals as goal
-
-pub returns-clause-turn : goal.returns-clause-turn
-returns-clause-turn g c =
-    left_so _ _ _ _ _ _ _ _ c.reply.ensures.user
-    (time_told_turn c.args.now c.args.self.now _ c.args.name c.requires.works c.requires.filled c.requires.at c.requires.asked c.requires.on c.reply.ensures.given c.requires.size)

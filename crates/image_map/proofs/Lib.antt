@@ -9,4 +9,5 @@ pub mod Ports
 pub mod Resize
 pub mod Residents
 pub mod Room
+pub mod States
 pub mod Words

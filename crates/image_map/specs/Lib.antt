@@ -1,7 +1,9 @@
 pub mod Blocks
+pub mod Image
 pub mod Images
 pub mod Loads
 pub mod Places
 pub mod Residents
 pub mod Room
 pub mod Sizes
+pub mod State

@@ -55,6 +55,9 @@ struct Tables<'a, D: Medium> {
 }
 
 impl<'a, D: Medium> Image<'a, D> {
+    ghost use Rattle.image_map.specs.State.{size, quota, places_in, first_state, IsFirst};
+    ghost use Rattle.image_map.specs.Image.{state, seen};
+
     /// Images of users 1, 2, 3 and on with these quotas, in blocks, over the first `records` records
     /// of a drum. All sizes are 0, and no call of the drum is made.
     ///
@@ -71,17 +74,7 @@ impl<'a, D: Medium> Image<'a, D> {
         requires fits { sum quotas.now ≤ records }
         requires serves { Serves (D.rows drum.old) (D.record_count drum.old)
             (D.words_each drum.old) records }
-        ensures same { IfOk result (λ i. i.tables.kept.drum.ghost_name ≡ drum.entry.ghost_name) }
-        ensures now { IfOk result (λ i. i.tables.kept.drum.now ≡ drum.old) }
-        ensures serves { IfOk result (λ i. Serves (D.rows i.tables.kept.drum.now)
-            (D.record_count i.tables.kept.drum.now)
-            (D.words_each i.tables.kept.drum.now) (records_of i.tables.kept.slots)) }
-        ensures quotas { IfOk result (λ i. i.tables.kept.slots.quotas.items ≡ 0 ∷ quotas.now) }
-        ensures sizes { IfOk result (λ i. i.tables.sizes.items ≡ replicate (length quotas.now + 1) 0) }
-        ensures words { IfOk result (λ i. AreWords i.bank) }
-        ensures owners { IfOk result (λ i. i.tables.owners ≡ replicate 128 0) }
-        ensures none { IfOk result (λ i. (k : ℕ) → slot_of (slots_of i.tables.kept.slots) k ≡ None) }
-        ensures works { IfOk result (λ i. i.failed ≡ false) }
+        ensures { IfOk result (λ i. IsFirst (seen D.Medium drum.entry) quotas.now (state i)) }
     {
         let sizes = no_sizes(alloc, quotas.len())?;
         let bank = Bank::new(alloc)?;
@@ -95,13 +88,7 @@ impl<'a, D: Medium> Image<'a, D> {
         requires few { length slots.quotas.items ≤ 31 }
         requires limit { (u : ℕ) → quota_in slots u ≤ 128 }
         requires sizes { sizes.items ≡ replicate (length slots.quotas.items) 0 }
-        ensures same { result.tables.kept.drum.ghost_name ≡ drum.entry.ghost_name }
-        ensures now { result.tables.kept.drum.now ≡ drum.old }
-        ensures slots { result.tables.kept.slots ≡ slots }
-        ensures bank { result.bank ≡ bank }
-        ensures sizes { result.tables.sizes ≡ sizes }
-        ensures owners { result.tables.owners ≡ replicate 128 0 }
-        ensures works { result.failed ≡ false }
+        ensures { state result ≡ first_state (seen D.Medium drum.entry) slots bank sizes.items }
     {
         let tables = Tables {
             kept: SlotTable::over(drum, slots),
@@ -117,8 +104,7 @@ impl<'a, D: Medium> Image<'a, D> {
 
     /// Ends the images and gives the drum back.
     pub fn back(self) -> &'a mut D
-        ensures same { result.ghost_name ≡ self.entry.tables.kept.drum.ghost_name }
-        ensures now { result.now ≡ self.entry.tables.kept.drum.now }
+        ensures { seen D.Medium result ≡ (state self.entry).drum }
     {
         let Image {
             tables,
@@ -138,16 +124,16 @@ impl<'a, D: Medium> Image<'a, D> {
 
     /// Whether a load has failed.
     pub fn failed(&self) -> bool
-        ensures { result ≡ self.now.failed }
+        ensures { result ≡ (state self.now).failed }
     {
         self.failed
     }
 
     /// How many blocks a user has.
     pub fn size(&self, user: UserNo) -> u8
-        requires { user < length self.now.tables.sizes.items }
-        ensures value { result ≡ size_of self.now.tables.sizes.items user }
-        ensures quota { result ≤ quota_in self.now.tables.kept.slots user }
+        requires { user < length (state self.now).sizes }
+        ensures value { result ≡ size (state self.now) user }
+        ensures quota { result ≤ quota (state self.now) user }
         ensures most { result ≤ 128 }
     {
         self.tables.sizes[user.number() as usize]
@@ -155,11 +141,10 @@ impl<'a, D: Medium> Image<'a, D> {
 
     /// Whether all of a user's blocks are in core.
     pub fn resident(&self, user: UserNo) -> bool
-        requires { user < length self.now.tables.sizes.items }
+        requires { user < length (state self.now).sizes }
         ensures owns { IsTrue result
-            ↔ IsResident self.now.tables.owners (size_of self.now.tables.sizes.items user) user }
-        ensures value { result ≡ is_loaded (places_of self.now.tables.owners self.now.tables.kept.slots) user
-            (size_of self.now.tables.sizes.items user) }
+            ↔ IsResident (state self.now).owners (size (state self.now) user) user }
+        ensures value { result ≡ is_loaded (places_in (state self.now)) user (size (state self.now) user) }
     {
         'looking: for b in 0..self.tables.sizes[user.number() as usize] {
             if self.tables.owners.owner(b) != user.number() {
@@ -173,6 +158,8 @@ impl<'a, D: Medium> Image<'a, D> {
 impl<'a, D: Medium> Image<'a, D> {
     ghost use Rattle.std.specs.Borrow.{sem, Lends};
     ghost use mir.Syntax.{named};
+    ghost use Rattle.image_map.specs.State.{size};
+    ghost use Rattle.image_map.specs.Image.{state, with_words};
     ghost use Rattle.core_bank.specs.contracts.Bank.{the_row as bank_row};
     ghost use Rattle.image_map.specs.contracts.image.Image.{the_row as image_row};
 
@@ -180,8 +167,8 @@ impl<'a, D: Medium> Image<'a, D> {
     pub fn bank_mut(&mut self) -> &mut Bank
         ensures* lends { sem 𝓛 (Lends
             (image_row (record { mir = named 1; lft = [] }) D.row D.Medium) bank_row
-            self.entry result (λ bank. record self.old { bank = bank })) }
-        ensures now { result.now ≡ self.old.bank }
+            self.entry result (with_words self.old)) }
+        ensures now { result.now ≡ (state self.old).words }
     {
         &mut self.bank
     }
@@ -191,15 +178,14 @@ impl<'a, D: Medium> Image<'a, D> {
     /// While it lives the other fields stay, but a caller learns nothing of what was stored. Where
     /// that matters hand `bank_mut` to a function that makes the port with `Port::over`.
     pub fn port(&mut self, user: UserNo) -> Port<'_>
-        requires user { user < length self.old.tables.sizes.items }
-        requires resident { IsResident self.old.tables.owners
-            (size_of self.old.tables.sizes.items user) user }
-        requires words { AreWords self.old.bank }
+        requires user { user < length (state self.old).sizes }
+        requires resident { IsResident (state self.old).owners (size (state self.old) user) user }
+        requires words { AreWords (state self.old).words }
         ensures* lends { sem 𝓛 (Lends
             (image_row (record { mir = named 1; lft = [] }) D.row D.Medium) bank_row
-            self.entry result.bank (λ bank. record self.old { bank = bank })) }
-        ensures now { result.bank.now ≡ self.old.bank }
-        ensures blocks { result.blocks ≡ size_of self.old.tables.sizes.items user }
+            self.entry result.bank (with_words self.old)) }
+        ensures now { result.bank.now ≡ (state self.old).words }
+        ensures blocks { result.blocks ≡ size (state self.old) user }
     {
         let blocks = self.size(user);
         Port::over(&mut self.bank, blocks)
@@ -207,6 +193,9 @@ impl<'a, D: Medium> Image<'a, D> {
 }
 
 impl<'a, D: Medium> Image<'a, D> {
+    ghost use Rattle.image_map.specs.State.{quota, IsWorking, Resizes, Replaces, Loads};
+    ghost use Rattle.image_map.specs.Image.{state};
+
     /// Writes a block to the drum, which its owner has no more in core then.
     fn dump_block(&mut self, owner: UserNo, block: u8) -> Result<(), DrumFault>
         requires some { 1 ≤ owner }
@@ -444,74 +433,9 @@ impl<'a, D: Medium> Image<'a, D> {
     /// user owns it, and then read from its record, which is free then, or made plus zeros. After a
     /// drum fault the images are lost.
     pub fn load_user(&mut self, user: UserNo) -> Result<Plan, DrumFault>
-        requires works { self.old.failed ≡ false }
-        requires user { user < length self.old.tables.sizes.items }
-        requires words { AreWords self.old.bank }
-        requires serves { Serves (D.rows self.old.tables.kept.drum.now)
-            (D.record_count self.old.tables.kept.drum.now)
-            (D.words_each self.old.tables.kept.drum.now) (records_of self.old.tables.kept.slots) }
-
-        ensures same { self.new.tables.kept.drum.ghost_name ≡ self.old.tables.kept.drum.ghost_name }
-        ensures serves { Serves (D.rows self.new.tables.kept.drum.now)
-            (D.record_count self.new.tables.kept.drum.now)
-            (D.words_each self.new.tables.kept.drum.now) (records_of self.new.tables.kept.slots) }
-        ensures quotas { self.new.tables.kept.slots.quotas ≡ self.old.tables.kept.slots.quotas }
-        ensures sizes { self.new.tables.sizes ≡ self.old.tables.sizes }
-        ensures works { self.new.failed ≡ is_err result }
-        ensures words { AreWords self.new.bank }
-        ensures others { (b : ℕ) → size_of self.old.tables.sizes.items user ≤ b
-            → block_at self.new.bank b ≡ block_at self.old.bank b }
-
-        ensures images { OnOk result ((u : ℕ) → 1 ≤ u
-            → image_in self.new.bank (D.rows self.new.tables.kept.drum.now) self.new.tables.owners
-            self.new.tables.kept.slots self.new.tables.sizes.items u
-            ≡ image_in self.old.bank (D.rows self.old.tables.kept.drum.now) self.old.tables.owners
-            self.old.tables.kept.slots self.old.tables.sizes.items u) }
-        ensures resident { OnOk result
-            (IsResident self.new.tables.owners (size_of self.old.tables.sizes.items user) user) }
-        ensures places { OnOk result (places_of self.new.tables.owners self.new.tables.kept.slots
-            ≡ loaded (places_of self.old.tables.owners self.old.tables.kept.slots) user
-            (size_of self.old.tables.sizes.items user)) }
-        ensures held { OnOk result (held_of self.new.tables.owners self.new.tables.kept.slots
-            ≡ load_to self.old.tables.kept.slots.quotas.items
-            (held_of self.old.tables.owners self.old.tables.kept.slots) user
-            (size_of self.old.tables.sizes.items user)) }
-
-        ensures dumped { IfOk result (λ plan. plan.dumped
-            ≡ count_below (size_of self.old.tables.sizes.items user)
-            (is_dumped (places_of self.old.tables.owners self.old.tables.kept.slots) user)) }
-        ensures read { IfOk result (λ plan. plan.read
-            ≡ count_below (size_of self.old.tables.sizes.items user)
-            (is_read (places_of self.old.tables.owners self.old.tables.kept.slots) user)) }
-        ensures fresh { IfOk result (λ plan. plan.fresh
-            ≡ count_below (size_of self.old.tables.sizes.items user)
-            (is_fresh (places_of self.old.tables.owners self.old.tables.kept.slots) user)) }
-
-        // The calls of the drum: all, or some from the first on with the failed one last.
-        ensures writes { IfOk result (λ plan. plan.dumped ≡ count_writes
-            (calls_to self.old.tables.kept.slots.quotas.items
-            (held_of self.old.tables.owners self.old.tables.kept.slots) user
-            (size_of self.old.tables.sizes.items user)
-            (block_at self.new.bank))) }
-        ensures reads { IfOk result (λ plan. plan.read ≡ count_reads
-            (calls_to self.old.tables.kept.slots.quotas.items
-            (held_of self.old.tables.owners self.old.tables.kept.slots) user
-            (size_of self.old.tables.sizes.items user)
-            (block_at self.new.bank))) }
-        ensures calls { OnOk result (D.calls self.new.tables.kept.drum.now
-            ≡ with_calls (D.calls self.old.tables.kept.drum.now)
-            (calls_to self.old.tables.kept.slots.quotas.items
-            (held_of self.old.tables.owners self.old.tables.kept.slots) user
-            (size_of self.old.tables.sizes.items user)
-            (block_at self.new.bank))) }
-        ensures failed { OnErr result (FailedIn (D.calls self.old.tables.kept.drum.now)
-            (D.calls self.new.tables.kept.drum.now) (calls_to self.old.tables.kept.slots.quotas.items
-            (held_of self.old.tables.owners self.old.tables.kept.slots) user
-            (size_of self.old.tables.sizes.items user)
-            (block_at self.new.bank))) }
-        ensures kept { D.faults self.old.tables.kept.drum.now ≤ D.faults self.new.tables.kept.drum.now }
-        ensures cause { OnErr result
-            (Rose (D.faults self.old.tables.kept.drum.now) (D.faults self.new.tables.kept.drum.now)) }
+        requires works { IsWorking (state self.old) }
+        requires user { user < length (state self.old).sizes }
+        ensures { Loads user result (state self.old) (state self.new) }
     {
         let blocks = self.tables.sizes[user.number() as usize];
         let plan = self.plan_of(user, blocks);
@@ -527,30 +451,10 @@ impl<'a, D: Medium> Image<'a, D> {
     /// Gives a user another size: its image is cut, or extended by plus zeros. No call of the drum is
     /// made, and the other images stay.
     pub fn resize_user(&mut self, user: UserNo, blocks: u8)
-        requires works { self.old.failed ≡ false }
-        requires user { user < length self.old.tables.sizes.items }
-        requires quota { blocks ≤ quota_in self.old.tables.kept.slots user }
-
-        ensures same { self.new.tables.kept.drum.ghost_name ≡ self.old.tables.kept.drum.ghost_name }
-        ensures now { self.new.tables.kept.drum.now ≡ self.old.tables.kept.drum.now }
-        ensures quotas { self.new.tables.kept.slots.quotas ≡ self.old.tables.kept.slots.quotas }
-        ensures records { records_of self.new.tables.kept.slots ≡ records_of self.old.tables.kept.slots }
-        ensures bank { self.new.bank ≡ self.old.bank }
-        ensures sizes { self.new.tables.sizes.items ≡ slice_set self.old.tables.sizes.items user blocks }
-        ensures works { self.new.failed ≡ self.old.failed }
-
-        ensures places { places_of self.new.tables.owners self.new.tables.kept.slots
-            ≡ given_up (places_of self.old.tables.owners self.old.tables.kept.slots) user blocks }
-        ensures mine { image_in self.new.bank (D.rows self.new.tables.kept.drum.now) self.new.tables.owners
-            self.new.tables.kept.slots self.new.tables.sizes.items user
-            ≡ resized (size_of self.old.tables.sizes.items user) blocks
-            (image_in self.old.bank (D.rows self.old.tables.kept.drum.now) self.old.tables.owners
-            self.old.tables.kept.slots self.old.tables.sizes.items user) }
-        ensures others { (u : ℕ) → 1 ≤ u → u ≢ user
-            → image_in self.new.bank (D.rows self.new.tables.kept.drum.now) self.new.tables.owners
-            self.new.tables.kept.slots self.new.tables.sizes.items u
-            ≡ image_in self.old.bank (D.rows self.old.tables.kept.drum.now) self.old.tables.owners
-            self.old.tables.kept.slots self.old.tables.sizes.items u }
+        requires works { (state self.old).failed ≡ false }
+        requires user { user < length (state self.old).sizes }
+        requires quota { blocks ≤ quota (state self.old) user }
+        ensures { Resizes user blocks (state self.old) (state self.new) }
     {
         let tables = &mut self.tables;
         tables.owners.give_up(user, blocks);
@@ -561,30 +465,10 @@ impl<'a, D: Medium> Image<'a, D> {
     /// Gives a user a new image of plus zeros. No call of the drum is made, and the other images
     /// stay.
     pub fn replace_user(&mut self, user: UserNo, blocks: u8)
-        requires works { self.old.failed ≡ false }
-        requires user { user < length self.old.tables.sizes.items }
-        requires quota { blocks ≤ quota_in self.old.tables.kept.slots user }
-
-        ensures same { self.new.tables.kept.drum.ghost_name ≡ self.old.tables.kept.drum.ghost_name }
-        ensures now { self.new.tables.kept.drum.now ≡ self.old.tables.kept.drum.now }
-        ensures quotas { self.new.tables.kept.slots.quotas ≡ self.old.tables.kept.slots.quotas }
-        ensures records { records_of self.new.tables.kept.slots ≡ records_of self.old.tables.kept.slots }
-        ensures bank { self.new.bank ≡ self.old.bank }
-        ensures sizes { self.new.tables.sizes.items ≡ slice_set self.old.tables.sizes.items user blocks }
-        ensures works { self.new.failed ≡ self.old.failed }
-
-        ensures places { places_of self.new.tables.owners self.new.tables.kept.slots
-            ≡ given_up (places_of self.old.tables.owners self.old.tables.kept.slots) user 0 }
-        ensures mine { image_in self.new.bank (D.rows self.new.tables.kept.drum.now) self.new.tables.owners
-            self.new.tables.kept.slots self.new.tables.sizes.items user
-            ≡ resized 0 blocks (resized (size_of self.old.tables.sizes.items user) 0
-            (image_in self.old.bank (D.rows self.old.tables.kept.drum.now) self.old.tables.owners
-            self.old.tables.kept.slots self.old.tables.sizes.items user)) }
-        ensures others { (u : ℕ) → 1 ≤ u → u ≢ user
-            → image_in self.new.bank (D.rows self.new.tables.kept.drum.now) self.new.tables.owners
-            self.new.tables.kept.slots self.new.tables.sizes.items u
-            ≡ image_in self.old.bank (D.rows self.old.tables.kept.drum.now) self.old.tables.owners
-            self.old.tables.kept.slots self.old.tables.sizes.items u }
+        requires works { (state self.old).failed ≡ false }
+        requires user { user < length (state self.old).sizes }
+        requires quota { blocks ≤ quota (state self.old) user }
+        ensures { Replaces user blocks (state self.old) (state self.new) }
     {
         self.resize_user(user, 0);
         self.resize_user(user, blocks);

@@ -80,27 +80,27 @@ impl Supervisor {
     /// After a fault of the drum the run may only be stopped.
     pub fn advance<C: Cores>(&mut self, cores: &mut C, limit: u64) -> Result<(), RunFault>
         requires works { C.Works cores.old }
-        requires tied { IsTied self.old.users (C.memory cores.old) }
+        requires tied { IsTied self.old.users (C.state cores.old).memory }
         requires limit { limit ≤ 100000000 }
-        ensures ended { Ends result (HasRun limit (run_with (C.memory cores.old).places self.old)
-            (run_with (C.memory cores.new).places self.new) (C.memory cores.old) (C.memory cores.new))
-            (HasRunPart limit (run_with (C.memory cores.old).places self.old)
-            (run_with (C.memory cores.new).places self.new) (C.memory cores.old) (C.memory cores.new))
-            (HasRunToLoad limit (run_with (C.memory cores.old).places self.old) (run_with no_places self.new) (C.memory cores.old)
-            (C.calls cores.old) (C.calls cores.new) × Rose (C.faults cores.old) (C.faults cores.new)) }
-        ensures counted { Ends result (IsCounted self.old.entries self.new.entries (C.calls cores.old) (C.calls cores.new))
-            (IsCounted self.old.entries self.new.entries (C.calls cores.old) (C.calls cores.new)) ⊤ }
-        ensures texts { Ends result (HasTexts limit (run_with (C.memory cores.old).places self.old) (C.memory cores.old) self.old.texts self.new.texts)
-            (HasTextsPart limit (run_with (C.memory cores.old).places self.old)
-            (run_with (C.memory cores.new).places self.new) (C.memory cores.old) (C.memory cores.new) self.old.texts self.new.texts)
-            (HasTextsToLoad limit (run_with (C.memory cores.old).places self.old) (run_with no_places self.new) (C.memory cores.old)
+        ensures ended { Ends result (HasRun limit (run_with (C.state cores.old).memory.places self.old)
+            (run_with (C.state cores.new).memory.places self.new) (C.state cores.old).memory (C.state cores.new).memory)
+            (HasRunPart limit (run_with (C.state cores.old).memory.places self.old)
+            (run_with (C.state cores.new).memory.places self.new) (C.state cores.old).memory (C.state cores.new).memory)
+            (HasRunToLoad limit (run_with (C.state cores.old).memory.places self.old) (run_with no_places self.new) (C.state cores.old).memory
+            (C.state cores.old).calls (C.state cores.new).calls × Rose (C.state cores.old).faults (C.state cores.new).faults) }
+        ensures counted { Ends result (IsCounted self.old.entries self.new.entries (C.state cores.old).calls (C.state cores.new).calls)
+            (IsCounted self.old.entries self.new.entries (C.state cores.old).calls (C.state cores.new).calls) ⊤ }
+        ensures texts { Ends result (HasTexts limit (run_with (C.state cores.old).memory.places self.old) (C.state cores.old).memory self.old.texts self.new.texts)
+            (HasTextsPart limit (run_with (C.state cores.old).memory.places self.old)
+            (run_with (C.state cores.new).memory.places self.new) (C.state cores.old).memory (C.state cores.new).memory self.old.texts self.new.texts)
+            (HasTextsToLoad limit (run_with (C.state cores.old).memory.places self.old) (run_with no_places self.new) (C.state cores.old).memory
             self.old.texts self.new.texts) }
         ensures cut { Ends result (self.new.ended ≡ self.old.ended) (self.new.ended ≡ true) (self.new.ended ≡ true) }
-        ensures tells { Lasts result ((C.memory cores.new).tells ≡ (C.memory cores.old).tells) }
-        ensures tied { Lasts result (IsTied self.new.users (C.memory cores.new)) }
+        ensures tells { Lasts result ((C.state cores.new).memory.tells ≡ (C.state cores.old).memory.tells) }
+        ensures tied { Lasts result (IsTied self.new.users (C.state cores.new).memory) }
         ensures works { Lasts result (C.Works cores.new) }
         ensures keeps { C.Keeps cores.old cores.new }
-        ensures kept { C.faults cores.old ≤ C.faults cores.new }
+        ensures kept { (C.state cores.old).faults ≤ (C.state cores.new).faults }
     {
         let done = self.watch.advance(cores, limit);
         if done.is_err() {

@@ -69,24 +69,24 @@ impl Watch {
     /// One step, at which an event is due.
     fn hear<C: Cores>(&mut self, cores: &mut C, limit: u64) -> Result<(), RunFault>
         requires works { C.Works cores.old }
-        requires held { IsHeld (seen (C.memory cores.old).places self.old.state) (C.memory cores.old) }
+        requires held { IsHeld (seen (C.state cores.old).memory.places self.old.state) (C.state cores.old).memory }
         requires told { IsTold self.old.state.consoles.items self.old.state.sessions.items self.old.texts }
         requires due { is_some (due_of self.old.state.events.items self.old.state.clock) ≡ true }
         requires before { self.old.state.clock < limit }
         requires limit { limit ≤ 100000000 }
-        ensures ended { Ends result (Does (next limit) (seen (C.memory cores.old).places self.old.state)
-            (seen (C.memory cores.new).places self.new.state) (C.memory cores.old) (C.memory cores.new))
-            (Stays (seen (C.memory cores.old).places self.old.state)
-            (seen (C.memory cores.new).places self.new.state) (C.memory cores.old) (C.memory cores.new))
-            ((seen no_places self.new.state ≡ seen no_places self.old.state) × Rose (C.faults cores.old) (C.faults cores.new)
-            × NextLoadFails (seen (C.memory cores.old).places self.old.state) (C.calls cores.old) (C.calls cores.new)) }
-        ensures counted { Ends result (IsCounted self.old.state.entries.items self.new.state.entries.items (C.calls cores.old) (C.calls cores.new))
-            (IsCounted self.old.state.entries.items self.new.state.entries.items (C.calls cores.old) (C.calls cores.new)) ⊤ }
-        ensures tied { Lasts result (IsTied self.new.state.sessions.items (C.memory cores.new)) }
+        ensures ended { Ends result (Does (next limit) (seen (C.state cores.old).memory.places self.old.state)
+            (seen (C.state cores.new).memory.places self.new.state) (C.state cores.old).memory (C.state cores.new).memory)
+            (Stays (seen (C.state cores.old).memory.places self.old.state)
+            (seen (C.state cores.new).memory.places self.new.state) (C.state cores.old).memory (C.state cores.new).memory)
+            ((seen no_places self.new.state ≡ seen no_places self.old.state) × Rose (C.state cores.old).faults (C.state cores.new).faults
+            × NextLoadFails (seen (C.state cores.old).memory.places self.old.state) (C.state cores.old).calls (C.state cores.new).calls) }
+        ensures counted { Ends result (IsCounted self.old.state.entries.items self.new.state.entries.items (C.state cores.old).calls (C.state cores.new).calls)
+            (IsCounted self.old.state.entries.items self.new.state.entries.items (C.state cores.old).calls (C.state cores.new).calls) ⊤ }
+        ensures tied { Lasts result (IsTied self.new.state.sessions.items (C.state cores.new).memory) }
         ensures works { Lasts result (C.Works cores.new) }
         ensures keeps { C.Keeps cores.old cores.new }
-        ensures kept { C.faults cores.old ≤ C.faults cores.new }
-        ensures texts { Ends result (GoesOn limit (seen (C.memory cores.old).places self.old.state) (seen (C.memory cores.new).places self.new.state)
+        ensures kept { (C.state cores.old).faults ≤ (C.state cores.new).faults }
+        ensures texts { Ends result (GoesOn limit (seen (C.state cores.old).memory.places self.old.state) (seen (C.state cores.new).memory.places self.new.state)
             (texts_of self.old.state.sessions.items self.old.texts) (texts_of self.new.state.sessions.items self.new.texts))
             (texts_of self.new.state.sessions.items self.new.texts ≡ texts_of self.old.state.sessions.items self.old.texts)
             (texts_of self.new.state.sessions.items self.new.texts ≡ texts_of self.old.state.sessions.items self.old.texts) }
@@ -113,24 +113,24 @@ impl Watch {
     /// One step, at which no event is due.
     fn go<C: Cores>(&mut self, cores: &mut C, limit: u64) -> Result<(), RunFault>
         requires works { C.Works cores.old }
-        requires held { IsHeld (seen (C.memory cores.old).places self.old.state) (C.memory cores.old) }
+        requires held { IsHeld (seen (C.state cores.old).memory.places self.old.state) (C.state cores.old).memory }
         requires told { IsTold self.old.state.consoles.items self.old.state.sessions.items self.old.texts }
         requires quiet { due_of self.old.state.events.items self.old.state.clock ≡ None }
         requires before { self.old.state.clock < limit }
         requires limit { limit ≤ 100000000 }
-        ensures ended { Ends result (Does (next limit) (seen (C.memory cores.old).places self.old.state)
-            (seen (C.memory cores.new).places self.new.state) (C.memory cores.old) (C.memory cores.new))
-            (Stays (seen (C.memory cores.old).places self.old.state)
-            (seen (C.memory cores.new).places self.new.state) (C.memory cores.old) (C.memory cores.new))
-            ((seen no_places self.new.state ≡ seen no_places self.old.state) × Rose (C.faults cores.old) (C.faults cores.new)
-            × NextLoadFails (seen (C.memory cores.old).places self.old.state) (C.calls cores.old) (C.calls cores.new)) }
-        ensures counted { Ends result (IsCounted self.old.state.entries.items self.new.state.entries.items (C.calls cores.old) (C.calls cores.new))
-            (IsCounted self.old.state.entries.items self.new.state.entries.items (C.calls cores.old) (C.calls cores.new)) ⊤ }
-        ensures tied { Lasts result (IsTied self.new.state.sessions.items (C.memory cores.new)) }
+        ensures ended { Ends result (Does (next limit) (seen (C.state cores.old).memory.places self.old.state)
+            (seen (C.state cores.new).memory.places self.new.state) (C.state cores.old).memory (C.state cores.new).memory)
+            (Stays (seen (C.state cores.old).memory.places self.old.state)
+            (seen (C.state cores.new).memory.places self.new.state) (C.state cores.old).memory (C.state cores.new).memory)
+            ((seen no_places self.new.state ≡ seen no_places self.old.state) × Rose (C.state cores.old).faults (C.state cores.new).faults
+            × NextLoadFails (seen (C.state cores.old).memory.places self.old.state) (C.state cores.old).calls (C.state cores.new).calls) }
+        ensures counted { Ends result (IsCounted self.old.state.entries.items self.new.state.entries.items (C.state cores.old).calls (C.state cores.new).calls)
+            (IsCounted self.old.state.entries.items self.new.state.entries.items (C.state cores.old).calls (C.state cores.new).calls) ⊤ }
+        ensures tied { Lasts result (IsTied self.new.state.sessions.items (C.state cores.new).memory) }
         ensures works { Lasts result (C.Works cores.new) }
         ensures keeps { C.Keeps cores.old cores.new }
-        ensures kept { C.faults cores.old ≤ C.faults cores.new }
-        ensures texts { Ends result (GoesOn limit (seen (C.memory cores.old).places self.old.state) (seen (C.memory cores.new).places self.new.state)
+        ensures kept { (C.state cores.old).faults ≤ (C.state cores.new).faults }
+        ensures texts { Ends result (GoesOn limit (seen (C.state cores.old).memory.places self.old.state) (seen (C.state cores.new).memory.places self.new.state)
             (texts_of self.old.state.sessions.items self.old.texts) (texts_of self.new.state.sessions.items self.new.texts))
             (texts_of self.new.state.sessions.items self.new.texts ≡ texts_of self.old.state.sessions.items self.old.texts)
             (texts_of self.new.state.sessions.items self.new.texts ≡ texts_of self.old.state.sessions.items self.old.texts) }
@@ -152,23 +152,23 @@ impl Watch {
     /// One step.
     fn step<C: Cores>(&mut self, cores: &mut C, limit: u64) -> Result<(), RunFault>
         requires works { C.Works cores.old }
-        requires held { IsHeld (seen (C.memory cores.old).places self.old.state) (C.memory cores.old) }
+        requires held { IsHeld (seen (C.state cores.old).memory.places self.old.state) (C.state cores.old).memory }
         requires told { IsTold self.old.state.consoles.items self.old.state.sessions.items self.old.texts }
         requires before { self.old.state.clock < limit }
         requires limit { limit ≤ 100000000 }
-        ensures ended { Ends result (Does (next limit) (seen (C.memory cores.old).places self.old.state)
-            (seen (C.memory cores.new).places self.new.state) (C.memory cores.old) (C.memory cores.new))
-            (Stays (seen (C.memory cores.old).places self.old.state)
-            (seen (C.memory cores.new).places self.new.state) (C.memory cores.old) (C.memory cores.new))
-            ((seen no_places self.new.state ≡ seen no_places self.old.state) × Rose (C.faults cores.old) (C.faults cores.new)
-            × NextLoadFails (seen (C.memory cores.old).places self.old.state) (C.calls cores.old) (C.calls cores.new)) }
-        ensures counted { Ends result (IsCounted self.old.state.entries.items self.new.state.entries.items (C.calls cores.old) (C.calls cores.new))
-            (IsCounted self.old.state.entries.items self.new.state.entries.items (C.calls cores.old) (C.calls cores.new)) ⊤ }
-        ensures tied { Lasts result (IsTied self.new.state.sessions.items (C.memory cores.new)) }
+        ensures ended { Ends result (Does (next limit) (seen (C.state cores.old).memory.places self.old.state)
+            (seen (C.state cores.new).memory.places self.new.state) (C.state cores.old).memory (C.state cores.new).memory)
+            (Stays (seen (C.state cores.old).memory.places self.old.state)
+            (seen (C.state cores.new).memory.places self.new.state) (C.state cores.old).memory (C.state cores.new).memory)
+            ((seen no_places self.new.state ≡ seen no_places self.old.state) × Rose (C.state cores.old).faults (C.state cores.new).faults
+            × NextLoadFails (seen (C.state cores.old).memory.places self.old.state) (C.state cores.old).calls (C.state cores.new).calls) }
+        ensures counted { Ends result (IsCounted self.old.state.entries.items self.new.state.entries.items (C.state cores.old).calls (C.state cores.new).calls)
+            (IsCounted self.old.state.entries.items self.new.state.entries.items (C.state cores.old).calls (C.state cores.new).calls) ⊤ }
+        ensures tied { Lasts result (IsTied self.new.state.sessions.items (C.state cores.new).memory) }
         ensures works { Lasts result (C.Works cores.new) }
         ensures keeps { C.Keeps cores.old cores.new }
-        ensures kept { C.faults cores.old ≤ C.faults cores.new }
-        ensures texts { Ends result (GoesOn limit (seen (C.memory cores.old).places self.old.state) (seen (C.memory cores.new).places self.new.state)
+        ensures kept { (C.state cores.old).faults ≤ (C.state cores.new).faults }
+        ensures texts { Ends result (GoesOn limit (seen (C.state cores.old).memory.places self.old.state) (seen (C.state cores.new).memory.places self.new.state)
             (texts_of self.old.state.sessions.items self.old.texts) (texts_of self.new.state.sessions.items self.new.texts))
             (texts_of self.new.state.sessions.items self.new.texts ≡ texts_of self.old.state.sessions.items self.old.texts)
             (texts_of self.new.state.sessions.items self.new.texts ≡ texts_of self.old.state.sessions.items self.old.texts) }
@@ -183,31 +183,31 @@ impl Watch {
     /// Whole steps, up to the limit.
     pub(crate) fn advance<C: Cores>(&mut self, cores: &mut C, limit: u64) -> Result<(), RunFault>
         requires works { C.Works cores.old }
-        requires held { IsHeld (seen (C.memory cores.old).places self.old.state) (C.memory cores.old) }
+        requires held { IsHeld (seen (C.state cores.old).memory.places self.old.state) (C.state cores.old).memory }
         requires told { IsTold self.old.state.consoles.items self.old.state.sessions.items self.old.texts }
         requires limit { limit ≤ 100000000 }
-        ensures ended { Ends result (HasRun limit (seen (C.memory cores.old).places self.old.state)
-            (seen (C.memory cores.new).places self.new.state) (C.memory cores.old) (C.memory cores.new))
-            (HasRunPart limit (seen (C.memory cores.old).places self.old.state)
-            (seen (C.memory cores.new).places self.new.state) (C.memory cores.old) (C.memory cores.new))
-            (HasRunToLoad limit (seen (C.memory cores.old).places self.old.state) (seen no_places self.new.state) (C.memory cores.old)
-            (C.calls cores.old) (C.calls cores.new) × Rose (C.faults cores.old) (C.faults cores.new)) }
-        ensures texts { Ends result (HasTexts limit (seen (C.memory cores.old).places self.old.state) (C.memory cores.old)
+        ensures ended { Ends result (HasRun limit (seen (C.state cores.old).memory.places self.old.state)
+            (seen (C.state cores.new).memory.places self.new.state) (C.state cores.old).memory (C.state cores.new).memory)
+            (HasRunPart limit (seen (C.state cores.old).memory.places self.old.state)
+            (seen (C.state cores.new).memory.places self.new.state) (C.state cores.old).memory (C.state cores.new).memory)
+            (HasRunToLoad limit (seen (C.state cores.old).memory.places self.old.state) (seen no_places self.new.state) (C.state cores.old).memory
+            (C.state cores.old).calls (C.state cores.new).calls × Rose (C.state cores.old).faults (C.state cores.new).faults) }
+        ensures texts { Ends result (HasTexts limit (seen (C.state cores.old).memory.places self.old.state) (C.state cores.old).memory
             (texts_of self.old.state.sessions.items self.old.texts) (texts_of self.new.state.sessions.items self.new.texts))
-            (HasTextsPart limit (seen (C.memory cores.old).places self.old.state)
-            (seen (C.memory cores.new).places self.new.state) (C.memory cores.old) (C.memory cores.new)
+            (HasTextsPart limit (seen (C.state cores.old).memory.places self.old.state)
+            (seen (C.state cores.new).memory.places self.new.state) (C.state cores.old).memory (C.state cores.new).memory
             (texts_of self.old.state.sessions.items self.old.texts) (texts_of self.new.state.sessions.items self.new.texts))
-            (HasTextsToLoad limit (seen (C.memory cores.old).places self.old.state) (seen no_places self.new.state) (C.memory cores.old)
+            (HasTextsToLoad limit (seen (C.state cores.old).memory.places self.old.state) (seen no_places self.new.state) (C.state cores.old).memory
             (texts_of self.old.state.sessions.items self.old.texts) (texts_of self.new.state.sessions.items self.new.texts)) }
-        ensures counted { Ends result (IsCounted self.old.state.entries.items self.new.state.entries.items (C.calls cores.old) (C.calls cores.new))
-            (IsCounted self.old.state.entries.items self.new.state.entries.items (C.calls cores.old) (C.calls cores.new)) ⊤ }
-        ensures tells { Lasts result ((C.memory cores.new).tells ≡ (C.memory cores.old).tells) }
-        ensures held { Lasts result (IsHeld (seen (C.memory cores.new).places self.new.state) (C.memory cores.new)) }
+        ensures counted { Ends result (IsCounted self.old.state.entries.items self.new.state.entries.items (C.state cores.old).calls (C.state cores.new).calls)
+            (IsCounted self.old.state.entries.items self.new.state.entries.items (C.state cores.old).calls (C.state cores.new).calls) ⊤ }
+        ensures tells { Lasts result ((C.state cores.new).memory.tells ≡ (C.state cores.old).memory.tells) }
+        ensures held { Lasts result (IsHeld (seen (C.state cores.new).memory.places self.new.state) (C.state cores.new).memory) }
         ensures works { Lasts result (C.Works cores.new) }
         ensures sound { Sound (seen no_places self.new.state) }
         ensures told { IsTold self.new.state.consoles.items self.new.state.sessions.items self.new.texts }
         ensures keeps { C.Keeps cores.old cores.new }
-        ensures kept { C.faults cores.old ≤ C.faults cores.new }
+        ensures kept { (C.state cores.old).faults ≤ (C.state cores.new).faults }
     {
         'steps: while self.state.clock < limit {
             match self.step(cores, limit) {

@@ -25,12 +25,12 @@ use user_session::Turn;
 /// A user whose session is over gives up its core.
 fn give_up<C: Cores>(cores: &mut C, cut: Option<UserNo>)
     requires works { C.Works cores.old }
-    requires user { number_of cut < length (C.memory cores.old).sizes }
-    ensures left { IsLeft cut (C.memory cores.old) (C.memory cores.new) }
-    ensures calls { C.calls cores.new ≡ C.calls cores.old }
+    requires user { number_of cut < length (C.state cores.old).memory.sizes }
+    ensures left { IsLeft cut (C.state cores.old).memory (C.state cores.new).memory }
+    ensures calls { (C.state cores.new).calls ≡ (C.state cores.old).calls }
     ensures works { C.Works cores.new }
     ensures keeps { C.Keeps cores.old cores.new }
-    ensures faults { C.faults cores.new ≡ C.faults cores.old }
+    ensures faults { (C.state cores.new).faults ≡ (C.state cores.old).faults }
 {
     if let Some(user) = cut {
         cores.resize(user, 0);
@@ -40,14 +40,14 @@ fn give_up<C: Cores>(cores: &mut C, cut: Option<UserNo>)
 /// A user's core becomes as large as its step left it.
 fn settle<C: Cores>(cores: &mut C, user: UserNo, ending: Ending, blocks: u8)
     requires works { C.Works cores.old }
-    requires user { user < length (C.memory cores.old).sizes }
-    requires quota { blocks ≤ quota_of (C.memory cores.old).quotas user }
-    requires same { ending ≡ Went → size_of (C.memory cores.old).sizes user ≡ blocks }
-    ensures settled { IsSettled ending user blocks (C.memory cores.old) (C.memory cores.new) }
-    ensures calls { C.calls cores.new ≡ C.calls cores.old }
+    requires user { user < length (C.state cores.old).memory.sizes }
+    requires quota { blocks ≤ quota_of (C.state cores.old).memory.quotas user }
+    requires same { ending ≡ Went → size_of (C.state cores.old).memory.sizes user ≡ blocks }
+    ensures settled { IsSettled ending user blocks (C.state cores.old).memory (C.state cores.new).memory }
+    ensures calls { (C.state cores.new).calls ≡ (C.state cores.old).calls }
     ensures works { C.Works cores.new }
     ensures keeps { C.Keeps cores.old cores.new }
-    ensures faults { C.faults cores.new ≡ C.faults cores.old }
+    ensures faults { (C.state cores.new).faults ≡ (C.state cores.old).faults }
 {
     match ending {
         Ending::Went => {}
@@ -60,17 +60,17 @@ impl State {
     /// The event that is due.
     fn hear<C: Cores>(&mut self, cores: &mut C, e: Timed) -> Result<(), NoMemory>
         requires works { C.Works cores.old }
-        requires held { IsHeld (seen (C.memory cores.old).places self.old) (C.memory cores.old) }
-        requires seat { HasSeat e (seen (C.memory cores.old).places self.old) }
-        ensures ok { OnOk result (Does (taken e) (seen (C.memory cores.old).places self.old)
-            (seen (C.memory cores.new).places self.new) (C.memory cores.old) (C.memory cores.new)) }
-        ensures err { OnErr result (Stays (seen (C.memory cores.old).places self.old)
-            (seen (C.memory cores.new).places self.new) (C.memory cores.old) (C.memory cores.new)) }
-        ensures counted { IsCounted self.old.entries.items self.new.entries.items (C.calls cores.old) (C.calls cores.new) }
-        ensures tied { IsTied self.new.sessions.items (C.memory cores.new) }
+        requires held { IsHeld (seen (C.state cores.old).memory.places self.old) (C.state cores.old).memory }
+        requires seat { HasSeat e (seen (C.state cores.old).memory.places self.old) }
+        ensures ok { OnOk result (Does (taken e) (seen (C.state cores.old).memory.places self.old)
+            (seen (C.state cores.new).memory.places self.new) (C.state cores.old).memory (C.state cores.new).memory) }
+        ensures err { OnErr result (Stays (seen (C.state cores.old).memory.places self.old)
+            (seen (C.state cores.new).memory.places self.new) (C.state cores.old).memory (C.state cores.new).memory) }
+        ensures counted { IsCounted self.old.entries.items self.new.entries.items (C.state cores.old).calls (C.state cores.new).calls }
+        ensures tied { IsTied self.new.sessions.items (C.state cores.new).memory }
         ensures works { C.Works cores.new }
         ensures keeps { C.Keeps cores.old cores.new }
-        ensures faults { C.faults cores.new ≡ C.faults cores.old }
+        ensures faults { (C.state cores.new).faults ≡ (C.state cores.old).faults }
     {
         let cut = self.take_event(e)?;
         give_up(cores, cut);
@@ -80,22 +80,22 @@ impl State {
     /// The blocks of the user that is served are brought into core.
     fn fetch<C: Cores>(&mut self, cores: &mut C, v: Service) -> Result<(), RunFault>
         requires works { C.Works cores.old }
-        requires held { IsHeld (seen (C.memory cores.old).places self.old) (C.memory cores.old) }
-        requires user { IsUser v.user (seen (C.memory cores.old).places self.old) }
-        requires absent { is_loaded (C.memory cores.old).places v.user (size_of (C.memory cores.old).sizes v.user) ≡ false }
+        requires held { IsHeld (seen (C.state cores.old).memory.places self.old) (C.state cores.old).memory }
+        requires user { IsUser v.user (seen (C.state cores.old).memory.places self.old) }
+        requires absent { is_loaded (C.state cores.old).memory.places v.user (size_of (C.state cores.old).memory.sizes v.user) ≡ false }
         requires before { self.old.clock ≤ 100000000 }
-        ensures ended { Ends result (Does (attended v) (seen (C.memory cores.old).places self.old)
-            (seen (C.memory cores.new).places self.new) (C.memory cores.old) (C.memory cores.new))
-            (Stays (seen (C.memory cores.old).places self.old)
-            (seen (C.memory cores.new).places self.new) (C.memory cores.old) (C.memory cores.new))
-            ((seen no_places self.new ≡ seen no_places self.old) × Rose (C.faults cores.old) (C.faults cores.new)
-            × IsCutOff (C.calls cores.old) (C.calls cores.new) (calls_to_load v.user (seen (C.memory cores.old).places self.old))) }
-        ensures counted { Ends result (IsCounted self.old.entries.items self.new.entries.items (C.calls cores.old) (C.calls cores.new))
-            (IsCounted self.old.entries.items self.new.entries.items (C.calls cores.old) (C.calls cores.new)) ⊤ }
-        ensures tied { Lasts result (IsTied self.new.sessions.items (C.memory cores.new)) }
+        ensures ended { Ends result (Does (attended v) (seen (C.state cores.old).memory.places self.old)
+            (seen (C.state cores.new).memory.places self.new) (C.state cores.old).memory (C.state cores.new).memory)
+            (Stays (seen (C.state cores.old).memory.places self.old)
+            (seen (C.state cores.new).memory.places self.new) (C.state cores.old).memory (C.state cores.new).memory)
+            ((seen no_places self.new ≡ seen no_places self.old) × Rose (C.state cores.old).faults (C.state cores.new).faults
+            × IsCutOff (C.state cores.old).calls (C.state cores.new).calls (calls_to_load v.user (seen (C.state cores.old).memory.places self.old))) }
+        ensures counted { Ends result (IsCounted self.old.entries.items self.new.entries.items (C.state cores.old).calls (C.state cores.new).calls)
+            (IsCounted self.old.entries.items self.new.entries.items (C.state cores.old).calls (C.state cores.new).calls) ⊤ }
+        ensures tied { Lasts result (IsTied self.new.sessions.items (C.state cores.new).memory) }
         ensures works { Lasts result (C.Works cores.new) }
         ensures keeps { C.Keeps cores.old cores.new }
-        ensures kept { C.faults cores.old ≤ C.faults cores.new }
+        ensures kept { (C.state cores.old).faults ≤ (C.state cores.new).faults }
     {
         if self.entries.reserve(1).is_err() {
             return Err(RunFault::NoMemory);
@@ -113,20 +113,20 @@ impl State {
     /// A step of the user that is served, whose blocks are in core; where it can't step, it waits.
     fn serve<C: Cores>(&mut self, cores: &mut C, v: Service) -> Result<(), NoMemory>
         requires works { C.Works cores.old }
-        requires held { IsHeld (seen (C.memory cores.old).places self.old) (C.memory cores.old) }
-        requires user { IsUser v.user (seen (C.memory cores.old).places self.old) }
-        requires loaded { is_loaded (C.memory cores.old).places v.user (size_of (C.memory cores.old).sizes v.user) ≡ true }
+        requires held { IsHeld (seen (C.state cores.old).memory.places self.old) (C.state cores.old).memory }
+        requires user { IsUser v.user (seen (C.state cores.old).memory.places self.old) }
+        requires loaded { is_loaded (C.state cores.old).memory.places v.user (size_of (C.state cores.old).memory.sizes v.user) ≡ true }
         requires ran { v.ran ≤ self.old.clock }
         requires before { self.old.clock ≤ 100000000 }
-        ensures ok { OnOk result (Does (attended v) (seen (C.memory cores.old).places self.old)
-            (seen (C.memory cores.new).places self.new) (C.memory cores.old) (C.memory cores.new)) }
-        ensures err { OnErr result (Stays (seen (C.memory cores.old).places self.old)
-            (seen (C.memory cores.new).places self.new) (C.memory cores.old) (C.memory cores.new)) }
-        ensures counted { IsCounted self.old.entries.items self.new.entries.items (C.calls cores.old) (C.calls cores.new) }
-        ensures tied { IsTied self.new.sessions.items (C.memory cores.new) }
+        ensures ok { OnOk result (Does (attended v) (seen (C.state cores.old).memory.places self.old)
+            (seen (C.state cores.new).memory.places self.new) (C.state cores.old).memory (C.state cores.new).memory) }
+        ensures err { OnErr result (Stays (seen (C.state cores.old).memory.places self.old)
+            (seen (C.state cores.new).memory.places self.new) (C.state cores.old).memory (C.state cores.new).memory) }
+        ensures counted { IsCounted self.old.entries.items self.new.entries.items (C.state cores.old).calls (C.state cores.new).calls }
+        ensures tied { IsTied self.new.sessions.items (C.state cores.new).memory }
         ensures works { C.Works cores.new }
         ensures keeps { C.Keeps cores.old cores.new }
-        ensures faults { C.faults cores.new ≡ C.faults cores.old }
+        ensures faults { (C.state cores.new).faults ≡ (C.state cores.old).faults }
     {
         self.entries.reserve(2)?;
         let user = UserNo::of(v.user);
@@ -145,23 +145,23 @@ impl State {
     /// The user that is served: its blocks are brought in, or it steps.
     fn attend<C: Cores>(&mut self, cores: &mut C, v: Service) -> Result<(), RunFault>
         requires works { C.Works cores.old }
-        requires held { IsHeld (seen (C.memory cores.old).places self.old) (C.memory cores.old) }
-        requires user { IsUser v.user (seen (C.memory cores.old).places self.old) }
+        requires held { IsHeld (seen (C.state cores.old).memory.places self.old) (C.state cores.old).memory }
+        requires user { IsUser v.user (seen (C.state cores.old).memory.places self.old) }
         requires ran { v.ran ≤ self.old.clock }
         requires before { self.old.clock ≤ 100000000 }
-        ensures ended { Ends result (Does (attended v) (seen (C.memory cores.old).places self.old)
-            (seen (C.memory cores.new).places self.new) (C.memory cores.old) (C.memory cores.new))
-            (Stays (seen (C.memory cores.old).places self.old)
-            (seen (C.memory cores.new).places self.new) (C.memory cores.old) (C.memory cores.new))
-            ((seen no_places self.new ≡ seen no_places self.old) × Rose (C.faults cores.old) (C.faults cores.new)
-            × (is_loaded (C.memory cores.old).places v.user (size_of (C.memory cores.old).sizes v.user) ≡ false)
-            × IsCutOff (C.calls cores.old) (C.calls cores.new) (calls_to_load v.user (seen (C.memory cores.old).places self.old))) }
-        ensures counted { Ends result (IsCounted self.old.entries.items self.new.entries.items (C.calls cores.old) (C.calls cores.new))
-            (IsCounted self.old.entries.items self.new.entries.items (C.calls cores.old) (C.calls cores.new)) ⊤ }
-        ensures tied { Lasts result (IsTied self.new.sessions.items (C.memory cores.new)) }
+        ensures ended { Ends result (Does (attended v) (seen (C.state cores.old).memory.places self.old)
+            (seen (C.state cores.new).memory.places self.new) (C.state cores.old).memory (C.state cores.new).memory)
+            (Stays (seen (C.state cores.old).memory.places self.old)
+            (seen (C.state cores.new).memory.places self.new) (C.state cores.old).memory (C.state cores.new).memory)
+            ((seen no_places self.new ≡ seen no_places self.old) × Rose (C.state cores.old).faults (C.state cores.new).faults
+            × (is_loaded (C.state cores.old).memory.places v.user (size_of (C.state cores.old).memory.sizes v.user) ≡ false)
+            × IsCutOff (C.state cores.old).calls (C.state cores.new).calls (calls_to_load v.user (seen (C.state cores.old).memory.places self.old))) }
+        ensures counted { Ends result (IsCounted self.old.entries.items self.new.entries.items (C.state cores.old).calls (C.state cores.new).calls)
+            (IsCounted self.old.entries.items self.new.entries.items (C.state cores.old).calls (C.state cores.new).calls) ⊤ }
+        ensures tied { Lasts result (IsTied self.new.sessions.items (C.state cores.new).memory) }
         ensures works { Lasts result (C.Works cores.new) }
         ensures keeps { C.Keeps cores.old cores.new }
-        ensures kept { C.faults cores.old ≤ C.faults cores.new }
+        ensures kept { (C.state cores.old).faults ≤ (C.state cores.new).faults }
     {
         if !cores.is_loaded(UserNo::of(v.user)) {
             return self.fetch(cores, v);
@@ -175,16 +175,16 @@ impl State {
     /// A service ends, since its user isn't the head of the lowest level.
     fn preempt<C: Cores>(&mut self, cores: &mut C, v: Service) -> Result<(), NoMemory>
         requires works { C.Works cores.old }
-        requires held { IsHeld (seen (C.memory cores.old).places self.old) (C.memory cores.old) }
-        ensures ok { OnOk result (Does (served Preempt v) (seen (C.memory cores.old).places self.old)
-            (seen (C.memory cores.new).places self.new) (C.memory cores.old) (C.memory cores.new)) }
-        ensures err { OnErr result (Stays (seen (C.memory cores.old).places self.old)
-            (seen (C.memory cores.new).places self.new) (C.memory cores.old) (C.memory cores.new)) }
-        ensures counted { IsCounted self.old.entries.items self.new.entries.items (C.calls cores.old) (C.calls cores.new) }
-        ensures tied { IsTied self.new.sessions.items (C.memory cores.new) }
+        requires held { IsHeld (seen (C.state cores.old).memory.places self.old) (C.state cores.old).memory }
+        ensures ok { OnOk result (Does (served Preempt v) (seen (C.state cores.old).memory.places self.old)
+            (seen (C.state cores.new).memory.places self.new) (C.state cores.old).memory (C.state cores.new).memory) }
+        ensures err { OnErr result (Stays (seen (C.state cores.old).memory.places self.old)
+            (seen (C.state cores.new).memory.places self.new) (C.state cores.old).memory (C.state cores.new).memory) }
+        ensures counted { IsCounted self.old.entries.items self.new.entries.items (C.state cores.old).calls (C.state cores.new).calls }
+        ensures tied { IsTied self.new.sessions.items (C.state cores.new).memory }
         ensures works { C.Works cores.new }
         ensures keeps { C.Keeps cores.old cores.new }
-        ensures faults { C.faults cores.new ≡ C.faults cores.old }
+        ensures faults { (C.state cores.new).faults ≡ (C.state cores.old).faults }
     {
         self.end_service(Cause::Preempt, v)?;
         Ok(())
@@ -193,14 +193,14 @@ impl State {
     /// Nobody waits: the clock goes on.
     fn rest<C: Cores>(&mut self, cores: &mut C, limit: u64)
         requires works { C.Works cores.old }
-        requires held { IsHeld (seen (C.memory cores.old).places self.old) (C.memory cores.old) }
-        ensures does { Does (idled limit) (seen (C.memory cores.old).places self.old)
-            (seen (C.memory cores.new).places self.new) (C.memory cores.old) (C.memory cores.new) }
-        ensures counted { IsCounted self.old.entries.items self.new.entries.items (C.calls cores.old) (C.calls cores.new) }
-        ensures tied { IsTied self.new.sessions.items (C.memory cores.new) }
+        requires held { IsHeld (seen (C.state cores.old).memory.places self.old) (C.state cores.old).memory }
+        ensures does { Does (idled limit) (seen (C.state cores.old).memory.places self.old)
+            (seen (C.state cores.new).memory.places self.new) (C.state cores.old).memory (C.state cores.new).memory }
+        ensures counted { IsCounted self.old.entries.items self.new.entries.items (C.state cores.old).calls (C.state cores.new).calls }
+        ensures tied { IsTied self.new.sessions.items (C.state cores.new).memory }
         ensures works { C.Works cores.new }
         ensures keeps { C.Keeps cores.old cores.new }
-        ensures faults { C.faults cores.new ≡ C.faults cores.old }
+        ensures faults { (C.state cores.new).faults ≡ (C.state cores.old).faults }
     {
         self.idle(limit);
     }
@@ -209,22 +209,22 @@ impl State {
     #[tactic(auto, using(crate::proofs::Doing::go_idle, crate::proofs::Doing::go_end_none, crate::proofs::Doing::go_end))]
     fn go_on<C: Cores>(&mut self, cores: &mut C, limit: u64) -> Result<(), RunFault>
         requires works { C.Works cores.old }
-        requires held { IsHeld (seen (C.memory cores.old).places self.old) (C.memory cores.old) }
+        requires held { IsHeld (seen (C.state cores.old).memory.places self.old) (C.state cores.old).memory }
         requires before { self.old.clock < limit }
         requires limit { limit ≤ 100000000 }
         ensures ended { Ends result (Does (otherwise limit (user_of (chosen self.old.queues)) self.old.service)
-            (seen (C.memory cores.old).places self.old)
-            (seen (C.memory cores.new).places self.new) (C.memory cores.old) (C.memory cores.new))
-            (Stays (seen (C.memory cores.old).places self.old)
-            (seen (C.memory cores.new).places self.new) (C.memory cores.old) (C.memory cores.new))
-            ((seen no_places self.new ≡ seen no_places self.old) × Rose (C.faults cores.old) (C.faults cores.new)
-            × LoadFails (seen (C.memory cores.old).places self.old) (C.calls cores.old) (C.calls cores.new)) }
-        ensures counted { Ends result (IsCounted self.old.entries.items self.new.entries.items (C.calls cores.old) (C.calls cores.new))
-            (IsCounted self.old.entries.items self.new.entries.items (C.calls cores.old) (C.calls cores.new)) ⊤ }
-        ensures tied { Lasts result (IsTied self.new.sessions.items (C.memory cores.new)) }
+            (seen (C.state cores.old).memory.places self.old)
+            (seen (C.state cores.new).memory.places self.new) (C.state cores.old).memory (C.state cores.new).memory)
+            (Stays (seen (C.state cores.old).memory.places self.old)
+            (seen (C.state cores.new).memory.places self.new) (C.state cores.old).memory (C.state cores.new).memory)
+            ((seen no_places self.new ≡ seen no_places self.old) × Rose (C.state cores.old).faults (C.state cores.new).faults
+            × LoadFails (seen (C.state cores.old).memory.places self.old) (C.state cores.old).calls (C.state cores.new).calls) }
+        ensures counted { Ends result (IsCounted self.old.entries.items self.new.entries.items (C.state cores.old).calls (C.state cores.new).calls)
+            (IsCounted self.old.entries.items self.new.entries.items (C.state cores.old).calls (C.state cores.new).calls) ⊤ }
+        ensures tied { Lasts result (IsTied self.new.sessions.items (C.state cores.new).memory) }
         ensures works { Lasts result (C.Works cores.new) }
         ensures keeps { C.Keeps cores.old cores.new }
-        ensures kept { C.faults cores.old ≤ C.faults cores.new }
+        ensures kept { (C.state cores.old).faults ≤ (C.state cores.new).faults }
     {
         match (self.queues.choose(), self.service) {
             (None, None) => {
@@ -261,21 +261,21 @@ impl State {
     /// One step.
     pub(crate) fn step<C: Cores>(&mut self, cores: &mut C, limit: u64) -> Result<(), RunFault>
         requires works { C.Works cores.old }
-        requires held { IsHeld (seen (C.memory cores.old).places self.old) (C.memory cores.old) }
+        requires held { IsHeld (seen (C.state cores.old).memory.places self.old) (C.state cores.old).memory }
         requires before { self.old.clock < limit }
         requires limit { limit ≤ 100000000 }
-        ensures ended { Ends result (Does (next limit) (seen (C.memory cores.old).places self.old)
-            (seen (C.memory cores.new).places self.new) (C.memory cores.old) (C.memory cores.new))
-            (Stays (seen (C.memory cores.old).places self.old)
-            (seen (C.memory cores.new).places self.new) (C.memory cores.old) (C.memory cores.new))
-            ((seen no_places self.new ≡ seen no_places self.old) × Rose (C.faults cores.old) (C.faults cores.new)
-            × NextLoadFails (seen (C.memory cores.old).places self.old) (C.calls cores.old) (C.calls cores.new)) }
-        ensures counted { Ends result (IsCounted self.old.entries.items self.new.entries.items (C.calls cores.old) (C.calls cores.new))
-            (IsCounted self.old.entries.items self.new.entries.items (C.calls cores.old) (C.calls cores.new)) ⊤ }
-        ensures tied { Lasts result (IsTied self.new.sessions.items (C.memory cores.new)) }
+        ensures ended { Ends result (Does (next limit) (seen (C.state cores.old).memory.places self.old)
+            (seen (C.state cores.new).memory.places self.new) (C.state cores.old).memory (C.state cores.new).memory)
+            (Stays (seen (C.state cores.old).memory.places self.old)
+            (seen (C.state cores.new).memory.places self.new) (C.state cores.old).memory (C.state cores.new).memory)
+            ((seen no_places self.new ≡ seen no_places self.old) × Rose (C.state cores.old).faults (C.state cores.new).faults
+            × NextLoadFails (seen (C.state cores.old).memory.places self.old) (C.state cores.old).calls (C.state cores.new).calls) }
+        ensures counted { Ends result (IsCounted self.old.entries.items self.new.entries.items (C.state cores.old).calls (C.state cores.new).calls)
+            (IsCounted self.old.entries.items self.new.entries.items (C.state cores.old).calls (C.state cores.new).calls) ⊤ }
+        ensures tied { Lasts result (IsTied self.new.sessions.items (C.state cores.new).memory) }
         ensures works { Lasts result (C.Works cores.new) }
         ensures keeps { C.Keeps cores.old cores.new }
-        ensures kept { C.faults cores.old ≤ C.faults cores.new }
+        ensures kept { (C.state cores.old).faults ≤ (C.state cores.new).faults }
     {
         match self.due() {
             Some(e) => match self.hear(cores, e) {
@@ -303,9 +303,9 @@ impl State {
     /// Instructions of the user of the service, one after another: as many as go on, at most so many.
     fn work<C: Cores>(&mut self, cores: &mut C, v: Service, next: Chosen, most: u64, limit: u64)
         requires works { C.Works cores.old }
-        requires held { IsHeld (seen (C.memory cores.old).places self.old) (C.memory cores.old) }
-        requires user { IsUser v.user (seen (C.memory cores.old).places self.old) }
-        requires loaded { is_loaded (C.memory cores.old).places v.user (size_of (C.memory cores.old).sizes v.user) ≡ true }
+        requires held { IsHeld (seen (C.state cores.old).memory.places self.old) (C.state cores.old).memory }
+        requires user { IsUser v.user (seen (C.state cores.old).memory.places self.old) }
+        requires loaded { is_loaded (C.state cores.old).memory.places v.user (size_of (C.state cores.old).memory.sizes v.user) ≡ true }
         requires serves { self.old.service ≡ Some v }
         requires first { chosen self.old.queues ≡ Some (next.level, record { user = next.user; left = next.left }) }
         requires mine { next.user ≡ v.user }
@@ -313,14 +313,14 @@ impl State {
         requires up { self.old.clock + most ≤ limit }
         requires quiet { self.old.clock + most ≤ next_tick limit self.old.events.items }
         requires limit { limit ≤ 100000000 }
-        ensures many { DoesMany limit (seen (C.memory cores.old).places self.old)
-            (seen (C.memory cores.new).places self.new) (C.memory cores.old) (C.memory cores.new) }
+        ensures many { DoesMany limit (seen (C.state cores.old).memory.places self.old)
+            (seen (C.state cores.new).memory.places self.new) (C.state cores.old).memory (C.state cores.new).memory }
         ensures entries { self.new.entries.items ≡ self.old.entries.items }
-        ensures tied { IsTied self.new.sessions.items (C.memory cores.new) }
+        ensures tied { IsTied self.new.sessions.items (C.state cores.new).memory }
         ensures works { C.Works cores.new }
         ensures keeps { C.Keeps cores.old cores.new }
-        ensures calls { C.calls cores.new ≡ C.calls cores.old }
-        ensures faults { C.faults cores.new ≡ C.faults cores.old }
+        ensures calls { (C.state cores.new).calls ≡ (C.state cores.old).calls }
+        ensures faults { (C.state cores.new).faults ≡ (C.state cores.old).faults }
     {
         let user = UserNo::of(v.user);
         let session = &mut self.sessions[v.user as usize - 1];
@@ -333,20 +333,20 @@ impl State {
     #[tactic(auto, using(crate::proofs::Passing::stands_still))]
     fn work_on<C: Cores>(&mut self, cores: &mut C, v: Service, next: Chosen, limit: u64)
         requires works { C.Works cores.old }
-        requires held { IsHeld (seen (C.memory cores.old).places self.old) (C.memory cores.old) }
-        requires user { IsUser v.user (seen (C.memory cores.old).places self.old) }
+        requires held { IsHeld (seen (C.state cores.old).memory.places self.old) (C.state cores.old).memory }
+        requires user { IsUser v.user (seen (C.state cores.old).memory.places self.old) }
         requires serves { self.old.service ≡ Some v }
         requires first { chosen self.old.queues ≡ Some (next.level, record { user = next.user; left = next.left }) }
         requires mine { next.user ≡ v.user }
         requires limit { limit ≤ 100000000 }
-        ensures many { DoesMany limit (seen (C.memory cores.old).places self.old)
-            (seen (C.memory cores.new).places self.new) (C.memory cores.old) (C.memory cores.new) }
+        ensures many { DoesMany limit (seen (C.state cores.old).memory.places self.old)
+            (seen (C.state cores.new).memory.places self.new) (C.state cores.old).memory (C.state cores.new).memory }
         ensures entries { self.new.entries.items ≡ self.old.entries.items }
-        ensures tied { IsTied self.new.sessions.items (C.memory cores.new) }
+        ensures tied { IsTied self.new.sessions.items (C.state cores.new).memory }
         ensures works { C.Works cores.new }
         ensures keeps { C.Keeps cores.old cores.new }
-        ensures calls { C.calls cores.new ≡ C.calls cores.old }
-        ensures faults { C.faults cores.new ≡ C.faults cores.old }
+        ensures calls { (C.state cores.new).calls ≡ (C.state cores.old).calls }
+        ensures faults { (C.state cores.new).faults ≡ (C.state cores.old).faults }
     {
         if !cores.is_loaded(UserNo::of(v.user)) {
             return;
@@ -363,16 +363,16 @@ impl State {
     #[tactic(auto, using(crate::proofs::Passing::stands_still))]
     pub(crate) fn run<C: Cores>(&mut self, cores: &mut C, limit: u64)
         requires works { C.Works cores.old }
-        requires held { IsHeld (seen (C.memory cores.old).places self.old) (C.memory cores.old) }
+        requires held { IsHeld (seen (C.state cores.old).memory.places self.old) (C.state cores.old).memory }
         requires limit { limit ≤ 100000000 }
-        ensures many { DoesMany limit (seen (C.memory cores.old).places self.old)
-            (seen (C.memory cores.new).places self.new) (C.memory cores.old) (C.memory cores.new) }
+        ensures many { DoesMany limit (seen (C.state cores.old).memory.places self.old)
+            (seen (C.state cores.new).memory.places self.new) (C.state cores.old).memory (C.state cores.new).memory }
         ensures entries { self.new.entries.items ≡ self.old.entries.items }
-        ensures tied { IsTied self.new.sessions.items (C.memory cores.new) }
+        ensures tied { IsTied self.new.sessions.items (C.state cores.new).memory }
         ensures works { C.Works cores.new }
         ensures keeps { C.Keeps cores.old cores.new }
-        ensures calls { C.calls cores.new ≡ C.calls cores.old }
-        ensures faults { C.faults cores.new ≡ C.faults cores.old }
+        ensures calls { (C.state cores.new).calls ≡ (C.state cores.old).calls }
+        ensures faults { (C.state cores.new).faults ≡ (C.state cores.old).faults }
     {
         match (self.queues.choose(), self.service) {
             (Some(next), Some(v)) => {

@@ -1,38 +1,61 @@
 -- The calls of the drum that a load makes.
-use Rattle.std.proofs.Common.{◌≡◌, ℕ, ◌+◌, List, [], ◌∷◌, length, refl, ◌∙◌, arith}
-use Rattle.std.specs.Prelude.{Option, Result, Ok, Err, OnErr}
+use Rattle.std.proofs.Common.{◌≡◌, ℕ, ◌+◌, ◌≤◌, List, [], ◌∷◌, length, refl, sym, ap, ◌∙◌, arith}
+use Rattle.std.specs.Prelude.{Result, Ok, Err, Option, None, Some}
+use Rattle.std.specs.Option.{is_some}
 use Rattle.std.proofs.lemmas.Grind.{common_steps}
-use Rattle.medium.specs.Medium.{Call, CallList}
+use Rattle.medium.specs.Medium.{Call}
+use Rattle.onion_swap.specs.declared.Plan.{Plan}
 use Rattle.drum_slots.specs.declared.slots.Slots.{Slots}
-use Rattle.plan_model.specs.Loads.{count_below, is_dumped, is_read}
-use Rattle.image_map.specs.Images.{size_of, IsImage}
-use Rattle.image_map.specs.Loads.{held_of, calls_to, count_writes, count_reads, FailedIn}
-use Rattle.image_map.specs.Places.{places_of}
-use Rattle.image_map.proofs.Counted.{load_counts}
-use Rattle.user_cores.specs.Swaps.{IsCutOff}
+use Rattle.image_map.specs.Images.{image_in}
+use Rattle.image_map.specs.Loads.{count_writes, count_reads}
+use Rattle.image_map.specs.State as images
+use Rattle.image_map.specs.State.{ImageState, calls_of}
+use Rattle.user_cores.specs.Cores.{Loads}
+use Rattle.user_cores.specs.Memory.{words_of}
+use Rattle.user_cores.specs.Works.{cores_in}
 
 -- each call is a write or a read
 length-calls : (cs : List Call) → length cs ≡ count_writes cs + count_reads cs
 length-calls [] = refl
 length-calls (c ∷ cs) = grind (arith, common_steps, length-calls cs)
 
--- a load that fails makes some of its calls
-cut_off : (was now : Option CallList) (owners : List ℕ) (s : Slots) (sizes : List ℕ) (u : ℕ) (words : ℕ → List ℕ) → IsImage owners s.slots.items s.quotas.items sizes
-    → FailedIn was now (calls_to s.quotas.items (held_of owners s) u (size_of sizes u) words)
-    → IsCutOff was now (count_below (size_of sizes u) (is_dumped (places_of owners s) u) + count_below (size_of sizes u) (is_read (places_of owners s) u))
-cut_off was now owners s sizes u words sound failed =
-    let all = calls_to s.quotas.items (held_of owners s) u (size_of sizes u) words in
-    let counts = load_counts owners s sizes u (size_of sizes u) words sound (omega arith) in
-    record {
-      calls = all;
-      at = failed.0;
-      within = failed.1.0;
-      few = length-calls all ∙ (λ j. counts.0 j + counts.1 j);
-      made = failed.1.1;
-    }
+-- an image is told where the drum tells its records
+image_told : (bank : List ℕ) (rows : Option (List (List ℕ))) (owners : List ℕ) (slots : Slots) (sizes : List ℕ) (u : ℕ) → is_some (image_in bank rows owners slots sizes u) ≡ is_some rows
+image_told bank None owners slots sizes u = refl
+image_told bank (Some rows) owners slots sizes u = refl
 
-pub failed_load : {T E : Type 0} (result : Result T E) (was now : Option CallList) (owners : List ℕ) (s : Slots) (sizes : List ℕ) (u : ℕ) (words : ℕ → List ℕ) → IsImage owners s.slots.items s.quotas.items sizes
-    → OnErr result (FailedIn was now (calls_to s.quotas.items (held_of owners s) u (size_of sizes u) words))
-    → OnErr result (IsCutOff was now (count_below (size_of sizes u) (is_dumped (places_of owners s) u) + count_below (size_of sizes u) (is_read (places_of owners s) u)))
-failed_load (Ok t) was now owners s sizes u words sound failed = failed
-failed_load (Err e) was now owners s sizes u words sound failed = cut_off was now owners s sizes u words sound failed
+-- a load of a user, as cores show it
+pub loads_shown : {E : Type 0} (result : Result Plan E) (u : ℕ) (s s' : ImageState) → images.Loads u result s s' → Loads u result (cores_in s) (cores_in s')
+loads_shown (Ok plan) u s s' loads =
+    record {
+      sizes = loads.keeps.sizes;
+      quotas = (λ j. (loads.keeps.quotas j).items);
+      faults = loads.keeps.faults;
+      done = record {
+        words = λ v some. ap words_of (loads.done.images v some);
+        tells = sym (image_told s'.words s'.drum.rows s'.owners s'.slots s'.sizes 1) ∙ ap is_some (loads.done.images 1 (omega arith)) ∙ image_told s.words s.drum.rows s.owners s.slots s.sizes 1;
+        places = loads.done.places;
+        dumped = loads.done.dumped;
+        read = loads.done.read;
+        fresh = loads.done.fresh;
+        calls = record { calls = calls_of s s' u; made = loads.done.calls; writes_are = loads.keeps.writes ∙ sym loads.done.dumped; reads_are = loads.keeps.reads ∙ sym loads.done.read };
+      };
+      fails = loads.fails;
+    }
+loads_shown (Err e) u s s' loads =
+    record {
+      sizes = loads.keeps.sizes;
+      quotas = (λ j. (loads.keeps.quotas j).items);
+      faults = loads.keeps.faults;
+      done = tt;
+      fails = record {
+        calls = record {
+          calls = calls_of s s' u;
+          at = loads.fails.calls.0;
+          within = loads.fails.calls.1.0;
+          few = length-calls (calls_of s s' u) ∙ (λ j. loads.keeps.writes j + loads.keeps.reads j);
+          made = loads.fails.calls.1.1;
+        };
+        cause = loads.fails.cause;
+      };
+    }

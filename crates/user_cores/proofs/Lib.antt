@@ -2,3 +2,4 @@ pub mod Blocks
 pub mod Calls
 pub mod Images
 pub mod Beginnings
+pub mod Works

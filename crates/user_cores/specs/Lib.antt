@@ -1,3 +1,4 @@
+pub mod Cores
 pub mod Memory
 pub mod Swaps
 pub mod Works

@@ -6,6 +6,8 @@ ghost use Rattle.drum_slots.specs.Slots.{slot_of};
 ghost use Rattle.drum_slots.specs.Table.{slots_of, records_of, quota_in};
 ghost use Rattle.plan_model.specs.Loads.{no_places};
 
+ghost use Rattle.image_map.specs.Image.{state, seen};
+
 use crate::cores::Cores;
 use core_bank::Bank;
 use drum_slots::Slots;
@@ -26,14 +28,13 @@ pub fn first_cores<'a, D: Medium>(
     requires sizes { sizes.items ≡ replicate (length slots.quotas.items) 0 }
     requires words { AreWords bank }
     requires serves { Serves (D.rows drum.old) (D.record_count drum.old) (D.words_each drum.old) (records_of slots) }
-    ensures same { result.tables.kept.drum.ghost_name ≡ drum.entry.ghost_name }
-    ensures now { result.tables.kept.drum.now ≡ drum.old }
+    ensures drum { (state result).drum ≡ seen D.Medium drum.entry }
     ensures works { ⟦<Image<'a, D> as Cores>⟧.Works result }
-    ensures words { (u : ℕ) → 1 ≤ u → (⟦<Image<'a, D> as Cores>⟧.memory result).words u ≡ [] }
-    ensures places { (⟦<Image<'a, D> as Cores>⟧.memory result).places ≡ no_places }
-    ensures sizes { (⟦<Image<'a, D> as Cores>⟧.memory result).sizes ≡ replicate (length slots.quotas.items) 0 }
-    ensures quotas { (⟦<Image<'a, D> as Cores>⟧.memory result).quotas ≡ slots.quotas.items }
-    ensures tells { (⟦<Image<'a, D> as Cores>⟧.memory result).tells ≡ is_some (D.rows drum.old) }
+    ensures words { (u : ℕ) → 1 ≤ u → (⟦<Image<'a, D> as Cores>⟧.state result).memory.words u ≡ [] }
+    ensures places { (⟦<Image<'a, D> as Cores>⟧.state result).memory.places ≡ no_places }
+    ensures sizes { (⟦<Image<'a, D> as Cores>⟧.state result).memory.sizes ≡ replicate (length slots.quotas.items) 0 }
+    ensures quotas { (⟦<Image<'a, D> as Cores>⟧.state result).memory.quotas ≡ slots.quotas.items }
+    ensures tells { (⟦<Image<'a, D> as Cores>⟧.state result).memory.tells ≡ is_some (D.rows drum.old) }
 {
     Image::over(drum, slots, bank, sizes)
 }

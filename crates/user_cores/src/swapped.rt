@@ -7,25 +7,16 @@ use medium::Medium;
 use user_session::{Session, Turn};
 
 impl<D: Medium> Cores for Image<'_, D> {
-    ghost use Rattle.std.specs.Prelude.{◌≡◌, ◌*◌, take, false, refl};
+    ghost use Rattle.std.specs.Prelude.{◌≡◌, refl};
     ghost use Rattle.std.proofs.Common.{◌∙◌};
-    ghost use Rattle.image_map.specs.Images.{size_of};
-    ghost use Rattle.user_cores.specs.Works.{IsWorking, memory_in};
+    ghost use Rattle.image_map.specs.Image.{state as shown};
+    ghost use Rattle.user_cores.specs.Works.{IsWhole, cores_in};
 
-    ghost memory = { λ i. memory_in i.bank (D.rows i.tables.kept.drum.now) i.tables.owners i.tables.kept.slots i.tables.sizes.items };
+    ghost state = { λ i. cores_in (shown i) };
 
-    // The first blocks of core, as many as the user has.
-    ghost window = { λ i u. take (256 * size_of i.tables.sizes.items u) i.bank };
+    ghost Works = { λ i. IsWhole (shown i) };
 
-    ghost Works = { λ i. IsWorking i.failed i.bank (D.rows i.tables.kept.drum.now)
-        (D.record_count i.tables.kept.drum.now) (D.words_each i.tables.kept.drum.now)
-        i.tables.owners i.tables.kept.slots i.tables.sizes.items };
-
-    ghost Keeps = { λ a b. b.tables.kept.drum.ghost_name ≡ a.tables.kept.drum.ghost_name };
-
-    ghost calls = { λ i. D.calls i.tables.kept.drum.now };
-
-    ghost faults = { λ i. D.faults i.tables.kept.drum.now };
+    ghost Keeps = { λ a b. (shown b).drum.name ≡ (shown a).drum.name };
 
     ghost stays = { λ a. refl };
 
@@ -35,7 +26,6 @@ impl<D: Medium> Cores for Image<'_, D> {
         self.resident(user)
     }
 
-    #[tactic(auto, using(crate::proofs::Calls::failed_load))]
     fn load(&mut self, user: UserNo) -> Result<Plan, DrumFault> {
         self.load_user(user)
     }

@@ -1,4 +1,5 @@
 use Rattle.std.proofs.Common.{◌∙◌, ap, rules}
+use Rattle.image_map.specs.State.{DrumState}
 use Rattle.ctss_top.proofs.Playing.{tied_first, played, texts_played, counted_from, stops_from}
 use Rattle.ctss_top.proofs.record.run_to.Goals as goal
 
@@ -8,15 +9,15 @@ advance-ended-requires-clause-tied g c =
 
 pub returns-clause-ended : goal.returns-clause-ended
 returns-clause-ended g c = λ told.
-    stops_from c.advance-ended.result c.args.limit _ c.advance-ended.new.self (g.D.Medium.calls c.first_cores-cores.result.tables.kept.drum.now) (g.D.Medium.calls c.advance-ended.new.cores.tables.kept.drum.now) _ _
-    (ap g.D.Medium.calls c.first_cores-cores.ensures.now) (search rules)
+    stops_from c.advance-ended.result c.args.limit _ c.advance-ended.new.self _ _ _ _
+    (ap (λ (d : DrumState). d.calls) c.first_cores-cores.ensures.drum) (search rules)
     (played c.advance-ended.result c.args.limit c.args.supervisor.now c.advance-ended.new.self c.args.slots.quotas.items _ _ _ _ _ _ _ _ _ c.requires.cores
     c.first_cores-cores.ensures.words c.first_cores-cores.ensures.places (c.first_cores-cores.ensures.tells ∙ told) c.advance-ended.ensures.ended)
 
 pub returns-clause-counted : goal.returns-clause-counted
 returns-clause-counted g c =
-    counted_from c.advance-ended.result c.args.supervisor.now.entries c.advance-ended.new.self.entries (g.D.Medium.calls c.first_cores-cores.result.tables.kept.drum.now) (g.D.Medium.calls c.advance-ended.new.cores.tables.kept.drum.now) _ _ _
-    (ap g.D.Medium.calls c.first_cores-cores.ensures.now) (search rules) c.advance-ended.ensures.counted
+    counted_from c.advance-ended.result c.args.supervisor.now.entries c.advance-ended.new.self.entries _ _ _ _ _
+    (ap (λ (d : DrumState). d.calls) c.first_cores-cores.ensures.drum) (search rules) c.advance-ended.ensures.counted
 
 pub returns-clause-texts : goal.returns-clause-texts
 returns-clause-texts g c = λ told.

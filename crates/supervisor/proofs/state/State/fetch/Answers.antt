@@ -20,53 +20,53 @@ use Rattle.supervisor.proofs.state.State.fetch.Goals as goal
 
 pub returns-in-Ok-clause-ended : goal.returns-in-Ok-clause-ended
 returns-in-Ok-clause-ended g c =
-    let had : Memory = g.C.Cores.memory c.args.cores.now in
-    let has : Memory = g.C.Cores.memory c.load.new.self in
+    let had : Memory = (g.C.Cores.state c.args.cores.now).memory in
+    let has : Memory = (g.C.Cores.state c.load.new.self).memory in
     let old : Run = seen had.places c.args.self.now in
     let users : List User = c.args.self.now.sessions.items in
     let u : ℕ = c.args.v.user in
     let size : size_of had.sizes u ≡ blocks_of (user_at u users).inner = c.requires.held.tied.has u c.requires.user.some c.requires.user.within in
     let sizes : size_of had.sizes c.of-user.result ≡ blocks_of (user_at u users).inner = ap (size_of had.sizes) c.of-user.ensures ∙ size in
     let dumped : c.in-Ok.plan.dumped ≡ count_below (blocks_of (user_at u users).inner) (is_dumped had.places u) =
-    c.in-Ok.ensures.dumped ∙ (λ j. count_below (sizes j) (is_dumped had.places (c.of-user.ensures j))) in
+    c.in-Ok.ensures.loads.done.dumped ∙ (λ j. count_below (sizes j) (is_dumped had.places (c.of-user.ensures j))) in
     let read : c.in-Ok.plan.read ≡ count_below (blocks_of (user_at u users).inner) (is_read had.places u) =
-    c.in-Ok.ensures.read ∙ (λ j. count_below (sizes j) (is_read had.places (c.of-user.ensures j))) in
+    c.in-Ok.ensures.loads.done.read ∙ (λ j. count_below (sizes j) (is_read had.places (c.of-user.ensures j))) in
     let fresh : c.in-Ok.plan.fresh ≡ count_below (blocks_of (user_at u users).inner) (is_fresh had.places u) =
-    c.in-Ok.ensures.fresh ∙ (λ j. count_below (sizes j) (is_fresh had.places (c.of-user.ensures j))) in
+    c.in-Ok.ensures.loads.done.fresh ∙ (λ j. count_below (sizes j) (is_fresh had.places (c.of-user.ensures j))) in
     let places : has.places ≡ loaded had.places u (blocks_of (user_at u users).inner) =
-    c.in-Ok.ensures.places ∙ (λ j. loaded had.places (c.of-user.ensures j) (sizes j)) in
+    c.in-Ok.ensures.loads.done.places ∙ (λ j. loaded had.places (c.of-user.ensures j) (sizes j)) in
     let is : seen has.places c.bring.new.self ≡ brought u old =
     ap (at_places has.places) (c.bring.ensures had.places)
     ∙ (λ j. at_places (places j) (moved (c.of-user.ensures j) c.in-Ok.plan.dumped c.in-Ok.plan.read c.in-Ok.plan.fresh (with_users old users (c.reserve.ensures.items j))))
     ∙ brought_is u c.in-Ok.plan.dumped c.in-Ok.plan.read c.in-Ok.plan.fresh old dumped read fresh in
     does_brought c.args.v old (seen has.places c.bring.new.self) had has c.requires.user
     (ap not (ap (is_loaded had.places u) (sym size) ∙ c.requires.absent))
-    is (λ t x pos. c.in-Ok.ensures.words x pos) c.in-Ok.ensures.tells
+    is (λ t x pos. c.in-Ok.ensures.loads.done.words x pos) c.in-Ok.ensures.loads.done.tells
 
 pub returns-in-Ok-clause-tied : goal.returns-in-Ok-clause-tied
 returns-in-Ok-clause-tied g c =
-    let had : Memory = g.C.Cores.memory c.args.cores.now in
-    let has : Memory = g.C.Cores.memory c.load.new.self in
+    let had : Memory = (g.C.Cores.state c.args.cores.now).memory in
+    let has : Memory = (g.C.Cores.state c.load.new.self).memory in
     let are : c.bring.new.self.sessions.items ≡ c.args.self.now.sessions.items = ap (λ (r : Run). r.system.users) (c.bring.ensures had.places) ∙ moved_users c.of-user.result c.in-Ok.plan.dumped c.in-Ok.plan.read c.in-Ok.plan.fresh _ in
-    subst (λ (us : List User). IsTied us has) (sym are) (tied_same c.args.self.now.sessions.items 0 had has (resized_none 0 had has c.load.ensures.sizes c.load.ensures.quotas) c.requires.held.tied)
+    subst (λ (us : List User). IsTied us has) (sym are) (tied_same c.args.self.now.sessions.items 0 had has (resized_none 0 had has c.load.ensures.loads.sizes c.load.ensures.loads.quotas) c.requires.held.tied)
 
 pub returns-in-Err-clause-ended : goal.returns-in-Err-clause-ended
 returns-in-Err-clause-ended g c =
-    let had : Memory = g.C.Cores.memory c.args.cores.now in
+    let had : Memory = (g.C.Cores.state c.args.cores.now).memory in
     let users : List User = c.args.self.now.sessions.items in
     let u : ℕ = c.args.v.user in
     let sizes : size_of had.sizes c.of-user.result ≡ blocks_of (user_at u users).inner =
     ap (size_of had.sizes) c.of-user.ensures ∙ c.requires.held.tied.has u c.requires.user.some c.requires.user.within in (
       search rules,
       search rules,
-      subst (λ (most : ℕ). IsCutOff (g.C.Cores.calls c.args.cores.now) (g.C.Cores.calls c.load.new.self) most)
+      subst (λ (most : ℕ). IsCutOff (g.C.Cores.state c.args.cores.now).calls (g.C.Cores.state c.load.new.self).calls most)
           (λ j. count_below (sizes j) (is_dumped had.places (c.of-user.ensures j)) + count_below (sizes j) (is_read had.places (c.of-user.ensures j)))
-          c.in-Err.ensures.failed,
+          c.in-Err.ensures.loads.fails.calls,
     )
 
 pub returns-in-Ok-clause-counted : goal.returns-in-Ok-clause-counted
 returns-in-Ok-clause-counted g c =
-    let had : Memory = g.C.Cores.memory c.args.cores.now in
+    let had : Memory = (g.C.Cores.state c.args.cores.now).memory in
     let old : Run = seen had.places c.args.self.now in
     let u : ℕ = c.of-user.result in
     let dumped : ℕ = c.in-Ok.plan.dumped in
@@ -74,4 +74,4 @@ returns-in-Ok-clause-counted g c =
     let fresh : ℕ = c.in-Ok.plan.fresh in
     counted_load old (moved u dumped read fresh old) (seen had.places c.bring.new.self) _ _ dumped read
     (c.bring.ensures had.places ∙ (λ j. moved u dumped read fresh (with_users old c.args.self.now.sessions.items (c.reserve.ensures.items j))))
-    (moved_moves u dumped read fresh old) c.in-Ok.ensures.calls
+    (moved_moves u dumped read fresh old) c.in-Ok.ensures.loads.done.calls

@@ -16,14 +16,14 @@ use Rattle.supervisor.proofs.state.State.go_on.Goals as goal
 
 pub attend-requires-clause-user : goal.attend-requires-clause-user
 attend-requires-clause-user g c =
-    let had : Memory = g.C.Cores.memory c.args.cores.now in
+    let had : Memory = (g.C.Cores.state c.args.cores.now).memory in
     let old : Run = seen had.places c.args.self.now in
     subst (λ (k : ℕ). IsUser k old) (sym c.number.ensures.value) (first_user old c.in-Some-None.next.level _ c.requires.held.sound c.in-Some-None.ensures.some)
 
 pub returns-in-Some-None-clause-ended : goal.returns-in-Some-None-clause-ended
 returns-in-Some-None-clause-ended g c =
-    let had : Memory = g.C.Cores.memory c.args.cores.now in
-    let has : Memory = g.C.Cores.memory c.attend.new.cores in
+    let had : Memory = (g.C.Cores.state c.args.cores.now).memory in
+    let has : Memory = (g.C.Cores.state c.attend.new.cores).memory in
     let old : Run = seen had.places c.args.self.now in
     let x : Waiting = record { user = c.in-Some-None.next.user; left = c.in-Some-None.next.left } in
     let v : Service = record { tick = c.args.self.now.clock; user = c.number.result; level = c.in-Some-None.next.level; ran = 0 } in
@@ -35,17 +35,17 @@ returns-in-Some-None-clause-ended g c =
     (λ f. (
       f.0,
       f.1,
-      load_fails c.in-Some-None.next.level x old had (g.C.Cores.calls c.args.cores.now) (g.C.Cores.calls c.attend.new.cores) c.in-Some-None.ensures.some (λ w h. let both = sym none ∙ h in cc) c.requires.held.tied
+      load_fails c.in-Some-None.next.level x old had (g.C.Cores.state c.args.cores.now).calls (g.C.Cores.state c.attend.new.cores).calls c.in-Some-None.ensures.some (λ w h. let both = sym none ∙ h in cc) c.requires.held.tied
           (first_user old c.in-Some-None.next.level x c.requires.held.sound c.in-Some-None.ensures.some)
           (subst (λ (k : ℕ). is_loaded had.places k (size_of had.sizes k) ≡ false) c.number.ensures.value f.2)
-          (subst (λ (k : ℕ). IsCutOff (g.C.Cores.calls c.args.cores.now) (g.C.Cores.calls c.attend.new.cores) (calls_to_load k old)) c.number.ensures.value f.3),
+          (subst (λ (k : ℕ). IsCutOff (g.C.Cores.state c.args.cores.now).calls (g.C.Cores.state c.attend.new.cores).calls (calls_to_load k old)) c.number.ensures.value f.3),
     ))
     c.attend.ensures.ended
 
 pub returns-then-v-number-clause-ended : goal.returns-then-v-number-clause-ended
 returns-then-v-number-clause-ended g c =
-    let had : Memory = g.C.Cores.memory c.args.cores.now in
-    let has : Memory = g.C.Cores.memory c.attend-then-v-number.new.cores in
+    let had : Memory = (g.C.Cores.state c.args.cores.now).memory in
+    let has : Memory = (g.C.Cores.state c.attend-then-v-number.new.cores).memory in
     let old : Run = seen had.places c.args.self.now in
     let x : Waiting = record { user = c.in-Some-Some.next.user; left = c.in-Some-Some.next.left } in
     let v : Service = c.in-Some-Some.v in
@@ -57,10 +57,10 @@ returns-then-v-number-clause-ended g c =
     (λ f. (
       f.0,
       f.1,
-      load_fails c.in-Some-Some.next.level x old had (g.C.Cores.calls c.args.cores.now) (g.C.Cores.calls c.attend-then-v-number.new.cores) c.in-Some-Some.ensures.some
+      load_fails c.in-Some-Some.next.level x old had (g.C.Cores.state c.args.cores.now).calls (g.C.Cores.state c.attend-then-v-number.new.cores).calls c.in-Some-Some.ensures.some
           (λ w h. let both = sym h ∙ some in let e : w ≡ v = cc in ap (λ (s : Service). s.user) e ∙ same)
           c.requires.held.tied (first_user old c.in-Some-Some.next.level x c.requires.held.sound c.in-Some-Some.ensures.some)
           (subst (λ (k : ℕ). is_loaded had.places k (size_of had.sizes k) ≡ false) same f.2)
-          (subst (λ (k : ℕ). IsCutOff (g.C.Cores.calls c.args.cores.now) (g.C.Cores.calls c.attend-then-v-number.new.cores) (calls_to_load k old)) same f.3),
+          (subst (λ (k : ℕ). IsCutOff (g.C.Cores.state c.args.cores.now).calls (g.C.Cores.state c.attend-then-v-number.new.cores).calls (calls_to_load k old)) same f.3),
     ))
     c.attend-then-v-number.ensures.ended

@@ -15,17 +15,17 @@ use Rattle.supervisor.proofs.state.State.hear.Goals as goal
 
 pub returns-in_err-cut-clause-err : goal.returns-in_err-cut-clause-err
 returns-in_err-cut-clause-err g c =
-    on_err c.from_residual.result _ (record { run = c.in_err-cut.ensures.err (g.C.Cores.memory c.args.cores.now).places; words = λ t u h. refl; tells = refl })
+    on_err c.from_residual.result _ (record { run = c.in_err-cut.ensures.err (g.C.Cores.state c.args.cores.now).memory.places; words = λ t u h. refl; tells = refl })
 
 pub returns-in_err-cut-clause-tied : goal.returns-in_err-cut-clause-tied
 returns-in_err-cut-clause-tied g c =
-    let had : Memory = g.C.Cores.memory c.args.cores.now in
+    let had : Memory = (g.C.Cores.state c.args.cores.now).memory in
     subst (λ (us : List User). IsTied us had) (ap (λ (r : Run). r.system.users) (sym (c.in_err-cut.ensures.err had.places))) c.requires.held.tied
 
 pub returns-clause-ok : goal.returns-clause-ok
 returns-clause-ok g c =
-    let had : Memory = g.C.Cores.memory c.args.cores.now in
-    let has : Memory = g.C.Cores.memory c.give_up.new.cores in
+    let had : Memory = (g.C.Cores.state c.args.cores.now).memory in
+    let has : Memory = (g.C.Cores.state c.give_up.new.cores).memory in
     let left = c.give_up.ensures.left in
     does_taken c.args.e (seen had.places c.args.self.now) (seen has.places c.take_event.new.self) had has c.requires.seat c.requires.held.sound
     (ap (λ (p : Places). seen p c.take_event.new.self) left.places ∙ c.in_ok-cut.ensures.ok had.places)
@@ -34,8 +34,8 @@ returns-clause-ok g c =
 
 pub returns-clause-tied : goal.returns-clause-tied
 returns-clause-tied g c =
-    let had : Memory = g.C.Cores.memory c.args.cores.now in
-    let has : Memory = g.C.Cores.memory c.give_up.new.cores in
+    let had : Memory = (g.C.Cores.state c.args.cores.now).memory in
+    let has : Memory = (g.C.Cores.state c.give_up.new.cores).memory in
     let left = c.give_up.ensures.left in
     let is = ap (λ (p : Places). seen p c.take_event.new.self) left.places ∙ c.in_ok-cut.ensures.ok had.places in
     subst (λ (us : List User). IsTied us has) (ap (λ (r : Run). r.system.users) (sym is))
@@ -43,13 +43,13 @@ returns-clause-tied g c =
 
 pub returns-in_err-cut-clause-counted : goal.returns-in_err-cut-clause-counted
 returns-in_err-cut-clause-counted g c =
-    let had : Memory = g.C.Cores.memory c.args.cores.now in
+    let had : Memory = (g.C.Cores.state c.args.cores.now).memory in
     counted_same _ _ _ _ (ap (λ (r : Run). r.system.entries) (c.in_err-cut.ensures.err had.places)) refl
 
 pub returns-clause-counted : goal.returns-clause-counted
 returns-clause-counted g c =
-    let had : Memory = g.C.Cores.memory c.args.cores.now in
-    let has : Memory = g.C.Cores.memory c.give_up.new.cores in
+    let had : Memory = (g.C.Cores.state c.args.cores.now).memory in
+    let has : Memory = (g.C.Cores.state c.give_up.new.cores).memory in
     let old : Run = seen had.places c.args.self.now in
     counted_none old (taken c.args.e old) (seen has.places c.take_event.new.self) _ _
     (ap (λ (p : Places). seen p c.take_event.new.self) c.give_up.ensures.left.places ∙ c.in_ok-cut.ensures.ok had.places)

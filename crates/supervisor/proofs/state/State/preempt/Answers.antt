@@ -16,31 +16,31 @@ use Rattle.supervisor.proofs.state.State.preempt.Goals as goal
 
 pub returns-in_err-end_service-clause-err : goal.returns-in_err-end_service-clause-err
 returns-in_err-end_service-clause-err g c =
-    on_err c.from_residual.result _ (record { run = c.in_err-end_service.ensures.err (g.C.Cores.memory c.args.cores.now).places; words = λ t u h. refl; tells = refl })
+    on_err c.from_residual.result _ (record { run = c.in_err-end_service.ensures.err (g.C.Cores.state c.args.cores.now).memory.places; words = λ t u h. refl; tells = refl })
 
 pub returns-in_err-end_service-clause-tied : goal.returns-in_err-end_service-clause-tied
 returns-in_err-end_service-clause-tied g c =
-    let had : Memory = g.C.Cores.memory c.args.cores.now in
+    let had : Memory = (g.C.Cores.state c.args.cores.now).memory in
     subst (λ (us : List User). IsTied us had) (ap (λ (r : Run). r.system.users) (sym (c.in_err-end_service.ensures.err had.places))) c.requires.held.tied
 
 pub returns-clause-ok : goal.returns-clause-ok
 returns-clause-ok g c =
-    let had : Memory = g.C.Cores.memory c.args.cores.now in
+    let had : Memory = (g.C.Cores.state c.args.cores.now).memory in
     let old : Run = seen had.places c.args.self.now in
     does_apart (served Preempt c.args.v) old (seen had.places c.end_service.new.self) had had (c.in_ok-end_service.ensures.ok had.places) (λ w. served_joined w Preempt c.args.v old) (λ t u h. refl) refl
 
 pub returns-clause-tied : goal.returns-clause-tied
 returns-clause-tied g c =
-    let had : Memory = g.C.Cores.memory c.args.cores.now in
+    let had : Memory = (g.C.Cores.state c.args.cores.now).memory in
     subst (λ (us : List User). IsTied us had) (sym (ap (λ (r : Run). r.system.users) (c.in_ok-end_service.ensures.ok had.places) ∙ served_users Preempt c.args.v (seen had.places c.args.self.now))) c.requires.held.tied
 
 pub returns-in_err-end_service-clause-counted : goal.returns-in_err-end_service-clause-counted
 returns-in_err-end_service-clause-counted g c =
-    let had : Memory = g.C.Cores.memory c.args.cores.now in
+    let had : Memory = (g.C.Cores.state c.args.cores.now).memory in
     counted_same _ _ _ _ (ap (λ (r : Run). r.system.entries) (c.in_err-end_service.ensures.err had.places)) refl
 
 pub returns-clause-counted : goal.returns-clause-counted
 returns-clause-counted g c =
-    let had : Memory = g.C.Cores.memory c.args.cores.now in
+    let had : Memory = (g.C.Cores.state c.args.cores.now).memory in
     let old : Run = seen had.places c.args.self.now in
     counted_none old (served Preempt c.args.v old) (seen had.places c.end_service.new.self) _ _ (c.in_ok-end_service.ensures.ok had.places) (served_moves Preempt c.args.v old) refl

@@ -24,13 +24,13 @@ use Rattle.supervisor.proofs.state.State.serve.Goals as goal
 
 pub settle-requires-clause-same : goal.settle-requires-clause-same
 settle-requires-clause-same g c = λ went.
-    let had : Memory = g.C.Cores.memory c.args.cores.now in
+    let had : Memory = (g.C.Cores.state c.args.cores.now).memory in
     let users : List User = c.args.self.now.sessions.items in
     let u : ℕ = c.args.v.user in
     let within : u - 1 < length users = omega (arith, c.requires.user.some, c.requires.user.within) in
     let same : user_at u users ≡ c.index_mut-session.result.now = get_or_default users (u - 1) nobody c.index_mut-session.result.now within ∙ sym c.index_mut-session.ensures.value in
-    let says = subst (λ t. IsTurn t c.args.self.now.clock c.index_mut-session.result.now c.turn.new.session (g.C.Cores.window c.args.cores.now c.of-user.result) (g.C.Cores.window c.turn.new.self c.of-user.result)) c.in-Done.is c.in_ok-turn.ensures.turn in
-    ap (λ (s : List ℕ). size_of s c.of-user.result) c.turn.ensures.sizes
+    let says = subst (λ t. IsTurn t c.args.self.now.clock c.index_mut-session.result.now c.turn.new.session ((g.C.Cores.state c.args.cores.now).window c.of-user.result) ((g.C.Cores.state c.turn.new.self).window c.of-user.result)) c.in-Done.is c.in_ok-turn.ensures.turn in
+    ap (λ (s : List ℕ). size_of s c.of-user.result) c.turn.ensures.worked.sizes
     ∙ ap (size_of had.sizes) c.of-user.ensures
     ∙ c.requires.held.tied.has u c.requires.user.some c.requires.user.within
     ∙ ap (λ (p : User). blocks_of p.inner) same
@@ -39,90 +39,90 @@ settle-requires-clause-same g c = λ went.
 
 pub returns-in-Waits-clause-ok : goal.returns-in-Waits-clause-ok
 returns-in-Waits-clause-ok g c =
-    let had : Memory = g.C.Cores.memory c.args.cores.now in
-    let has : Memory = g.C.Cores.memory c.turn.new.self in
+    let had : Memory = (g.C.Cores.state c.args.cores.now).memory in
+    let has : Memory = (g.C.Cores.state c.turn.new.self).memory in
     let old : Run = seen had.places c.args.self.now in
     let users : List User = c.args.self.now.sessions.items in
     let u : ℕ = c.args.v.user in
-    let window : List ℕ = g.C.Cores.window c.args.cores.now c.of-user.result in
+    let window : List ℕ = (g.C.Cores.state c.args.cores.now).window c.of-user.result in
     let within : u - 1 < length users = omega (arith, c.requires.user.some, c.requires.user.within) in
     let same : user_at u users ≡ c.index_mut-session.result.now = get_or_default users (u - 1) nobody c.index_mut-session.result.now within ∙ sym c.index_mut-session.ensures.value in
-    let wait = subst (λ t. IsTurn t c.args.self.now.clock c.index_mut-session.result.now c.turn.new.session window (g.C.Cores.window c.turn.new.self c.of-user.result)) c.in-Waits.is c.in_ok-turn.ensures.turn in
+    let wait = subst (λ t. IsTurn t c.args.self.now.clock c.index_mut-session.result.now c.turn.new.session window ((g.C.Cores.state c.turn.new.self).window c.of-user.result)) c.in-Waits.is c.in_ok-turn.ensures.turn in
     let back : set users (u - 1) c.turn.new.session ≡ users = ap (set users (u - 1)) (wait.same ∙ sym same) ∙ set-get_or users (u - 1) nobody in
     let is : seen has.places c.count_wait.new.self ≡ waited c.args.v old =
-    ap (λ (p : Places). seen p c.count_wait.new.self) c.turn.ensures.places ∙ c.count_wait.ensures had.places
+    ap (λ (p : Places). seen p c.count_wait.new.self) c.turn.ensures.worked.places ∙ c.count_wait.ensures had.places
     ∙ (λ j. waited c.args.v (with_users old (back j) (c.reserve.ensures.items j))) in
-    let was : had.tells ≡ true → had.words u ≡ window = λ t. ap had.words (sym c.of-user.ensures) ∙ c.turn.ensures.was t in
-    let mine : had.tells ≡ true → has.words u ≡ had.words u = λ t. ap has.words (sym c.of-user.ensures) ∙ c.turn.ensures.mine t ∙ wait.core ∙ sym (was t) in
+    let was : had.tells ≡ true → had.words u ≡ window = λ t. ap had.words (sym c.of-user.ensures) ∙ c.turn.ensures.worked.was t in
+    let mine : had.tells ≡ true → has.words u ≡ had.words u = λ t. ap has.words (sym c.of-user.ensures) ∙ c.turn.ensures.worked.mine t ∙ wait.core ∙ sym (was t) in
     let words : had.tells ≡ true → (x : ℕ) → 1 ≤ x → has.words x ≡ had.words x = λ t x pos.
-    elim (either u x) [ inl e ↦ ap has.words e ∙ mine t ∙ ap had.words (sym e) | inr n ↦ c.turn.ensures.others x pos (λ e. n (e ∙ c.of-user.ensures)) ] in
+    elim (either u x) [ inl e ↦ ap has.words e ∙ mine t ∙ ap had.words (sym e) | inr n ↦ c.turn.ensures.worked.rest.others x pos (λ e. n (e ∙ c.of-user.ensures)) ] in
     does_waited c.args.v old (seen has.places c.count_wait.new.self) had has window c.requires.user
     (ap not (ap (is_loaded had.places u) (sym (c.requires.held.tied.has u c.requires.user.some c.requires.user.within)) ∙ c.requires.loaded))
     (ap (λ (p : User). can_step (in_core window p)) same ∙ wait.cannot)
-    is was words c.turn.ensures.tells
+    is was words c.turn.ensures.worked.rest.tells
 
 pub returns-in-Waits-clause-tied : goal.returns-in-Waits-clause-tied
 returns-in-Waits-clause-tied g c =
-    let had : Memory = g.C.Cores.memory c.args.cores.now in
-    let has : Memory = g.C.Cores.memory c.turn.new.self in
+    let had : Memory = (g.C.Cores.state c.args.cores.now).memory in
+    let has : Memory = (g.C.Cores.state c.turn.new.self).memory in
     let users : List User = c.args.self.now.sessions.items in
     let u : ℕ = c.args.v.user in
     let within : u - 1 < length users = omega (arith, c.requires.user.some, c.requires.user.within) in
     let same : user_at u users ≡ c.index_mut-session.result.now = get_or_default users (u - 1) nobody c.index_mut-session.result.now within ∙ sym c.index_mut-session.ensures.value in
-    let wait = subst (λ t. IsTurn t c.args.self.now.clock c.index_mut-session.result.now c.turn.new.session (g.C.Cores.window c.args.cores.now c.of-user.result) (g.C.Cores.window c.turn.new.self c.of-user.result)) c.in-Waits.is c.in_ok-turn.ensures.turn in
+    let wait = subst (λ t. IsTurn t c.args.self.now.clock c.index_mut-session.result.now c.turn.new.session ((g.C.Cores.state c.args.cores.now).window c.of-user.result) ((g.C.Cores.state c.turn.new.self).window c.of-user.result)) c.in-Waits.is c.in_ok-turn.ensures.turn in
     let back : set users (u - 1) c.turn.new.session ≡ users = ap (set users (u - 1)) (wait.same ∙ sym same) ∙ set-get_or users (u - 1) nobody in
     let are : c.count_wait.new.self.sessions.items ≡ users = ap (λ (r : Run). r.system.users) (c.count_wait.ensures had.places) ∙ waited_users c.args.v _ ∙ back in
-    subst (λ (us : List User). IsTied us has) (sym are) (tied_same users 0 had has (resized_none 0 had has c.turn.ensures.sizes c.turn.ensures.quotas) c.requires.held.tied)
+    subst (λ (us : List User). IsTied us has) (sym are) (tied_same users 0 had has (resized_none 0 had has c.turn.ensures.worked.sizes c.turn.ensures.worked.rest.quotas) c.requires.held.tied)
 
 pub returns-in-Done-clause-ok : goal.returns-in-Done-clause-ok
 returns-in-Done-clause-ok g c =
-    let had : Memory = g.C.Cores.memory c.args.cores.now in
-    let mid : Memory = g.C.Cores.memory c.turn.new.self in
-    let has : Memory = g.C.Cores.memory c.settle.new.cores in
+    let had : Memory = (g.C.Cores.state c.args.cores.now).memory in
+    let mid : Memory = (g.C.Cores.state c.turn.new.self).memory in
+    let has : Memory = (g.C.Cores.state c.settle.new.cores).memory in
     let old : Run = seen had.places c.args.self.now in
     let users : List User = c.args.self.now.sessions.items in
     let u : ℕ = c.args.v.user in
     let p : User = c.turn.new.session in
     let t : Ending = c.in-Done.step.ending in
     let asked : Bool = c.in-Done.step.clock in
-    let window : List ℕ = g.C.Cores.window c.args.cores.now c.of-user.result in
-    let after : List ℕ = g.C.Cores.window c.turn.new.self c.of-user.result in
+    let window : List ℕ = (g.C.Cores.state c.args.cores.now).window c.of-user.result in
+    let after : List ℕ = (g.C.Cores.state c.turn.new.self).window c.of-user.result in
     let within : u - 1 < length users = omega (arith, c.requires.user.some, c.requires.user.within) in
     let same : user_at u users ≡ c.index_mut-session.result.now = get_or_default users (u - 1) nobody c.index_mut-session.result.now within ∙ sym c.index_mut-session.ensures.value in
     let says = subst (λ x. IsTurn x c.args.self.now.clock c.index_mut-session.result.now p window after) c.in-Done.is c.in_ok-turn.ensures.turn in
     let blocks : c.blocks-blocks.result ≡ blocks_of p.inner = c.blocks-blocks.ensures.value in
     let places : has.places ≡ places_after t u (blocks_of p.inner) had.places =
-    c.settle.ensures.settled.places ∙ (λ j. places_after t (c.of-user.ensures j) (blocks j) (c.turn.ensures.places j)) in
+    c.settle.ensures.settled.places ∙ (λ j. places_after t (c.of-user.ensures j) (blocks j) (c.turn.ensures.worked.places j)) in
     let is : seen has.places c.count_step.new.self ≡ stepped_to c.args.v p t asked old =
     ap (at_places has.places) (c.count_step.ensures had.places)
     ∙ (λ j. at_places (places j) (counted c.args.v t asked (with_users old (with_user u p users) (c.reserve.ensures.items j))))
     ∙ stepped_is c.args.v p t asked old c.requires.user in
     let size : t ≡ Went → length after ≡ 256 * blocks_of p.inner = λ went.
-    c.turn.ensures.len
+    c.turn.ensures.worked.len
     ∙ ap (λ (n : ℕ). 256 * n) (ap (size_of had.sizes) c.of-user.ensures ∙ c.requires.held.tied.has u c.requires.user.some c.requires.user.within ∙ ap (λ (q : User). blocks_of q.inner) same ∙ sym (went_size _ _ _ _ _ _ _ says went)) in
-    let was : had.tells ≡ true → had.words u ≡ window = λ told. ap had.words (sym c.of-user.ensures) ∙ c.turn.ensures.was told in
+    let was : had.tells ≡ true → had.words u ≡ window = λ told. ap had.words (sym c.of-user.ensures) ∙ c.turn.ensures.worked.was told in
     let mine : had.tells ≡ true → has.words u ≡ core_after t (blocks_of p.inner) after = λ told.
-    ap has.words (sym c.of-user.ensures) ∙ c.settle.ensures.settled.mine (c.turn.ensures.tells ∙ told)
-    ∙ (λ j. settled t (blocks j) (c.turn.ensures.mine told j)) ∙ settled_is t (blocks_of p.inner) after size in
+    ap has.words (sym c.of-user.ensures) ∙ c.settle.ensures.settled.mine (c.turn.ensures.worked.rest.tells ∙ told)
+    ∙ (λ j. settled t (blocks j) (c.turn.ensures.worked.mine told j)) ∙ settled_is t (blocks_of p.inner) after size in
     let others : (x : ℕ) → 1 ≤ x → x ≢ u → has.words x ≡ had.words x = λ x pos n.
-    c.settle.ensures.settled.others x pos (λ e. n (e ∙ c.of-user.ensures)) ∙ c.turn.ensures.others x pos (λ e. n (e ∙ c.of-user.ensures)) in
+    c.settle.ensures.settled.others x pos (λ e. n (e ∙ c.of-user.ensures)) ∙ c.turn.ensures.worked.rest.others x pos (λ e. n (e ∙ c.of-user.ensures)) in
     does_stepped c.args.v p t asked old (seen has.places c.count_step.new.self) had has window after c.requires.user
     (ap not (ap (is_loaded had.places u) (sym (c.requires.held.tied.has u c.requires.user.some c.requires.user.within)) ∙ c.requires.loaded))
     (subst (λ (q : User). IsStep t asked c.args.self.now.clock q p window after) (sym same) says)
-    is was mine others (c.settle.ensures.settled.tells ∙ c.turn.ensures.tells)
+    is was mine others (c.settle.ensures.settled.tells ∙ c.turn.ensures.worked.rest.tells)
 
 pub returns-in-Done-clause-tied : goal.returns-in-Done-clause-tied
 returns-in-Done-clause-tied g c =
-    let had : Memory = g.C.Cores.memory c.args.cores.now in
-    let mid : Memory = g.C.Cores.memory c.turn.new.self in
-    let has : Memory = g.C.Cores.memory c.settle.new.cores in
+    let had : Memory = (g.C.Cores.state c.args.cores.now).memory in
+    let mid : Memory = (g.C.Cores.state c.turn.new.self).memory in
+    let has : Memory = (g.C.Cores.state c.settle.new.cores).memory in
     let users : List User = c.args.self.now.sessions.items in
     let u : ℕ = c.args.v.user in
     let p : User = c.turn.new.session in
     let within : u - 1 < length users = omega (arith, c.requires.user.some, c.requires.user.within) in
     let same : user_at u users ≡ c.index_mut-session.result.now = get_or_default users (u - 1) nobody c.index_mut-session.result.now within ∙ sym c.index_mut-session.ensures.value in
     let resized : IsResized u (blocks_of p.inner) had has =
-    resized_from c.of-user.result u c.blocks-blocks.result (blocks_of p.inner) had mid has c.settle.ensures.settled.sizes c.turn.ensures.sizes c.turn.ensures.quotas c.of-user.ensures c.blocks-blocks.ensures.value in
+    resized_from c.of-user.result u c.blocks-blocks.result (blocks_of p.inner) had mid has c.settle.ensures.settled.sizes c.turn.ensures.worked.sizes c.turn.ensures.worked.rest.quotas c.of-user.ensures c.blocks-blocks.ensures.value in
     let are : c.count_step.new.self.sessions.items ≡ with_user u p users = ap (λ (r : Run). r.system.users) (c.count_step.ensures had.places) ∙ counted_users c.args.v c.in-Done.step.ending c.in-Done.step.clock _ in
     subst (λ (us : List User). IsTied us has) (sym are)
     (tied_with users u u p had has c.requires.user.some c.requires.user.within resized (inl refl)
@@ -130,17 +130,17 @@ returns-in-Done-clause-tied g c =
 
 pub returns-in-Waits-clause-counted : goal.returns-in-Waits-clause-counted
 returns-in-Waits-clause-counted g c =
-    let had : Memory = g.C.Cores.memory c.args.cores.now in
+    let had : Memory = (g.C.Cores.state c.args.cores.now).memory in
     let old : Run = seen had.places c.args.self.now in
     let users : List User = set c.args.self.now.sessions.items (c.args.v.user - 1) c.turn.new.session in
     let mid : Run = with_users old users old.system.entries in
     counted_none old (waited c.args.v mid) (seen had.places c.count_wait.new.self) _ _
     (c.count_wait.ensures had.places ∙ (λ j. waited c.args.v (with_users old users (c.reserve.ensures.items j))))
-    (waited_moves c.args.v mid) c.turn.ensures.calls
+    (waited_moves c.args.v mid) c.turn.ensures.worked.rest.calls
 
 pub returns-in-Done-clause-counted : goal.returns-in-Done-clause-counted
 returns-in-Done-clause-counted g c =
-    let had : Memory = g.C.Cores.memory c.args.cores.now in
+    let had : Memory = (g.C.Cores.state c.args.cores.now).memory in
     let old : Run = seen had.places c.args.self.now in
     let users : List User = set c.args.self.now.sessions.items (c.args.v.user - 1) c.turn.new.session in
     let mid : Run = with_users old users old.system.entries in
@@ -148,4 +148,4 @@ returns-in-Done-clause-counted g c =
     let asked : Bool = c.in-Done.step.clock in
     counted_none old (counted c.args.v t asked mid) (seen had.places c.count_step.new.self) _ _
     (c.count_step.ensures had.places ∙ (λ j. counted c.args.v t asked (with_users old users (c.reserve.ensures.items j))))
-    (counted_moves c.args.v t asked mid) (c.settle.ensures.calls ∙ c.turn.ensures.calls)
+    (counted_moves c.args.v t asked mid) (c.settle.ensures.calls ∙ c.turn.ensures.worked.rest.calls)

@@ -8,14 +8,14 @@ use Rattle.supervisor.proofs.state.State.step.Goals as goal
 
 pub returns-in-Ok-clause-ended : goal.returns-in-Ok-clause-ended
 returns-in-Ok-clause-ended g c =
-    let had : Memory = g.C.Cores.memory c.args.cores.now in
-    let has : Memory = g.C.Cores.memory c.hear.new.cores in
+    let had : Memory = (g.C.Cores.state c.args.cores.now).memory in
+    let has : Memory = (g.C.Cores.state c.hear.new.cores).memory in
     does_event c.args.limit c.in-Some.e (seen had.places c.args.self.now) (seen has.places c.hear.new.self) had has (sym c.due.ensures ∙ c.in-Some.is) c.in-Ok.ensures.ok
 
 pub returns-in-None-clause-ended : goal.returns-in-None-clause-ended
 returns-in-None-clause-ended g c =
-    let had : Memory = g.C.Cores.memory c.args.cores.now in
-    let has : Memory = g.C.Cores.memory c.go_on.new.cores in
+    let had : Memory = (g.C.Cores.state c.args.cores.now).memory in
+    let has : Memory = (g.C.Cores.state c.go_on.new.cores).memory in
     let old : Run = seen had.places c.args.self.now in
     let quiet = sym c.due.ensures ∙ c.in-None.is in
     ends_map c.go_on.result _ _ _ _ _ _

@@ -19,9 +19,9 @@ pub steps-init : goal.steps-init
 steps-init g c =
     record {
       leads = λ told. refl;
-      part = part_none c.args.limit (seen (g.C.Cores.memory c.args.cores.now).places c.args.self.now.state) (g.C.Cores.memory c.args.cores.now);
+      part = part_none c.args.limit (seen (g.C.Cores.state c.args.cores.now).memory.places c.args.self.now.state) (g.C.Cores.state c.args.cores.now).memory;
       lead = λ told. refl;
-      texts = texts_none c.args.limit (seen (g.C.Cores.memory c.args.cores.now).places c.args.self.now.state) (g.C.Cores.memory c.args.cores.now) (texts_of c.args.self.now.state.sessions.items c.args.self.now.texts);
+      texts = texts_none c.args.limit (seen (g.C.Cores.state c.args.cores.now).memory.places c.args.self.now.state) (g.C.Cores.state c.args.cores.now).memory (texts_of c.args.self.now.state.sessions.items c.args.self.now.texts);
       told = c.requires.told;
       counted = counted_same _ _ _ _ refl refl;
       tells = refl;
@@ -33,25 +33,25 @@ steps-init g c =
 
 pub run-requires-clause-held : goal.run-requires-clause-held
 run-requires-clause-held g c =
-    let had : Memory = g.C.Cores.memory c.steps.cores in
-    let mid : Memory = g.C.Cores.memory c.step.new.cores in
+    let had : Memory = (g.C.Cores.state c.steps.cores).memory in
+    let mid : Memory = (g.C.Cores.state c.step.new.cores).memory in
     held_on c.args.limit (seen had.places c.steps.self.state) (seen mid.places c.step.new.self.state) had mid c.steps-test.true c.steps.invariant.held c.in-Ok.ensures.tied c.in-Ok.ensures.ended
 
 pub steps-smaller : goal.steps-smaller
 steps-smaller g c =
-    let had : Memory = g.C.Cores.memory c.steps.cores in
-    let mid : Memory = g.C.Cores.memory c.step.new.cores in
-    let has : Memory = g.C.Cores.memory c.run.new.cores in
+    let had : Memory = (g.C.Cores.state c.steps.cores).memory in
+    let mid : Memory = (g.C.Cores.state c.step.new.cores).memory in
+    let has : Memory = (g.C.Cores.state c.run.new.cores).memory in
     let down = does_fall c.args.limit (seen had.places c.steps.self.state) (seen mid.places c.step.new.self.state) had mid c.steps-test.true c.in-Ok.ensures.ended in
     let more = pass_falls c.args.limit (seen mid.places c.step.new.self.state) (seen has.places c.run.new.self) mid has c.run.ensures.many in
     omega (arith, down, more)
 
 pub steps-preserved : goal.steps-preserved
 steps-preserved g c =
-    let first : Memory = g.C.Cores.memory c.args.cores.now in
-    let had : Memory = g.C.Cores.memory c.steps.cores in
-    let mid : Memory = g.C.Cores.memory c.step.new.cores in
-    let has : Memory = g.C.Cores.memory c.run.new.cores in
+    let first : Memory = (g.C.Cores.state c.args.cores.now).memory in
+    let had : Memory = (g.C.Cores.state c.steps.cores).memory in
+    let mid : Memory = (g.C.Cores.state c.step.new.cores).memory in
+    let has : Memory = (g.C.Cores.state c.run.new.cores).memory in
     let start : Run = seen first.places c.args.self.now.state in
     let old : Run = seen had.places c.steps.self.state in
     let next : Run = seen mid.places c.step.new.self.state in
@@ -83,9 +83,9 @@ steps-preserved g c =
 
 pub returns-in-Err-clause-ended : goal.returns-in-Err-clause-ended
 returns-in-Err-clause-ended g c =
-    let first : Memory = g.C.Cores.memory c.args.cores.now in
-    let had : Memory = g.C.Cores.memory c.steps.cores in
-    let has : Memory = g.C.Cores.memory c.step.new.cores in
+    let first : Memory = (g.C.Cores.state c.args.cores.now).memory in
+    let had : Memory = (g.C.Cores.state c.steps.cores).memory in
+    let has : Memory = (g.C.Cores.state c.step.new.cores).memory in
     let start : Run = seen first.places c.args.self.now.state in
     let old : Run = seen had.places c.steps.self.state in
     let new : Run = seen has.places c.step.new.self.state in
@@ -97,14 +97,14 @@ returns-in-Err-clause-ended g c =
 
 pub returns-clause-ended : goal.returns-clause-ended
 returns-clause-ended g c =
-    let first : Memory = g.C.Cores.memory c.args.cores.now in
-    let had : Memory = g.C.Cores.memory c.steps.cores in
+    let first : Memory = (g.C.Cores.state c.args.cores.now).memory in
+    let had : Memory = (g.C.Cores.state c.steps.cores).memory in
     run_done c.args.limit (seen first.places c.args.self.now.state) (seen had.places c.steps.self.state) first had (omega (arith, c.steps-test.false)) c.steps.invariant.leads
 
 pub returns-in-Err-clause-sound : goal.returns-in-Err-clause-sound
 returns-in-Err-clause-sound g c =
-    let had : Memory = g.C.Cores.memory c.steps.cores in
-    let has : Memory = g.C.Cores.memory c.step.new.cores in
+    let had : Memory = (g.C.Cores.state c.steps.cores).memory in
+    let has : Memory = (g.C.Cores.state c.step.new.cores).memory in
     let old : Run = seen had.places c.steps.self.state in
     let new : Run = seen has.places c.step.new.self.state in
     let held = c.steps.invariant.held in
@@ -114,7 +114,7 @@ returns-in-Err-clause-sound g c =
     c.in-Err.ensures.ended
 
 pub returns-clause-sound : goal.returns-clause-sound
-returns-clause-sound g c = sound_places no_places (seen (g.C.Cores.memory c.steps.cores).places c.steps.self.state) c.steps.invariant.held.sound
+returns-clause-sound g c = sound_places no_places (seen (g.C.Cores.state c.steps.cores).memory.places c.steps.self.state) c.steps.invariant.held.sound
 
 pub returns-in-Err-clause-counted : goal.returns-in-Err-clause-counted
 returns-in-Err-clause-counted g c =
@@ -122,15 +122,15 @@ returns-in-Err-clause-counted g c =
 
 pub returns-clause-texts : goal.returns-clause-texts
 returns-clause-texts g c =
-    let first : Memory = g.C.Cores.memory c.args.cores.now in
-    let had : Memory = g.C.Cores.memory c.steps.cores in
+    let first : Memory = (g.C.Cores.state c.args.cores.now).memory in
+    let had : Memory = (g.C.Cores.state c.steps.cores).memory in
     texts_end c.args.limit (seen first.places c.args.self.now.state) (seen had.places c.steps.self.state) first had _ _ (omega (arith, c.steps-test.false)) c.steps.invariant.lead
 
 pub returns-in-Err-clause-texts : goal.returns-in-Err-clause-texts
 returns-in-Err-clause-texts g c =
-    let first : Memory = g.C.Cores.memory c.args.cores.now in
-    let had : Memory = g.C.Cores.memory c.steps.cores in
-    let has : Memory = g.C.Cores.memory c.step.new.cores in
+    let first : Memory = (g.C.Cores.state c.args.cores.now).memory in
+    let had : Memory = (g.C.Cores.state c.steps.cores).memory in
+    let has : Memory = (g.C.Cores.state c.step.new.cores).memory in
     let start : Run = seen first.places c.args.self.now.state in
     let old : Run = seen had.places c.steps.self.state in
     let new : Run = seen has.places c.step.new.self.state in

@@ -10,20 +10,20 @@ use Rattle.supervisor.proofs.watch.Watch.advance.Given as goal
 
 abbrev pub invariant-steps : goal.invariant-steps
 invariant-steps g l = record {
-  leads : Leads l.limit (seen (g.C.Cores.memory l.fn.cores).places l.fn.self.state) (seen (g.C.Cores.memory l.cores).places l.self.state) (g.C.Cores.memory l.fn.cores) (g.C.Cores.memory l.cores);
-  part : HasRunPart l.limit (seen (g.C.Cores.memory l.fn.cores).places l.fn.self.state) (seen (g.C.Cores.memory l.cores).places l.self.state) (g.C.Cores.memory l.fn.cores) (g.C.Cores.memory l.cores);
-  lead : TextsLead l.limit (seen (g.C.Cores.memory l.fn.cores).places l.fn.self.state) (seen (g.C.Cores.memory l.cores).places l.self.state) (g.C.Cores.memory l.fn.cores) (g.C.Cores.memory l.cores)
+  leads : Leads l.limit (seen (g.C.Cores.state l.fn.cores).memory.places l.fn.self.state) (seen (g.C.Cores.state l.cores).memory.places l.self.state) (g.C.Cores.state l.fn.cores).memory (g.C.Cores.state l.cores).memory;
+  part : HasRunPart l.limit (seen (g.C.Cores.state l.fn.cores).memory.places l.fn.self.state) (seen (g.C.Cores.state l.cores).memory.places l.self.state) (g.C.Cores.state l.fn.cores).memory (g.C.Cores.state l.cores).memory;
+  lead : TextsLead l.limit (seen (g.C.Cores.state l.fn.cores).memory.places l.fn.self.state) (seen (g.C.Cores.state l.cores).memory.places l.self.state) (g.C.Cores.state l.fn.cores).memory (g.C.Cores.state l.cores).memory
       (texts_of l.fn.self.state.sessions.items l.fn.self.texts) (texts_of l.self.state.sessions.items l.self.texts);
-  texts : HasTextsPart l.limit (seen (g.C.Cores.memory l.fn.cores).places l.fn.self.state) (seen (g.C.Cores.memory l.cores).places l.self.state) (g.C.Cores.memory l.fn.cores) (g.C.Cores.memory l.cores)
+  texts : HasTextsPart l.limit (seen (g.C.Cores.state l.fn.cores).memory.places l.fn.self.state) (seen (g.C.Cores.state l.cores).memory.places l.self.state) (g.C.Cores.state l.fn.cores).memory (g.C.Cores.state l.cores).memory
       (texts_of l.fn.self.state.sessions.items l.fn.self.texts) (texts_of l.self.state.sessions.items l.self.texts);
   told : IsTold l.self.state.consoles.items l.self.state.sessions.items l.self.texts;
-  counted : IsCounted l.fn.self.state.entries.items l.self.state.entries.items (g.C.Cores.calls l.fn.cores) (g.C.Cores.calls l.cores);
-  tells : (g.C.Cores.memory l.cores).tells ≡ (g.C.Cores.memory l.fn.cores).tells;
-  held : IsHeld (seen (g.C.Cores.memory l.cores).places l.self.state) (g.C.Cores.memory l.cores);
+  counted : IsCounted l.fn.self.state.entries.items l.self.state.entries.items (g.C.Cores.state l.fn.cores).calls (g.C.Cores.state l.cores).calls;
+  tells : (g.C.Cores.state l.cores).memory.tells ≡ (g.C.Cores.state l.fn.cores).memory.tells;
+  held : IsHeld (seen (g.C.Cores.state l.cores).memory.places l.self.state) (g.C.Cores.state l.cores).memory;
   works : g.C.Cores.Works l.cores;
   keeps : g.C.Cores.Keeps l.fn.cores l.cores;
-  kept : g.C.Cores.faults l.fn.cores ≤ g.C.Cores.faults l.cores;
+  kept : (g.C.Cores.state l.fn.cores).faults ≤ (g.C.Cores.state l.cores).faults;
 }
 
 abbrev pub decreases-steps : goal.decreases-steps
-decreases-steps g l = measure l.limit (seen (g.C.Cores.memory l.cores).places l.self.state)
+decreases-steps g l = measure l.limit (seen (g.C.Cores.state l.cores).memory.places l.self.state)

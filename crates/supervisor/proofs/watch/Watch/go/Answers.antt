@@ -14,15 +14,15 @@ use Rattle.supervisor.proofs.watch.Watch.go.Goals as goal
 
 pub lengths-after-requires : goal.lengths-after-requires
 lengths-after-requires g c =
-    let had : Memory = g.C.Cores.memory c.args.cores.now in
-    let has : Memory = g.C.Cores.memory c.step.new.cores in
+    let had : Memory = (g.C.Cores.state c.args.cores.now).memory in
+    let has : Memory = (g.C.Cores.state c.step.new.cores).memory in
     subst (λ (us : List User). length us ≤ 30) (sym c.as_slice.ensures.value)
     (does_sound c.args.limit (seen had.places c.args.self.now.state) (seen has.places c.step.new.self) had has c.requires.before c.requires.held.sound c.in-Ok.ensures.ended).few
 
 pub returns-then-len-count-clause-texts : goal.returns-then-len-count-clause-texts
 returns-then-len-count-clause-texts g c =
-    let had : Memory = g.C.Cores.memory c.args.cores.now in
-    let has : Memory = g.C.Cores.memory c.step.new.cores in
+    let had : Memory = (g.C.Cores.state c.args.cores.now).memory in
+    let has : Memory = (g.C.Cores.state c.step.new.cores).memory in
     let old : Run = seen had.places c.args.self.now.state in
     let new : Run = seen has.places c.step.new.self in
     let rows : List Shown = rows_of c.args.self.now.texts in
@@ -34,8 +34,8 @@ returns-then-len-count-clause-texts g c =
 
 pub returns-then-len-count-clause-told : goal.returns-then-len-count-clause-told
 returns-then-len-count-clause-told g c =
-    let had : Memory = g.C.Cores.memory c.args.cores.now in
-    let has : Memory = g.C.Cores.memory c.step.new.cores in
+    let had : Memory = (g.C.Cores.state c.args.cores.now).memory in
+    let has : Memory = (g.C.Cores.state c.step.new.cores).memory in
     let old : Run = seen had.places c.args.self.now.state in
     let new : Run = seen has.places c.step.new.self in
     let rows : List Shown = rows_of c.args.self.now.texts in
@@ -47,14 +47,14 @@ returns-then-len-count-clause-told g c =
 
 pub returns-else-len-count-clause-texts : goal.returns-else-len-count-clause-texts
 returns-else-len-count-clause-texts g c =
-    let had : Memory = g.C.Cores.memory c.args.cores.now in
-    let has : Memory = g.C.Cores.memory c.step.new.cores in
+    let had : Memory = (g.C.Cores.state c.args.cores.now).memory in
+    let has : Memory = (g.C.Cores.state c.step.new.cores).memory in
     let same : length c.step.new.self.entries.items ≡ length c.args.self.now.state.entries.items = let a = c.len.ensures in let b = c.len-count.ensures in let e = c.if-len-count.false in omega (arith, a, b, e, c.step.new.self.entries.ok, c.args.self.now.state.entries.ok) in
     still_goes c.args.limit (seen had.places c.args.self.now.state) (seen has.places c.step.new.self) (rows_of c.args.self.now.texts) c.requires.quiet c.requires.held.sound same c.requires.told
 
 pub returns-else-len-count-clause-told : goal.returns-else-len-count-clause-told
 returns-else-len-count-clause-told g c =
-    let had : Memory = g.C.Cores.memory c.args.cores.now in
-    let has : Memory = g.C.Cores.memory c.step.new.cores in
+    let had : Memory = (g.C.Cores.state c.args.cores.now).memory in
+    let has : Memory = (g.C.Cores.state c.step.new.cores).memory in
     let same : length c.step.new.self.entries.items ≡ length c.args.self.now.state.entries.items = let a = c.len.ensures in let b = c.len-count.ensures in let e = c.if-len-count.false in omega (arith, a, b, e, c.step.new.self.entries.ok, c.args.self.now.state.entries.ok) in
     still_told c.args.limit (seen had.places c.args.self.now.state) (seen has.places c.step.new.self) had has (rows_of c.args.self.now.texts) c.requires.quiet c.requires.held.sound same c.requires.told c.in-Ok.ensures.ended

@@ -14,15 +14,15 @@ use Rattle.supervisor.proofs.watch.Watch.hear.Goals as goal
 
 pub lengths-after-requires : goal.lengths-after-requires
 lengths-after-requires g c =
-    let had : Memory = g.C.Cores.memory c.args.cores.now in
-    let has : Memory = g.C.Cores.memory c.step.new.cores in
+    let had : Memory = (g.C.Cores.state c.args.cores.now).memory in
+    let has : Memory = (g.C.Cores.state c.step.new.cores).memory in
     subst (λ (us : List User). length us ≤ 30) (sym c.as_slice-2.ensures.value)
     (does_sound c.args.limit (seen had.places c.args.self.now.state) (seen has.places c.step.new.self) had has c.requires.before c.requires.held.sound c.in-Ok.ensures.ended).few
 
 pub returns-clause-texts : goal.returns-clause-texts
 returns-clause-texts g c =
-    let had : Memory = g.C.Cores.memory c.args.cores.now in
-    let has : Memory = g.C.Cores.memory c.step.new.cores in
+    let had : Memory = (g.C.Cores.state c.args.cores.now).memory in
+    let has : Memory = (g.C.Cores.state c.step.new.cores).memory in
     let old : Run = seen had.places c.args.self.now.state in
     let new : Run = seen has.places c.step.new.self in
     let rows : List Shown = rows_of c.args.self.now.texts in
@@ -43,8 +43,8 @@ returns-clause-texts g c =
 
 pub returns-clause-told : goal.returns-clause-told
 returns-clause-told g c =
-    let had : Memory = g.C.Cores.memory c.args.cores.now in
-    let has : Memory = g.C.Cores.memory c.step.new.cores in
+    let had : Memory = (g.C.Cores.state c.args.cores.now).memory in
+    let has : Memory = (g.C.Cores.state c.step.new.cores).memory in
     let old : Run = seen had.places c.args.self.now.state in
     let new : Run = seen has.places c.step.new.self in
     let rows : List Shown = rows_of c.args.self.now.texts in

@@ -1,0 +1,27 @@
+-- What cores show while a user's program works in its blocks.
+use Rattle.std.proofs.Common.{◌≡◌, ◌≢◌, ℕ, ◌*◌, ◌≤◌, List, true, length, take, drop, refl, arith}
+use Rattle.plan_model.specs.Loads.{is_loaded}
+use Rattle.image_map.specs.State.{ImageState, size, places_in}
+use Rattle.user_cores.specs.Cores.{WorksIn}
+use Rattle.user_cores.specs.Works.{cores_in}
+use Rattle.user_cores.proofs.Images.{words_resident, words_stay}
+use Rattle.std.proofs.lemmas.List.{length-take-le}
+
+-- no call of the drum is made, and the others' words stay
+pub works_in : (u : ℕ) (s : ImageState) (words : List ℕ) → size s u ≤ 128 → is_loaded (places_in s) u (size s u) ≡ true → length words ≡ 32768
+    → drop (256 * size s u) words ≡ drop (256 * size s u) s.words → WorksIn u (cores_in s) (cores_in (record s { words = words }))
+works_in u s words most is len behind =
+    record {
+      rest = record {
+        others = λ v some them. words_stay s.words words s.drum.rows s.owners s.slots s.sizes u v is behind them;
+        tells = refl;
+        quotas = refl;
+        calls = refl;
+        faults = refl;
+      };
+      len = length-take-le (256 * size s u) words (omega (arith, len, most));
+      was = words_resident s.words s.drum.rows s.owners s.slots s.sizes u is;
+      mine = words_resident words s.drum.rows s.owners s.slots s.sizes u is;
+      sizes = refl;
+      places = refl;
+    }

@@ -6,7 +6,7 @@ use Rattle.ctss_types.specs.Words.{name_of}
 use Rattle.cpu_regs.specs.declared.regs.Regs.{Regs}
 use Rattle.cpu_regs.specs.Registers.{xr}
 use Rattle.program_model.specs.declared.Call.{Call}
-use Rattle.program_model.specs.declared.Call.TheVariants.{ReadLine, WriteLine, GetTime, GetMemory, GetBlocks, SetMemory, Dead, Dormant}
+use Rattle.program_model.specs.declared.Call.TheVariants.{ReadLine, WriteLine, GetTime, GetMemory, SetMemory, Dead, Dormant}
 use Rattle.program_model.specs.declared.EntryFault.{EntryFault}
 use Rattle.program_model.specs.declared.EntryFault.TheVariants.{NoSuchEntry, Outside}
 
@@ -43,9 +43,8 @@ abbrev pub simple_call : ℕ → Result Call EntryFault
 simple_call name =
     if nat_eq name (name_of (codes "GETTM")) then Ok GetTime
     else (if nat_eq name (name_of (codes "GETMEM")) then Ok GetMemory
-    else (if nat_eq name (name_of (codes "GETUSR")) then Ok GetBlocks
     else (if nat_eq name (name_of (codes "DEAD")) then Ok Dead
-    else (if nat_eq name (name_of (codes "DORMNT")) then Ok Dormant else Err NoSuchEntry))))
+    else (if nat_eq name (name_of (codes "DORMNT")) then Ok Dormant else Err NoSuchEntry)))
 
 -- the call of an entry by name
 abbrev pub call_of : Regs → List ℕ → ℕ → Result Call EntryFault

@@ -21,7 +21,6 @@ pub enum Call {
     GetTime,
     /// GETMEM: the size in words.
     GetMemory,
-    GetBlocks,
     /// SETMEM: another size.
     SetMemory { blocks: u16 },
     /// DEAD: the program is over and goes.

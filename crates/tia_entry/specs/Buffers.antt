@@ -1,7 +1,7 @@
 -- Buffers of calls.
 use Rattle.std.specs.Prelude.{◌≡◌, ℕ, ◌+◌, ◌≤◌, true}
 use Rattle.program_model.specs.declared.Call.{Call}
-use Rattle.program_model.specs.declared.Call.TheVariants.{ReadLine, WriteLine, GetTime, GetMemory, GetBlocks, SetMemory, Dead, Dormant}
+use Rattle.program_model.specs.declared.Call.TheVariants.{ReadLine, WriteLine, GetTime, GetMemory, SetMemory, Dead, Dormant}
 use Rattle.program_model.specs.Calls.{is_line_count}
 use Rattle.tia_entry.specs.declared.call.LineEntry.{LineEntry}
 use Rattle.tia_entry.specs.declared.call.LineEntry.TheVariants.{Read, Write}
@@ -12,7 +12,6 @@ HasBuffer words (ReadLine at count) = is_line_count count ≡ true → at + coun
 HasBuffer words (WriteLine at count) = is_line_count count ≡ true → at + count ≤ words
 HasBuffer words GetTime = Unit {0}
 HasBuffer words GetMemory = Unit {0}
-HasBuffer words GetBlocks = Unit {0}
 HasBuffer words (SetMemory blocks) = Unit {0}
 HasBuffer words Dead = Unit {0}
 HasBuffer words Dormant = Unit {0}

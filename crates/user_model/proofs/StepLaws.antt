@@ -11,7 +11,7 @@ use Rattle.file_model.specs.Files.{got}
 use Rattle.machine_model.specs.Step.{Step, went, halt, entry, illegal, outside}
 use Rattle.machine_model.specs.Machine.{table}
 use Rattle.program_model.specs.declared.Call.{Call}
-use Rattle.program_model.specs.declared.Call.TheVariants.{ReadLine, WriteLine, GetTime, GetMemory, GetBlocks, SetMemory, Dead as EndsDead, Dormant as EndsDormant}
+use Rattle.program_model.specs.declared.Call.TheVariants.{ReadLine, WriteLine, GetTime, GetMemory, SetMemory, Dead as EndsDead, Dormant as EndsDormant}
 use Rattle.program_model.specs.declared.EntryFault.{EntryFault}
 use Rattle.program_model.specs.declared.EntryFault.TheVariants.{NoSuchEntry, Outside}
 use Rattle.program_model.specs.declared.LoadFault.{LoadFault}
@@ -40,7 +40,6 @@ call_front (ReadLine at count) i (Some l) n t = if_front (is_line_count count) _
 call_front (WriteLine at count) i l n t = if_front (is_line_count count) _ _ refl refl
 call_front GetTime i l n t = refl
 call_front GetMemory i l n t = refl
-call_front GetBlocks i l n t = refl
 call_front (SetMemory blocks) i l n t = if_front (nat_eq blocks 0 || nat_lt i.account.blocks blocks) _ _ refl (if_front (nat_eq blocks i.blocks) _ _ refl refl)
 call_front EndsDead i l n t = refl
 call_front EndsDormant i l n t = refl
@@ -102,7 +101,6 @@ call_clock (ReadLine at count) i l n t = refl
 call_clock (WriteLine at count) i l n t = refl
 call_clock GetTime i l n t = refl
 call_clock GetMemory i l n t = refl
-call_clock GetBlocks i l n t = refl
 call_clock (SetMemory blocks) i l n t = refl
 call_clock EndsDead i l n t = refl
 call_clock EndsDormant i l n t = refl

@@ -10,7 +10,7 @@ use Rattle.file_model.specs.Files.{got}
 use Rattle.machine_model.specs.Step.{Step, went, halt, entry, illegal, outside}
 use Rattle.machine_model.specs.Machine.{table}
 use Rattle.program_model.specs.declared.Call.{Call}
-use Rattle.program_model.specs.declared.Call.TheVariants.{ReadLine, WriteLine, GetTime, GetMemory, GetBlocks, SetMemory, Dead as EndsDead, Dormant as EndsDormant}
+use Rattle.program_model.specs.declared.Call.TheVariants.{ReadLine, WriteLine, GetTime, GetMemory, SetMemory, Dead as EndsDead, Dormant as EndsDormant}
 use Rattle.program_model.specs.declared.EntryFault.{EntryFault}
 use Rattle.program_model.specs.declared.EntryFault.TheVariants.{NoSuchEntry, Outside}
 use Rattle.program_model.specs.declared.LoadFault.{LoadFault}
@@ -40,7 +40,6 @@ call_stays (ReadLine at count) i (Some l) n t = either_way (is_line_count count)
 call_stays (WriteLine at count) i l n t = either_way (is_line_count count) i _ _ (λ e. refl) (λ e. refl)
 call_stays GetTime i l n t = λ e. refl
 call_stays GetMemory i l n t = λ e. refl
-call_stays GetBlocks i l n t = λ e. refl
 call_stays (SetMemory blocks) i l n t = either_way (nat_eq blocks 0 || nat_lt i.account.blocks blocks) i _ _ (λ e. refl) (either_way (nat_eq blocks i.blocks) i _ _ (λ e. refl) (λ e. cc))
 call_stays EndsDead i l n t = λ e. cc
 call_stays EndsDormant i l n t = λ e. cc

@@ -7,7 +7,7 @@ use Rattle.file_model.specs.Files.{got}
 use Rattle.machine_model.specs.Step.{Step, went, halt, entry, illegal, outside}
 use Rattle.machine_model.specs.Machine.{table}
 use Rattle.program_model.specs.declared.Call.{Call}
-use Rattle.program_model.specs.declared.Call.TheVariants.{ReadLine, WriteLine, GetTime, GetMemory, GetBlocks, SetMemory, Dead, Dormant}
+use Rattle.program_model.specs.declared.Call.TheVariants.{ReadLine, WriteLine, GetTime, GetMemory, SetMemory, Dead, Dormant}
 use Rattle.program_model.specs.declared.EntryFault.{EntryFault}
 use Rattle.program_model.specs.declared.EntryFault.TheVariants.{NoSuchEntry, Outside}
 use Rattle.program_model.specs.declared.ProgramState.TheVariants as program
@@ -53,7 +53,6 @@ call_row (ReadLine at count) i l n t = if is_line_count count then read_line i a
 call_row (WriteLine at count) i l n t = if is_line_count count then write_line i at count else goes (replied i 1 7 None)
 call_row GetTime i l n t = goes (replied i 0 0 (Some t))
 call_row GetMemory i l n t = goes (replied i 0 0 (Some (256 * i.blocks)))
-call_row GetBlocks i l n t = goes (replied i 0 0 (Some i.blocks))
 call_row (SetMemory blocks) i l n t = set_memory i blocks
 call_row Dead i l n t = record { inner = without_program i; written = ready_text n ∷ []; front = []; ending = Stopped }
 call_row Dormant i l n t = stops [] (replied i 0 0 None) n

@@ -261,23 +261,6 @@ impl Session {
         })
     }
 
-    /// GETUSR: the size in blocks.
-    #[tactic(auto, using(user_model::proofs::CoreLaws::recut_same))]
-    fn tell_blocks<M: MemoryPort>(&mut self, core: &M, now: u64) -> Turn
-        requires on { self.old.on ≡ true }
-        requires size { length (M.words core.now) ≡ 256 * self.old.inner.blocks }
-        requires fits { self.old.own < 2 ^ 64 - 1 }
-        ensures row { Enters (Ok Call.GetBlocks) result now self.old self.new (M.words core.now) (M.words core.now) }
-        ensures account { self.new.inner.account ≡ self.old.inner.account }
-    {
-        let blocks = u64::from(self.blocks());
-        self.reply(0, 0, Some(blocks));
-        Turn::Done(Step {
-            ending: Ending::Went,
-            clock: false,
-        })
-    }
-
     /// DEAD: the program is over and goes.
     #[tactic(auto, using(user_model::proofs::CoreLaws::recut_none))]
     fn end_dead<M: MemoryPort>(&mut self, core: &M, now: u64) -> Result<Turn, NoMemory>
@@ -346,7 +329,6 @@ impl Session {
             Call::WriteLine { at, count } => self.write_line(core, at, count, now),
             Call::GetTime => Ok(self.tell_time(core, now)),
             Call::GetMemory => Ok(self.tell_memory(core, now)),
-            Call::GetBlocks => Ok(self.tell_blocks(core, now)),
             Call::SetMemory { blocks } => Ok(self.set_memory(core, blocks, now)),
             Call::Dead => self.end_dead(core, now),
             Call::Dormant => self.end_dormant(core, now),

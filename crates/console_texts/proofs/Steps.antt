@@ -1,11 +1,12 @@
 -- What each step of a run adds to transcripts and schedule, and what it leaves of the consoles.
 use Rattle.std.proofs.Common.{◌≡◌, ◌≢◌, ℕ, zero, suc, ◌-◌, ◌<◌, Bool, true, false, cond, nat_eq, nat_le, Option, Some, None, List, [], ◌∷◌, ◌++◌, All, length, get_or, set, append_assoc, codes, refl, sym, ◌∙◌, ap, subst, arith, ◌⊎◌, inl, inr, eq-eqb}
 use Rattle.std.specs.List.{slice_get}
+use Rattle.std.specs.Option.{is_some}
 use Rattle.std.proofs.lemmas.Option.{slice_get-get_or}
 use Rattle.std.proofs.lemmas.List.{append-nil, map-set, length-map, get_or-set_same, get_or-set_other}
 use Rattle.std.proofs.Math.ListN.{get_or-map}
 use Rattle.time_sharing.specs.Machine.{Line, Item, CutKind, Quit, Hang, Spent, End, Ending, Went, Stopped, Resized, Replaced, LoggedOut}
-use Rattle.time_sharing.specs.System.{Timed, Service, Console, Off, On, Password, Session, Entry, Taken, Login, Refused, Idle, Swap, Serve, Clock, Common, EventKind, LineTaken, Cause, Stop, Preempt, kind_of, cause_of, service_entry, clock_entry, consoles_after, without, out_of, at}
+use Rattle.time_sharing.specs.System.{Timed, Service, Console, Off, On, Password, Session, Entry, Taken, Login, Refused, Idle, Swap, Serve, Clock, Common, EventKind, LineTaken, Cause, Stop, Preempt, kind_of, cause_of, service_after, service_entry, clock_entry, consoles_after, without, out_of, at}
 use Rattle.time_sharing.specs.Texts.{refusals}
 use Rattle.user_model.specs.User.{User, typed, opened, cut, can_step, step, ending, asks_clock}
 use Rattle.user_model.specs.Session.{nobody}
@@ -34,11 +35,12 @@ pub record Tells (r s : Run) : Type 0 where
   pub grows : Grows r s
   pub refused : (c : ℕ) → 0 < c → refusals c grows.more ≡ refusal_lines (nat_eq (refused_by s.system.entries) c)
 
--- any other step: no login is refused and no session begins, and without an entry the consoles stay
+-- any other step: no login is refused and no session begins; without an entry, and where a service is open behind it, the consoles stay
 pub record Rests (r s : Run) : Type 0 where
   pub grows : Grows r s
   pub none : (c : ℕ) → refusals c grows.more ≡ []
   pub still : grows.more ≡ [] → s.system.consoles ≡ r.system.consoles
+  pub served : is_some s.system.service ≡ true → s.system.consoles ≡ r.system.consoles
   pub leaves : (c : ℕ) → goes_on (at Off r.system.consoles c) (at Off s.system.consoles c) false ≡ true
 
 -- transcripts
@@ -251,6 +253,7 @@ rests_same r s more grown entries none same =
       grows = record { grown = grown; more = more; entries = entries };
       none = none;
       still = λ h. same;
+      served = λ h. same;
       leaves = λ c. subst (λ (cs : List Console). goes_on (at Off r.system.consoles c) (at Off cs c) false ≡ true) (sym same) (still_goes_on (at Off r.system.consoles c));
     }
 
@@ -289,6 +292,14 @@ stepped_still asked t u v Replaced left cs h = refl
 stepped_still true t u v LoggedOut left cs h = cc h
 stepped_still false t u v LoggedOut left cs h = cc h
 
+-- where a service is open behind the step, the session goes on
+stepped_served : (u : ℕ) (v : Service) (e : Ending) (left : Bool) (cs : List Console) → is_some (service_after v (cause_of e left)) ≡ true → consoles_after e u cs ≡ cs
+stepped_served u v Went left cs h = refl
+stepped_served u v Stopped left cs h = refl
+stepped_served u v Resized left cs h = refl
+stepped_served u v Replaced left cs h = refl
+stepped_served u v LoggedOut left cs h = cc h
+
 stepped_leaves : (e : Ending) (u c : ℕ) (cs : List Console) → goes_on (at Off cs c) (at Off (consoles_after e u cs) c) false ≡ true
 stepped_leaves Went u c cs = still_goes_on (at Off cs c)
 stepped_leaves Stopped u c cs = still_goes_on (at Off cs c)
@@ -310,6 +321,7 @@ stepped_rests v r who =
       };
       none = λ c. stepped_none (asks_clock p) r.system.clock v.user v (cause_of (ending r.system.clock p) left) c;
       still = λ h. stepped_still (asks_clock p) r.system.clock v.user v (ending r.system.clock p) left r.system.consoles h;
+      served = λ h. stepped_served v.user v (ending r.system.clock p) left r.system.consoles h;
       leaves = λ c. stepped_leaves (ending r.system.clock p) v.user c r.system.consoles;
     }
 

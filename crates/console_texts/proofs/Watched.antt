@@ -1,5 +1,6 @@
 -- The consoles' texts behind each step of a run, and along whole runs.
 use Rattle.std.proofs.Common.{◌≡◌, ℕ, zero, suc, ◌<◌, ◌≤◌, Bool, true, false, nat_eq, Option, Some, None, List, [], ◌∷◌, ◌++◌, All, length, map, drop, cond, refl, sym, ◌∙◌, ap, subst, arith, lt-ltb, le-ltb}
+use Rattle.std.specs.Option.{is_some}
 use Rattle.std.proofs.lemmas.List.{length-append}
 use Rattle.std.proofs.Math.ListN.{get_or-map}
 use Rattle.std.proofs.Math.Seq.{drop-append_seam}
@@ -209,7 +210,7 @@ shown_rest limit r after rows quiet sound area h =
     let each = by_rest r r.system t after k.grows.more k.grows.grown area k.grows.entries k.none k.leaves in
     (texts_are r r.system t f each 1 rows (omega arith) h.numbered h.are h.fit, rows_still r r.system t f each rows h)
 
--- a step that writes no entry
+-- a step that leaves the consoles as they are
 
 said_still : (k : Console) (ts us : Transcripts) → said_by false k k ts us ≡ wrote (user_in k) ts us
 said_still Off ts us = refl
@@ -221,13 +222,14 @@ said_still (Session u) ts us = by_test (nat_eq u 0)
     by_test true = refl
     by_test false = refl
 
-by_nothing : (r : Run) (s t : State) → Extends (transcripts_of s.users) (transcripts_of t.users) → t.entries ≡ s.entries ++ [] → t.consoles ≡ s.consoles → (x : Shown) → Row r s t (λ (y : Shown). y) x
-by_nothing r s t grown entries same x is fits pos =
+by_same : (r : Run) (s t : State) (more : List Entry) → Extends (transcripts_of s.users) (transcripts_of t.users) → t.entries ≡ s.entries ++ more → ((c : ℕ) → refusals c more ≡ [])
+    → t.consoles ≡ s.consoles → (x : Shown) → Row r s t (λ (y : Shown). y) x
+by_same r s t more grown entries none same x is fits pos =
     let ts : Transcripts = transcripts_of s.users in
     let us : Transcripts = transcripts_of t.users in
     let now : at Off t.consoles x.number ≡ x.console = ap (λ (cs : List Console). at Off cs x.number) same ∙ sym is in (
       text_grown ts us grown (user_in x.console) x fits
-          ∙ ap (λ (ls : List Line). text_of ts x ++ sent ls) (sym (said_is r x.number s t [] false entries refl ∙ ap (λ (c : Console). said_by false c (at Off t.consoles x.number) ts us) (sym is) ∙ ap (λ (c : Console). said_by false x.console c ts us) now ∙ said_still x.console ts us)),
+          ∙ ap (λ (ls : List Line). text_of ts x ++ sent ls) (sym (said_is r x.number s t more false entries (none x.number) ∙ ap (λ (c : Console). said_by false c (at Off t.consoles x.number) ts us) (sym is) ∙ ap (λ (c : Console). said_by false x.console c ts us) now ∙ said_still x.console ts us)),
       refl,
       sym now,
       fit_grown ts us grown (user_in x.console) x fits,
@@ -241,21 +243,36 @@ none_more : (xs ys more : List Entry) → ys ≡ xs ++ more → length ys ≡ le
 none_more xs ys [] e n = refl
 none_more xs ys (m ∷ more) e n = let k = ap (λ (es : List Entry). length es) e in let l = length-append xs (m ∷ more) in absurd (omega (arith, k, l, n))
 
-pub shown_still : (limit : ℕ) (r : Run) (rows : List Shown) → due_of r.system.events r.system.clock ≡ None → Sound r → length (next limit r).system.entries ≡ length r.system.entries
+shown_same : (limit : ℕ) (r : Run) (rows : List Shown) → due_of r.system.events r.system.clock ≡ None → Sound r → (next limit r).system.consoles ≡ r.system.consoles
     → AreShown r.system.consoles (transcripts_of r.system.users) rows
     → (texts_next limit r (map (text_of (transcripts_of r.system.users)) rows) ≡ map (text_of (transcripts_of (next limit r).system.users)) rows)
     × AreShown (next limit r).system.consoles (transcripts_of (next limit r).system.users) rows
 unfolding texts_next
-shown_still limit r rows quiet sound same h =
+shown_same limit r rows quiet sound same h =
     let k = next_rests limit r quiet sound in
     let t : State = (next limit r).system in
-    let none = none_more r.system.entries t.entries k.grows.more k.grows.entries same in
-    let each = by_nothing r r.system t k.grows.grown (k.grows.entries ∙ ap (λ (es : List Entry). r.system.entries ++ es) none) (k.still none) in
+    let each = by_same r r.system t k.grows.more k.grows.grown k.grows.entries k.none same in
     let id : Shown → Shown = λ y. y in
     let is : map id rows ≡ rows = same_list id rows (λ x. refl) in (
       texts_are r r.system t id each 1 rows (omega arith) h.numbered h.are h.fit ∙ ap (map (text_of (transcripts_of t.users))) is,
       subst (AreShown t.consoles (transcripts_of t.users)) is (rows_still r r.system t id each rows h),
     )
+
+-- a step that writes no entry
+pub shown_still : (limit : ℕ) (r : Run) (rows : List Shown) → due_of r.system.events r.system.clock ≡ None → Sound r → length (next limit r).system.entries ≡ length r.system.entries
+    → AreShown r.system.consoles (transcripts_of r.system.users) rows
+    → (texts_next limit r (map (text_of (transcripts_of r.system.users)) rows) ≡ map (text_of (transcripts_of (next limit r).system.users)) rows)
+    × AreShown (next limit r).system.consoles (transcripts_of (next limit r).system.users) rows
+shown_still limit r rows quiet sound same h =
+    let k = next_rests limit r quiet sound in
+    shown_same limit r rows quiet sound (k.still (none_more r.system.entries (next limit r).system.entries k.grows.more k.grows.entries same)) h
+
+-- a step behind which a service is open
+pub shown_served : (limit : ℕ) (r : Run) (rows : List Shown) → due_of r.system.events r.system.clock ≡ None → Sound r → is_some (next limit r).system.service ≡ true
+    → AreShown r.system.consoles (transcripts_of r.system.users) rows
+    → (texts_next limit r (map (text_of (transcripts_of r.system.users)) rows) ≡ map (text_of (transcripts_of (next limit r).system.users)) rows)
+    × AreShown (next limit r).system.consoles (transcripts_of (next limit r).system.users) rows
+shown_served limit r rows quiet sound opened h = shown_same limit r rows quiet sound ((next_rests limit r quiet sound).served opened) h
 
 -- whole runs
 

@@ -13,7 +13,7 @@ use Rattle.system_model.proofs.JoinedLaws.{joined_same, sound_joined}
 use Rattle.console_texts.specs.Parts.{Shown, Transcripts, AreLengths, text_of}
 use Rattle.console_texts.specs.Following.{AreShown, followed, settled_in}
 use Rattle.console_texts.specs.Watching.{transcripts_of, texts_next, texts_to, AfterShown, refused_by}
-use Rattle.console_texts.proofs.Watched.{shown_event, shown_rest, shown_still, texts_on, texts_done, shown_none, shown_on}
+use Rattle.console_texts.proofs.Watched.{shown_event, shown_rest, shown_served, texts_on, texts_done, shown_none, shown_on}
 use Rattle.user_cores.specs.Memory.{Memory}
 use Rattle.supervisor.specs.Shows.{GoesOn, HasTexts, HasTextsPart, HasTextsToLoad}
 use Rattle.supervisor.specs.Steps.{Does, Stays}
@@ -104,21 +104,21 @@ pub rest_same : (limit : ℕ) (old new : Run) (rows : List Shown) (after : List 
 unfolding joined
 rest_same limit old new rows after w = refl
 
--- a step that writes no entry
-pub still_goes : (limit : ℕ) (old new : Run) (rows : List Shown) → due_of old.system.events old.system.clock ≡ None → Sound old → length new.system.entries ≡ length old.system.entries
+-- a step behind which a service is open
+pub served_goes : (limit : ℕ) (old new : Run) (rows : List Shown) → due_of old.system.events old.system.clock ≡ None → Sound old → is_some new.system.service ≡ true
     → AreShown old.system.consoles (transcripts_of old.system.users) rows → GoesOn limit old new (map (text_of (transcripts_of old.system.users)) rows) (map (text_of (transcripts_of new.system.users)) rows)
 unfolding joined
-still_goes limit old new rows quiet sound same told before after is =
-    let n = ap (λ (r : Run). length r.system.entries) (sym is) ∙ same in
-    let k = shown_still limit (joined before old) rows quiet (sound_joined before old sound) n (told_joined before old rows told) in
+served_goes limit old new rows quiet sound opened told before after is =
+    let serves = ap (λ (r : Run). is_some r.system.service) (sym is) ∙ opened in
+    let k = shown_served limit (joined before old) rows quiet (sound_joined before old sound) serves (told_joined before old rows told) in
     sym (ap (texts_next limit (joined before old)) (texts_same before old rows) ∙ k.0 ∙ ap (λ (s : Run). map (text_of (transcripts_of s.system.users)) rows) (sym is) ∙ sym (texts_same after new rows))
 
-pub still_told : (limit : ℕ) (old new : Run) (had has : Memory) (rows : List Shown) → due_of old.system.events old.system.clock ≡ None → Sound old → length new.system.entries ≡ length old.system.entries
+pub served_told : (limit : ℕ) (old new : Run) (had has : Memory) (rows : List Shown) → due_of old.system.events old.system.clock ≡ None → Sound old → is_some new.system.service ≡ true
     → AreShown old.system.consoles (transcripts_of old.system.users) rows → Does (next limit) old new had has → AreShown new.system.consoles (transcripts_of new.system.users) rows
 unfolding joined
-still_told limit old new had has rows quiet sound same told d =
-    let n = ap (λ (r : Run). length r.system.entries) (sym d.is) ∙ same in
-    let k = shown_still limit (joined d.before old) rows quiet (sound_joined d.before old sound) n (told_joined d.before old rows told) in
+served_told limit old new had has rows quiet sound opened told d =
+    let serves = ap (λ (r : Run). is_some r.system.service) (sym d.is) ∙ opened in
+    let k = shown_served limit (joined d.before old) rows quiet (sound_joined d.before old sound) serves (told_joined d.before old rows told) in
     told_apart d.after new rows (subst (λ (s : Run). AreShown s.system.consoles (transcripts_of s.system.users) rows) (sym d.is) k.1)
 
 -- whole runs

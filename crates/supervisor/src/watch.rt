@@ -136,16 +136,17 @@ impl Watch {
             (texts_of self.new.state.sessions.items self.new.texts ≡ texts_of self.old.state.sessions.items self.old.texts) }
         ensures told { IsTold self.new.state.consoles.items self.new.state.sessions.items self.new.texts }
     {
-        let count = self.state.entries.len();
         match self.state.step(cores, limit) {
             Ok(()) => {}
             Err(fault) => return Err(fault),
         }
-        if self.state.entries.len() != count {
-            let after = lengths(self.state.sessions.as_slice());
-            self.texts
-                .settle(self.state.consoles.as_slice(), after.as_slice());
+        // Where a service is open, no session has ended.
+        if self.state.service.is_some() {
+            return Ok(());
         }
+        let after = lengths(self.state.sessions.as_slice());
+        self.texts
+            .settle(self.state.consoles.as_slice(), after.as_slice());
         Ok(())
     }
 

@@ -87,6 +87,7 @@ pub fn is_line_count(count: u16) -> bool
 }
 
 /// What a program's call asks for, by the name of the entry. A fault changes nothing.
+#[tactic(auto, unfolding(ctss_types::specs::Words::name_of))]
 pub fn read_call<M: MemoryPort>(regs: &Regs, core: &M, name: Word) -> Result<Call, EntryFault>
     ensures value { result ≡ call_of regs.now (M.words core.now) name }
     ensures within { IfOk result (HasBuffer (length (M.words core.now))) }
@@ -110,6 +111,7 @@ pub fn read_call<M: MemoryPort>(regs: &Regs, core: &M, name: Word) -> Result<Cal
 }
 
 /// The calls without arguments.
+#[tactic(auto, unfolding(ctss_types::specs::Words::name_of))]
 fn simple_call(name: Word) -> Result<Call, EntryFault>
     ensures { result ≡ simple_call name }
 {

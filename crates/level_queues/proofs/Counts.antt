@@ -43,20 +43,8 @@ count-out : (v u : ℕ) (rows : List (List Waiting)) → count v (map (without_u
 count-out v u [] = omega arith
 count-out v u (row ∷ rows) = omega (arith, times-out v u row, count-out v u rows)
 
-times-less_by : (v u : ℕ) (b : Bool) (x : Waiting) → nat_eq x.user u ≡ b → nat_eq (one_less u x).user v ≡ nat_eq x.user v
-times-less_by v u true x e = rw e refl
-times-less_by v u false x e = rw e refl
-
-times-less : (v u : ℕ) (row : List Waiting) → times v (map (one_less u) row) ≡ times v row
-times-less v u [] = refl
-times-less v u (x ∷ xs) = rw (times-less_by v u (nat_eq x.user u) x refl, times-less v u xs) refl
-
-count-less : (v u : ℕ) (rows : List (List Waiting)) → count v (map (map (one_less u)) rows) ≡ count v rows
-count-less v u [] = refl
-count-less v u (row ∷ rows) = rw (times-less v u row, count-less v u rows) refl
-
 -- a user that isn't held counts nothing
-none_times : (u : ℕ) (xs : List Waiting) → list_any (is_user u) xs ≡ false → times u xs ≡ 0
+pub none_times : (u : ℕ) (xs : List Waiting) → list_any (is_user u) xs ≡ false → times u xs ≡ 0
 none_times u [] h = refl
 none_times u (x ∷ xs) h = by_test (none_times u xs) (nat_eq x.user u) h
   where
@@ -64,7 +52,7 @@ none_times u (x ∷ xs) h = by_test (none_times u xs) (nat_eq x.user u) h
     by_test rest true h = cc
     by_test rest false h = let r = rest h in omega (arith, r)
 
-none_count : (u : ℕ) (rows : List (List Waiting)) → is_in u rows ≡ false → count u rows ≡ 0
+pub none_count : (u : ℕ) (rows : List (List Waiting)) → is_in u rows ≡ false → count u rows ≡ 0
 none_count u [] h = refl
 none_count u (row ∷ rows) h = by_test (none_count u rows) (list_any (is_user u) row) refl h
   where
@@ -199,16 +187,6 @@ sound_out wq quantum rows u sound =
       nine = simp length-map sound.nine;
       once = λ v. let a = count-out v u rows in let b = sound.once v in omega (arith, a, b);
       known = λ v h. let a = count-out v u rows in let more : 1 ≤ count v rows = omega (arith, a, h) in sound.known v more;
-    }
-
-pub sound_less : (wq quantum : ℕ) (rows : List (List Waiting)) (u : ℕ) → IsSound wq quantum rows → IsSound wq quantum (map (map (one_less u)) rows)
-sound_less wq quantum rows u sound =
-    record {
-      some = sound.some;
-      small = sound.small;
-      nine = simp length-map sound.nine;
-      once = λ v. let a = count-less v u rows in let b = sound.once v in omega (arith, a, b);
-      known = λ v h. let a = count-less v u rows in let more : 1 ≤ count v rows = omega (arith, a, h) in sound.known v more;
     }
 
 times-spent_by : (v n u : ℕ) (b : Bool) (x : Waiting) → nat_eq x.user u ≡ b → nat_eq (less n u x).user v ≡ nat_eq x.user v

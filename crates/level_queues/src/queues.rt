@@ -3,7 +3,7 @@ ghost use Rattle.plan_model.specs.Levels.{empty_levels, chosen, waits, entered, 
 ghost use Rattle.plan_model.specs.Spent.{spent};
 
 use crate::row::{
-    Row, add_in, drop_in_all, first_in, has_in_any, level_of, spend_in_all, tick_in_all,
+    Row, add_in, drop_in_all, first_in, has_in_any, level_of, lowest_in, spend_in_all,
 };
 use ctss_types::{UserNo, Waiting};
 use std::marker::Model;
@@ -29,17 +29,20 @@ pub struct Queues {
     wq: u32,
     quantum: u64,
     rows: [Row; 9],
+    /// The levels below it have no users, so that nobody looks for one there.
+    low: u8,
 }
 
 impl Model for Queues {
+    ghost use Rattle.std.specs.Prelude.{◌≤◌};
     ghost use Rattle.plan_model.specs.Levels.{Levels};
-    ghost use Rattle.level_queues.specs.Sound.{IsSound};
+    ghost use Rattle.level_queues.specs.Sound.{IsSound, AreEmpty};
 
     ghost Value = { Levels };
 
     ghost view = { λ q. record { wq = q.wq; quantum = q.quantum; rows = q.rows } };
 
-    ghost invariant = { λ q. IsSound q.wq q.quantum q.rows };
+    ghost invariant = { λ q. IsSound q.wq q.quantum q.rows × AreEmpty q.low q.rows × (q.low ≤ 8) };
 }
 
 impl Queues {
@@ -60,7 +63,12 @@ impl Queues {
             Row::new(),
             Row::new(),
         ];
-        Queues { wq, quantum, rows }
+        Queues {
+            wq,
+            quantum,
+            rows,
+            low: 8,
+        }
     }
 
     #[tactic(auto, unfolding(plan_model::specs::Levels::chosen))]
@@ -69,7 +77,7 @@ impl Queues {
         ensures small { IfSome result (λ x. x.0 ≤ 8) }
         ensures known { IfSome result (λ x. (1 ≤ x.1.user) × (x.1.user ≤ 30)) }
     {
-        first_in(&self.rows)
+        first_in(&self.rows, self.low)
     }
 
     /// The user that is served next: the head of the lowest row that isn't empty.
@@ -102,6 +110,7 @@ impl Queues {
         ensures { self.new ≡ dropped user self.old }
     {
         drop_in_all(&mut self.rows, user.number());
+        self.low = lowest_in(&self.rows, self.low);
     }
 
     #[tactic(auto, using(crate::proofs::Counts::entering), unfolding(plan_model::specs::Levels::waits))]
@@ -119,6 +128,7 @@ impl Queues {
                 left,
             },
         );
+        self.low = self.low.min(level);
     }
 
     /// The user enters at the level of so many blocks, with that level's full time.
@@ -136,7 +146,7 @@ impl Queues {
     fn tick(&mut self, user: UserNo)
         ensures { self.new ≡ ticked user self.old }
     {
-        tick_in_all(&mut self.rows, user.number());
+        spend_in_all(&mut self.rows, self.low, user.number(), 1);
     }
 
     /// So many ticks of a user's time go by; it keeps its place.
@@ -144,7 +154,7 @@ impl Queues {
     pub fn spend(&mut self, user: UserNo, ticks: u64)
         ensures { self.new ≡ spent ticks user self.old }
     {
-        spend_in_all(&mut self.rows, user.number(), ticks);
+        spend_in_all(&mut self.rows, self.low, user.number(), ticks);
     }
 
     #[tactic(auto, using(crate::proofs::Counts::not_waits), unfolding(plan_model::specs::Levels::sunk))]

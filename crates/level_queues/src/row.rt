@@ -1,7 +1,8 @@
 ghost use Rattle.std.specs.Prelude.{◌≡◌, ◌<◌, ◌≤◌, ◌+◌, ◌*◌, ◌/◌, ◌^◌, ◌++◌, ◌∷◌, [], ℕ, false, map, length, IfSome, set, get_or};
 ghost use Rattle.std.specs.List.{list_any};
 ghost use Rattle.plan_model.specs.Spent.{less};
-ghost use Rattle.plan_model.specs.Levels.{is_user, is_in, without_user, one_less, first_of, head_of, greatest, level_of_words};
+ghost use Rattle.level_queues.specs.Sound.{times, count, AreEmpty};
+ghost use Rattle.plan_model.specs.Levels.{is_user, is_in, without_user, first_of, head_of, greatest, level_of_words};
 ghost use Rattle.arrayvec.specs.ArrayVec.{array_vec_len};
 
 use arrayvec::ArrayVec;
@@ -58,18 +59,13 @@ impl Row {
         self.items.retain(|waiting| waiting.user != user);
     }
 
-    /// A tick of a user's quantum goes by.
-    pub(crate) fn tick(&mut self, user: u8)
-        ensures { self.new ≡ map (one_less user) self.old }
+    /// So many ticks of a user's quantum go by, if the user stands in the row; and whether it does.
+    pub(crate) fn spend(&mut self, user: u8, ticks: u64) -> bool
+        requires { times user self.old ≤ 1 }
+        ensures spent { self.new ≡ map (less ticks user) self.old }
+        ensures stands { result ≡ list_any (is_user user) self.old }
     {
-        tick_each(self.items.as_mut_slice(), user);
-    }
-
-    /// So many ticks of a user's quantum go by.
-    pub(crate) fn spend(&mut self, user: u8, ticks: u64)
-        ensures { self.new ≡ map (less ticks user) self.old }
-    {
-        spend_each(self.items.as_mut_slice(), user, ticks);
+        spend_each(self.items.as_mut_slice(), user, ticks)
     }
 
     /// The next user.
@@ -80,48 +76,31 @@ impl Row {
     }
 }
 
-fn tick_one(waiting: &mut Waiting, user: u8)
-    ensures { waiting.new ≡ one_less user waiting.old }
+/// So many ticks of a user's quantum go by, if the user is among these; and whether it is.
+fn spend_each(items: &mut [Waiting], user: u8, ticks: u64) -> bool
+    requires { times user items.old ≤ 1 }
+    ensures spent { items.new ≡ map (less ticks user) items.old }
+    ensures stands { result ≡ list_any (is_user user) items.old }
 {
-    if waiting.user == user {
-        waiting.left = waiting.left.saturating_sub(1);
+    for i in 0..items.len() {
+        if items[i].user == user {
+            items[i].left = items[i].left.saturating_sub(ticks);
+            return true;
+        }
     }
+    false
 }
 
-#[tactic(auto, using(crate::proofs::Counts::over_more))]
-fn tick_each(items: &mut [Waiting], user: u8)
-    ensures { items.new ≡ map (one_less user) items.old }
-{
-    for waiting in items.iter_mut() {
-        tick_one(waiting, user);
-    }
-}
-
-fn spend_one(waiting: &mut Waiting, user: u8, ticks: u64)
-    ensures { waiting.new ≡ less ticks user waiting.old }
-{
-    if waiting.user != user {
-        return;
-    }
-    waiting.left = waiting.left.saturating_sub(ticks);
-}
-
-#[tactic(auto, using(crate::proofs::Counts::over_more))]
-fn spend_each(items: &mut [Waiting], user: u8, ticks: u64)
-    ensures { items.new ≡ map (less ticks user) items.old }
-{
-    for waiting in items.iter_mut() {
-        spend_one(waiting, user, ticks);
-    }
-}
-
-/// So many ticks of a user's quantum go by, wherever it stands.
-#[tactic(auto, using(crate::proofs::Counts::over_more))]
-pub(crate) fn spend_in_all(rows: &mut [Row], user: u8, ticks: u64)
+/// So many ticks of a user's quantum go by, in whichever row it stands. The first `low` rows have no users.
+pub(crate) fn spend_in_all(rows: &mut [Row], low: u8, user: u8, ticks: u64)
+    requires once { count user rows.old ≤ 1 }
+    requires empty { AreEmpty low rows.old }
     ensures { rows.new ≡ map (map (less ticks user)) rows.old }
 {
-    for row in rows.iter_mut() {
-        row.spend(user, ticks);
+    for i in low as usize..rows.len() {
+        if rows[i].spend(user, ticks) {
+            return;
+        }
     }
 }
 
@@ -132,16 +111,6 @@ pub(crate) fn drop_in_all(rows: &mut [Row], user: u8)
 {
     for row in rows.iter_mut() {
         row.drop_user(user);
-    }
-}
-
-/// A tick of a user's quantum goes by, wherever it stands.
-#[tactic(auto, using(crate::proofs::Counts::over_more))]
-pub(crate) fn tick_in_all(rows: &mut [Row], user: u8)
-    ensures { rows.new ≡ map (map (one_less user)) rows.old }
-{
-    for row in rows.iter_mut() {
-        row.tick(user);
     }
 }
 
@@ -157,18 +126,35 @@ pub(crate) fn has_in_any(rows: &[Row], user: u8) -> bool
     false
 }
 
-/// The level of the first row that has a user, and its next user.
-pub(crate) fn first_in(rows: &[Row]) -> Option<(u8, Waiting)>
-    requires { length rows.now ≤ 9 }
+/// The level of the first row that has a user, and its next user. The first `low` rows have no users.
+pub(crate) fn first_in(rows: &[Row], low: u8) -> Option<(u8, Waiting)>
+    requires few { length rows.now ≤ 9 }
+    requires empty { AreEmpty low rows.now }
     ensures value { result ≡ first_of 0 rows.now }
     ensures small { IfSome result (λ x. x.0 ≤ 8) }
 {
-    for level in 0..rows.len() {
+    for level in low as usize..rows.len() {
         if let Some(waiting) = rows[level].head() {
             return Some((level as u8, waiting));
         }
     }
     None
+}
+
+/// How many of the first rows have no users, but at most 8. The first `low` have none.
+pub(crate) fn lowest_in(rows: &[Row], low: u8) -> u8
+    requires nine { length rows.now ≡ 9 }
+    requires small { low ≤ 8 }
+    requires empty { AreEmpty low rows.now }
+    ensures empty { AreEmpty result rows.now }
+    ensures small { result ≤ 8 }
+{
+    for level in low..8 {
+        if let Some(_) = rows[level as usize].head() {
+            return level;
+        }
+    }
+    8
 }
 
 /// A user more, behind the others of a level.

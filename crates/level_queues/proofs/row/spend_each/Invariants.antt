@@ -1,6 +1,7 @@
-use Rattle.std.proofs.Common.{◌≡◌, ◌++◌, map, take, drop}
-use Rattle.plan_model.specs.Spent.{less}
+use Rattle.std.proofs.Common.{◌≡◌, drop}
+use Rattle.std.specs.List.{list_any}
+use Rattle.plan_model.specs.Levels.{is_user}
 use Rattle.level_queues.proofs.row.spend_each.Given as goal
 
-abbrev pub invariant-loop-waiting : goal.invariant-loop-waiting
-invariant-loop-waiting l = l.items ≡ map (less l.ticks l.user) (take l.waiting-index l.fn.items) ++ drop l.waiting-index l.fn.items
+abbrev pub invariant-loop-i : goal.invariant-loop-i
+invariant-loop-i l = (l.items ≡ l.fn.items) × (list_any (is_user l.user) l.fn.items ≡ list_any (is_user l.user) (drop l.i l.fn.items))

@@ -1,5 +1,6 @@
-use Rattle.level_queues.proofs.Counts.{sound_less}
+use Rattle.level_queues.proofs.Counts.{sound_spent}
+use Rattle.level_queues.proofs.Spending.{empty_spent}
 use Rattle.level_queues.proofs.queues.Queues.tick.Goals as goal
 
 pub invariant_of-self : goal.invariant_of-self
-invariant_of-self c = rw c.tick_in_all.ensures (sound_less _ _ _ _ c.self.invariant)
+invariant_of-self c = rw c.spend_in_all.ensures (sound_spent _ _ _ _ _ c.self.invariant.0, empty_spent _ _ _ _ c.self.invariant.1, c.self.invariant.2)

@@ -13,3 +13,5 @@ mod modes;
 mod play;
 #[cfg(test)]
 mod sessions;
+#[cfg(test)]
+mod services;

@@ -76,30 +76,34 @@ pub(crate) fn end_note(service: Option<Service>) -> Option<Entry>
 }
 
 /// The entry for an answer of the clock, if it was asked.
-pub(crate) fn clock_note(asked: bool, now: u64, user: u8) -> Option<Entry>
-    ensures { option_to_list result ≡ clock_entry asked now user }
+pub(crate) fn note_clock(entries: &mut Vec<Entry>, asked: bool, now: u64, user: u8)
+    requires { vec_len entries.old < vec_capacity entries.old }
+    ensures items { entries.new.items ≡ entries.old.items ++ clock_entry asked now user }
+    ensures len { vec_len entries.new ≤ vec_len entries.old + 1 }
+    ensures capacity { vec_capacity entries.old ≤ vec_capacity entries.new }
 {
     if asked {
-        Some(Entry::Clock { answer: now, user })
-    } else {
-        None
+        note(entries, Entry::Clock { answer: now, user });
     }
 }
 
 /// The entry for a service that ends with its step, if it does.
-pub(crate) fn serve_note(v: Service, cause: Option<Cause>) -> Option<Entry>
-    requires { v.ran < 2 ^ 64 - 1 }
-    ensures { option_to_list result ≡ service_entry v cause }
+pub(crate) fn note_service(entries: &mut Vec<Entry>, v: Service, cause: Option<Cause>)
+    requires room { vec_len entries.old < vec_capacity entries.old }
+    requires ran { v.ran < 2 ^ 64 - 1 }
+    ensures { entries.new.items ≡ entries.old.items ++ service_entry v cause }
 {
-    match cause {
-        Some(cause) => Some(Entry::Serve {
-            tick: v.tick,
-            user: v.user,
-            level: v.level,
-            ran: v.ran + 1,
-            cause,
-        }),
-        None => None,
+    if let Some(cause) = cause {
+        note(
+            entries,
+            Entry::Serve {
+                tick: v.tick,
+                user: v.user,
+                level: v.level,
+                ran: v.ran + 1,
+                cause,
+            },
+        );
     }
 }
 

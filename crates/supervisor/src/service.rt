@@ -7,7 +7,7 @@ ghost use Rattle.system_model.specs.Runs.{elapsed};
 ghost use Rattle.supervisor.specs.Seen.{seen, left_queues};
 
 use crate::notes::{
-    cause_of, clock_note, idle_from, leave_consoles, note, note_some, serve_note, service_after,
+    cause_of, idle_from, leave_consoles, note, note_clock, note_service, service_after,
 };
 use crate::state::State;
 use ctss_types::{Cause, Ending, Entry, NoMemory, Service, UserNo};
@@ -115,11 +115,8 @@ impl State {
         if step.ending == Ending::LoggedOut {
             leave_consoles(&mut self.consoles, v.user);
         }
-        note_some(
-            &mut self.entries,
-            clock_note(step.clock, self.clock, v.user),
-        );
-        note_some(&mut self.entries, serve_note(v, cause));
+        note_clock(&mut self.entries, step.clock, self.clock, v.user);
+        note_service(&mut self.entries, v, cause);
         self.clock += 1;
         self.service = service_after(v, cause);
     }

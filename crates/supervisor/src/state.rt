@@ -1,5 +1,6 @@
 //! The state of a run but for users' cores.
 ghost use Rattle.std.specs.Prelude.{◌≡◌, OnOk, OnErr};
+ghost use Rattle.std.specs.Option.{is_some};
 ghost use Rattle.plan_model.specs.Loads.{Places, no_places};
 ghost use Rattle.system_model.specs.Sound.{Sound, HasSeat};
 ghost use Rattle.system_model.specs.Run.{given, due_of};
@@ -47,6 +48,16 @@ impl Transcripts for State {
 }
 
 impl State {
+    /// Whether an event is due.
+    pub(crate) fn is_due(&self) -> bool
+        ensures { result ≡ is_some (due_of self.now.events.items self.now.clock) }
+    {
+        match self.events.front() {
+            Some(e) => e.tick <= self.clock,
+            None => false,
+        }
+    }
+
     /// The event that is due.
     pub(crate) fn due(&self) -> Option<Timed>
         ensures { result ≡ due_of self.now.events.items self.now.clock }

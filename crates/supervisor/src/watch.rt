@@ -96,7 +96,7 @@ impl Watch {
             return Err(RunFault::NoMemory);
         }
         let before = lengths(self.state.sessions.as_slice());
-        match self.state.step(cores, limit) {
+        match self.state.step_at(cores, limit) {
             Ok(()) => {}
             Err(fault) => return Err(fault),
         }
@@ -136,7 +136,7 @@ impl Watch {
             (texts_of self.new.state.sessions.items self.new.texts ≡ texts_of self.old.state.sessions.items self.old.texts) }
         ensures told { IsTold self.new.state.consoles.items self.new.state.sessions.items self.new.texts }
     {
-        match self.state.step(cores, limit) {
+        match self.state.step_on(cores, limit) {
             Ok(()) => {}
             Err(fault) => return Err(fault),
         }
@@ -175,7 +175,7 @@ impl Watch {
             (texts_of self.new.state.sessions.items self.new.texts ≡ texts_of self.old.state.sessions.items self.old.texts) }
         ensures told { IsTold self.new.state.consoles.items self.new.state.sessions.items self.new.texts }
     {
-        if self.state.due().is_some() {
+        if self.state.is_due() {
             return self.hear(cores, limit);
         }
         self.go(cores, limit)

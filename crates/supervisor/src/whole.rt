@@ -1,11 +1,12 @@
 //! Steps of the state together with users' cores, one after another.
-ghost use Rattle.std.specs.Prelude.{◌≡◌, ◌<◌, ◌≤◌, ◌+◌, ◌-◌, ◌^◌, length, true, false, Some, OnOk, OnErr, IfOk, ⊤};
+ghost use Rattle.std.specs.Prelude.{◌≡◌, ◌<◌, ◌≤◌, ◌+◌, ◌-◌, ◌^◌, length, true, false, Some, None, OnOk, OnErr, IfOk, ⊤};
+ghost use Rattle.std.specs.Option.{is_some};
 ghost use Rattle.faults.specs.Faults.{Rose};
 ghost use Rattle.drum_slots.specs.Keys.{quota_of};
 ghost use Rattle.image_map.specs.Images.{size_of};
 ghost use Rattle.plan_model.specs.Levels.{chosen, user_of};
 ghost use Rattle.plan_model.specs.Loads.{Places, is_loaded, no_places};
-ghost use Rattle.system_model.specs.Run.{next, taken, otherwise, attended};
+ghost use Rattle.system_model.specs.Run.{next, taken, otherwise, attended, due_of};
 ghost use Rattle.system_model.specs.Cases.{served, idled};
 ghost use Rattle.system_model.specs.Sound.{HasSeat, IsUser, Sound};
 ghost use Rattle.time_sharing.specs.Machine.{Went};
@@ -258,8 +259,9 @@ impl State {
         }
     }
 
-    /// One step.
-    pub(crate) fn step<C: Cores>(&mut self, cores: &mut C, limit: u64) -> Result<(), RunFault>
+    /// One step, at which an event is due.
+    pub(crate) fn step_at<C: Cores>(&mut self, cores: &mut C, limit: u64) -> Result<(), RunFault>
+        requires due { is_some (due_of self.old.events.items self.old.clock) ≡ true }
         requires works { C.Works cores.old }
         requires held { IsHeld (seen (C.state cores.old).memory.places self.old) (C.state cores.old).memory }
         requires before { self.old.clock < limit }
@@ -282,8 +284,31 @@ impl State {
                 Ok(()) => Ok(()),
                 Err(_) => Err(RunFault::NoMemory),
             },
-            None => self.go_on(cores, limit),
+            None => unreachable!(),
         }
+    }
+
+    /// One step, at which no event is due.
+    pub(crate) fn step_on<C: Cores>(&mut self, cores: &mut C, limit: u64) -> Result<(), RunFault>
+        requires quiet { due_of self.old.events.items self.old.clock ≡ None }
+        requires works { C.Works cores.old }
+        requires held { IsHeld (seen (C.state cores.old).memory.places self.old) (C.state cores.old).memory }
+        requires before { self.old.clock < limit }
+        requires limit { limit ≤ 100000000 }
+        ensures ended { Ends result (Does (next limit) (seen (C.state cores.old).memory.places self.old)
+            (seen (C.state cores.new).memory.places self.new) (C.state cores.old).memory (C.state cores.new).memory)
+            (Stays (seen (C.state cores.old).memory.places self.old)
+            (seen (C.state cores.new).memory.places self.new) (C.state cores.old).memory (C.state cores.new).memory)
+            ((seen no_places self.new ≡ seen no_places self.old) × Rose (C.state cores.old).faults (C.state cores.new).faults
+            × NextLoadFails (seen (C.state cores.old).memory.places self.old) (C.state cores.old).calls (C.state cores.new).calls) }
+        ensures counted { Ends result (IsCounted self.old.entries.items self.new.entries.items (C.state cores.old).calls (C.state cores.new).calls)
+            (IsCounted self.old.entries.items self.new.entries.items (C.state cores.old).calls (C.state cores.new).calls) ⊤ }
+        ensures tied { Lasts result (IsTied self.new.sessions.items (C.state cores.new).memory) }
+        ensures works { Lasts result (C.Works cores.new) }
+        ensures keeps { C.Keeps cores.old cores.new }
+        ensures kept { (C.state cores.old).faults ≤ (C.state cores.new).faults }
+    {
+        self.go_on(cores, limit)
     }
 
     /// So many ticks at most may go by until something else than the user of the service is to be looked at: an event, the

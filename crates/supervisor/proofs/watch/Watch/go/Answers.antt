@@ -1,4 +1,4 @@
-use Rattle.std.proofs.Common.{◌≡◌, ◌≤◌, ℕ, List, length, map, sym, ap, subst, ◌∙◌, arith}
+use Rattle.std.proofs.Common.{rules, ◌≡◌, ◌≤◌, ℕ, List, length, map, sym, ap, subst, ◌∙◌, arith}
 use Rattle.time_sharing.specs.System.{Console}
 use Rattle.user_model.specs.User.{User}
 use Rattle.system_model.specs.Run.{Run}
@@ -9,52 +9,50 @@ use Rattle.console_texts.specs.Watching.{transcripts_of}
 use Rattle.supervisor.specs.Seen.{seen}
 use Rattle.supervisor.specs.Shows.{GoesOn, rows_of}
 use Rattle.supervisor.proofs.Doing.{does_sound}
-use Rattle.supervisor.proofs.Watching.{lengths_of, goes_by, told_by, rest_rows, rest_knows, rest_same, still_goes, still_told}
+use Rattle.supervisor.proofs.Watching.{lengths_of, goes_by, told_by, rest_rows, rest_knows, rest_same, served_goes, served_told}
 use Rattle.supervisor.proofs.watch.Watch.go.Goals as goal
 
 pub lengths-after-requires : goal.lengths-after-requires
 lengths-after-requires g c =
     let had : Memory = (g.C.Cores.state c.args.cores.now).memory in
-    let has : Memory = (g.C.Cores.state c.step.new.cores).memory in
+    let has : Memory = (g.C.Cores.state c.step_on.new.cores).memory in
     subst (λ (us : List User). length us ≤ 30) (sym c.as_slice.ensures.value)
-    (does_sound c.args.limit (seen had.places c.args.self.now.state) (seen has.places c.step.new.self) had has c.requires.before c.requires.held.sound c.in-Ok.ensures.ended).few
+    (does_sound c.args.limit (seen had.places c.args.self.now.state) (seen has.places c.step_on.new.self) had has c.requires.before c.requires.held.sound c.in-Ok.ensures.ended).few
 
-pub returns-then-len-count-clause-texts : goal.returns-then-len-count-clause-texts
-returns-then-len-count-clause-texts g c =
+pub returns-clause-texts : goal.returns-clause-texts
+returns-clause-texts g c =
     let had : Memory = (g.C.Cores.state c.args.cores.now).memory in
-    let has : Memory = (g.C.Cores.state c.step.new.cores).memory in
+    let has : Memory = (g.C.Cores.state c.step_on.new.cores).memory in
     let old : Run = seen had.places c.args.self.now.state in
-    let new : Run = seen has.places c.step.new.self in
+    let new : Run = seen has.places c.step_on.new.self in
     let rows : List Shown = rows_of c.args.self.now.texts in
     let is : rows_of c.settle.new.self ≡ map (rest_rows (lengths_of new.system.users) new) rows =
-    c.settle.ensures.shown ∙ ap (λ (cs : List Console). map (settled_in cs c.as_slice-then-len-count-2.result.now) rows) c.as_slice-then-len-count.ensures.value
-    ∙ ap (λ (ls : List ℕ). map (settled_in c.step.new.self.consoles.items ls) rows) (c.as_slice-then-len-count-2.ensures.value ∙ c.lengths-after.ensures ∙ ap lengths_of c.as_slice.ensures.value) in
+    c.settle.ensures.shown ∙ ap (λ (cs : List Console). map (settled_in cs c.as_slice-3.result.now) rows) c.as_slice-2.ensures.value
+    ∙ ap (λ (ls : List ℕ). map (settled_in c.step_on.new.self.consoles.items ls) rows) (c.as_slice-3.ensures.value ∙ c.lengths-after.ensures ∙ ap lengths_of c.as_slice.ensures.value) in
     subst (λ (xs : List Shown). GoesOn c.args.limit old new (map (text_of (transcripts_of old.system.users)) rows) (map (text_of (transcripts_of new.system.users)) xs)) (sym is)
     (goes_by c.args.limit old new rows (rest_rows (lengths_of new.system.users)) (rest_knows c.args.limit old new rows c.requires.quiet c.requires.held.sound c.requires.told) (rest_same c.args.limit old new rows (lengths_of new.system.users)))
 
-pub returns-then-len-count-clause-told : goal.returns-then-len-count-clause-told
-returns-then-len-count-clause-told g c =
+pub returns-clause-told : goal.returns-clause-told
+returns-clause-told g c =
     let had : Memory = (g.C.Cores.state c.args.cores.now).memory in
-    let has : Memory = (g.C.Cores.state c.step.new.cores).memory in
+    let has : Memory = (g.C.Cores.state c.step_on.new.cores).memory in
     let old : Run = seen had.places c.args.self.now.state in
-    let new : Run = seen has.places c.step.new.self in
+    let new : Run = seen has.places c.step_on.new.self in
     let rows : List Shown = rows_of c.args.self.now.texts in
     let is : rows_of c.settle.new.self ≡ map (rest_rows (lengths_of new.system.users) new) rows =
-    c.settle.ensures.shown ∙ ap (λ (cs : List Console). map (settled_in cs c.as_slice-then-len-count-2.result.now) rows) c.as_slice-then-len-count.ensures.value
-    ∙ ap (λ (ls : List ℕ). map (settled_in c.step.new.self.consoles.items ls) rows) (c.as_slice-then-len-count-2.ensures.value ∙ c.lengths-after.ensures ∙ ap lengths_of c.as_slice.ensures.value) in
+    c.settle.ensures.shown ∙ ap (λ (cs : List Console). map (settled_in cs c.as_slice-3.result.now) rows) c.as_slice-2.ensures.value
+    ∙ ap (λ (ls : List ℕ). map (settled_in c.step_on.new.self.consoles.items ls) rows) (c.as_slice-3.ensures.value ∙ c.lengths-after.ensures ∙ ap lengths_of c.as_slice.ensures.value) in
     subst (AreShown new.system.consoles (transcripts_of new.system.users)) (sym is)
     (told_by c.args.limit old new rows (rest_rows (lengths_of new.system.users)) had has (rest_knows c.args.limit old new rows c.requires.quiet c.requires.held.sound c.requires.told) (rest_same c.args.limit old new rows (lengths_of new.system.users)) c.in-Ok.ensures.ended)
 
-pub returns-else-len-count-clause-texts : goal.returns-else-len-count-clause-texts
-returns-else-len-count-clause-texts g c =
+pub returns-then-is_some-clause-texts : goal.returns-then-is_some-clause-texts
+returns-then-is_some-clause-texts g c =
     let had : Memory = (g.C.Cores.state c.args.cores.now).memory in
-    let has : Memory = (g.C.Cores.state c.step.new.cores).memory in
-    let same : length c.step.new.self.entries.items ≡ length c.args.self.now.state.entries.items = let a = c.len.ensures in let b = c.len-count.ensures in let e = c.if-len-count.false in omega (arith, a, b, e, c.step.new.self.entries.ok, c.args.self.now.state.entries.ok) in
-    still_goes c.args.limit (seen had.places c.args.self.now.state) (seen has.places c.step.new.self) (rows_of c.args.self.now.texts) c.requires.quiet c.requires.held.sound same c.requires.told
+    let has : Memory = (g.C.Cores.state c.step_on.new.cores).memory in
+    served_goes c.args.limit (seen had.places c.args.self.now.state) (seen has.places c.step_on.new.self) (rows_of c.args.self.now.texts) c.requires.quiet c.requires.held.sound (search rules) c.requires.told
 
-pub returns-else-len-count-clause-told : goal.returns-else-len-count-clause-told
-returns-else-len-count-clause-told g c =
+pub returns-then-is_some-clause-told : goal.returns-then-is_some-clause-told
+returns-then-is_some-clause-told g c =
     let had : Memory = (g.C.Cores.state c.args.cores.now).memory in
-    let has : Memory = (g.C.Cores.state c.step.new.cores).memory in
-    let same : length c.step.new.self.entries.items ≡ length c.args.self.now.state.entries.items = let a = c.len.ensures in let b = c.len-count.ensures in let e = c.if-len-count.false in omega (arith, a, b, e, c.step.new.self.entries.ok, c.args.self.now.state.entries.ok) in
-    still_told c.args.limit (seen had.places c.args.self.now.state) (seen has.places c.step.new.self) had has (rows_of c.args.self.now.texts) c.requires.quiet c.requires.held.sound same c.requires.told c.in-Ok.ensures.ended
+    let has : Memory = (g.C.Cores.state c.step_on.new.cores).memory in
+    served_told c.args.limit (seen had.places c.args.self.now.state) (seen has.places c.step_on.new.self) had has (rows_of c.args.self.now.texts) c.requires.quiet c.requires.held.sound (search rules) c.requires.told c.in-Ok.ensures.ended

@@ -15,16 +15,16 @@ use Rattle.supervisor.proofs.watch.Watch.hear.Goals as goal
 pub lengths-after-requires : goal.lengths-after-requires
 lengths-after-requires g c =
     let had : Memory = (g.C.Cores.state c.args.cores.now).memory in
-    let has : Memory = (g.C.Cores.state c.step.new.cores).memory in
+    let has : Memory = (g.C.Cores.state c.step_at.new.cores).memory in
     subst (λ (us : List User). length us ≤ 30) (sym c.as_slice-2.ensures.value)
-    (does_sound c.args.limit (seen had.places c.args.self.now.state) (seen has.places c.step.new.self) had has c.requires.before c.requires.held.sound c.in-Ok.ensures.ended).few
+    (does_sound c.args.limit (seen had.places c.args.self.now.state) (seen has.places c.step_at.new.self) had has c.requires.before c.requires.held.sound c.in-Ok.ensures.ended).few
 
 pub returns-clause-texts : goal.returns-clause-texts
 returns-clause-texts g c =
     let had : Memory = (g.C.Cores.state c.args.cores.now).memory in
-    let has : Memory = (g.C.Cores.state c.step.new.cores).memory in
+    let has : Memory = (g.C.Cores.state c.step_at.new.cores).memory in
     let old : Run = seen had.places c.args.self.now.state in
-    let new : Run = seen has.places c.step.new.self in
+    let new : Run = seen has.places c.step_at.new.self in
     let rows : List Shown = rows_of c.args.self.now.texts in
     let before : c.as_slice-5.result.now ≡ lengths_of old.system.users = c.as_slice-5.ensures.value ∙ c.lengths-before.ensures ∙ ap lengths_of c.as_slice.ensures.value in
     let after : c.as_slice-6.result.now ≡ lengths_of new.system.users = c.as_slice-6.ensures.value ∙ c.lengths-after.ensures ∙ ap lengths_of c.as_slice-2.ensures.value in
@@ -44,9 +44,9 @@ returns-clause-texts g c =
 pub returns-clause-told : goal.returns-clause-told
 returns-clause-told g c =
     let had : Memory = (g.C.Cores.state c.args.cores.now).memory in
-    let has : Memory = (g.C.Cores.state c.step.new.cores).memory in
+    let has : Memory = (g.C.Cores.state c.step_at.new.cores).memory in
     let old : Run = seen had.places c.args.self.now.state in
-    let new : Run = seen has.places c.step.new.self in
+    let new : Run = seen has.places c.step_at.new.self in
     let rows : List Shown = rows_of c.args.self.now.texts in
     let before : c.as_slice-5.result.now ≡ lengths_of old.system.users = c.as_slice-5.ensures.value ∙ c.lengths-before.ensures ∙ ap lengths_of c.as_slice.ensures.value in
     let after : c.as_slice-6.result.now ≡ lengths_of new.system.users = c.as_slice-6.ensures.value ∙ c.lengths-after.ensures ∙ ap lengths_of c.as_slice-2.ensures.value in

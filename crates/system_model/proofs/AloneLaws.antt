@@ -1,5 +1,5 @@
 -- In the record of every script each user is alone: the isolation of machines made of rows, at this product's rows.
-use Rattle.std.proofs.Common.{◌≡◌, ℕ, zero, suc, ◌+◌, ◌-◌, ◌<◌, ◌≤◌, List, [], ◌∷◌, length, map, get_or, refl, sym, ap, ◌∙◌, arith, subst}
+use Rattle.std.proofs.Common.{◌≡◌, ℕ, zero, suc, ◌+◌, ◌-◌, ◌<◌, ◌≤◌, List, [], ◌∷◌, ◌++◌, length, map, get_or, refl, sym, ap, ◌∙◌, arith, subst}
 use Rattle.ctss_types.specs.declared.script.Script.{Script}
 use Rattle.ctss_types.specs.declared.script.Account.{Account}
 use Rattle.ctss_types.specs.declared.script.Timed.{Timed}
@@ -11,16 +11,21 @@ use Rattle.time_sharing.specs.Rows.{machine}
 use Rattle.time_sharing.specs.Private.{Alone}
 use Rattle.time_sharing.specs.Record as whole
 use Rattle.time_sharing.specs.System.{at}
+use Rattle.time_sharing.specs.Machine.{End}
+use Rattle.time_sharing.specs.Private.{Cut, alone}
+use Rattle.time_sharing.specs.Reach.{Goes}
+use Rattle.time_sharing.specs.Feeds.{feed_of, seen, ran_of}
+use Rattle.time_sharing.proofs.ClaimsProved as claims
 use Rattle.time_sharing.proofs.Theorem.{isolation}
 use Rattle.time_sharing.proofs.RowsLaws.{rows_laws}
 use Rattle.user_model.specs.Session.{user_rows, first_state, no_account, nobody}
 use Rattle.user_model.specs.User.{User}
-use Rattle.plan_model.specs.Plan.{first_plan}
+use Rattle.plan_model.specs.Plan.{Plan, first_plan}
 use Rattle.system_model.specs.Round.{round}
-use Rattle.system_model.specs.Run.{Run, run_to, ended, measure}
+use Rattle.system_model.specs.Run.{Run, State, AfterSteps, run_to, ended, measure}
 use Rattle.file_model.specs.Owned.{files_of}
 use Rattle.system_model.specs.Record.{users_from, start_of, record_of, first_of_user, alone_of, IsAloneIn, EachIsAlone, consoles}
-use Rattle.system_model.specs.Claims.{UsersAreAlone}
+use Rattle.system_model.specs.Claims.{UsersAreAlone, EachMomentIsAlone, FeedsDecide}
 use Rattle.system_model.proofs.CaseLaws.{at_user}
 
 mapped : {X : Type 0} (f : User → X) (users : List User) (k : ℕ) → get_or (map f users) k (f nobody) ≡ f (get_or users k nobody)
@@ -82,3 +87,35 @@ users_are_alone script u pos within =
 
     seen : {X : Type 0} (f : User → List X) → f nobody ≡ [] → get_or (map f r.system.users) (u - 1) [] ≡ f p
     seen {X = X} f none = ap (λ (d : List X). get_or (map f r.system.users) (u - 1) d) (sym none) ∙ mapped f r.system.users (u - 1) ∙ ap f (sym (at_user nobody r.system.users u pos))
+
+pub feeds_decide : FeedsDecide
+feeds_decide script other u v pos within pos' within' first feeds =
+    let a = users_are_alone script u pos within in
+    let b = users_are_alone other v pos' within' in
+    let same : alone_of script (record_of script) u ≡ alone_of other (record_of other) v =
+    ap (λ (q : User). alone (machine user_rows) q (feed_of u script.events (record_of script).entries)) first
+    ∙ ap (alone (machine user_rows) (first_of_user other v)) feeds in (
+      a.transcript ∙ ap (λ (x : Alone User). x.state.transcript) same ∙ sym b.transcript,
+      a.files ∙ ap (λ (x : Alone User). x.state.inner.files) same ∙ sym b.files,
+    )
+
+pub each_moment : EachMomentIsAlone
+unfolding start_of AfterSteps
+each_moment script u r pos within after =
+    subst (λ (q : User). IsReached q r.system) (first_is script u pos within)
+    (subst (IsReached (at nobody firsts u)) (sym (ap (λ (q : Run). q.system) after.1))
+    (claims.each_moment User Plan (List FileBody) (machine user_rows) (rows_laws user_rows) (round script.params.swap script.accounts) u pos firsts [] (first_plan script.params.wq script.params.quantum) consoles script.end after.0
+    script.events inside (ap (λ (q : User). q.own) (first_is script u pos within))))
+  where
+    firsts : List User
+    firsts = users_from 1 script.accounts script.files
+
+    inside : u ≤ length firsts
+    inside = omega (arith, users_length 1 script.accounts script.files)
+
+    IsReached : User → State → Type 0
+    IsReached q s =
+        let o = seen u script.events s.entries in
+        let p = at nobody s.users u in
+        Goes (machine user_rows) (o.items ++ Cut p.own End ∷ []) (record { state = q; clocks = o.clocks; replies = o.replies }) (record { state = p; clocks = []; replies = [] })
+        × (p.own ≡ o.own + ran_of u s.service)

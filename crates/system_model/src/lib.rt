@@ -5,13 +5,25 @@
 //! a script, and each user alone), `Rows` (worked rows). The functions here do nothing: each carries a law.
 #![tactic(auto)]
 
-ghost use Rattle.system_model.specs.Claims.{UsersAreAlone, StepsEnd, RunsInParts, LateEventsWait};
+ghost use Rattle.system_model.specs.Claims.{UsersAreAlone, EachMomentIsAlone, FeedsDecide, StepsEnd, RunsInParts, LateEventsWait};
 ghost use Rattle.system_model.specs.Rows.{RowOfNobody, RowOfOneUser, RowOfLateUser};
 
 /// In the record of every script each user's transcript and files are those of the user's machine alone.
 #[tactic(auto, using(crate::proofs::AloneLaws::users_are_alone))]
 pub fn users_are_alone()
     ensures { UsersAreAlone }
+{}
+
+/// At each moment of a script's run each user's state is that of the user's machine alone, over the feed so far.
+#[tactic(auto, using(crate::proofs::AloneLaws::each_moment))]
+pub fn each_moment_is_alone()
+    ensures { EachMomentIsAlone }
+{}
+
+/// A user's account, first files and feed decide the user's transcript and files, whatever the rest of the script says.
+#[tactic(auto, using(crate::proofs::AloneLaws::feeds_decide))]
+pub fn feeds_decide()
+    ensures { FeedsDecide }
 {}
 
 /// Each step below a limit comes nearer to it, so each run ends.

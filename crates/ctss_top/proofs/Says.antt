@@ -106,8 +106,8 @@ reads_runs (Load n) reads = refl
 reads_runs Asm reads = reads
 
 pub is_run : (mode : Mode) (tells : Bool) (left rest held now : Option (List ℕ)) (was has : Option CallList) (o : Outcome) (script : Script) → Comes mode left rest script
-    → (tells ≡ true → o.run ≡ record_of script) → IsCounted [] o.run.entries was has → now ≡ after held (text_for mode script o.run) → IsRun mode tells left rest held now was has o
-is_run mode tells left rest held now was has o script comes run counted told =
+    → (tells ≡ true → o.run ≡ record_of script) → IsCounted [] o.run.entries was has → (o.card ≡ 0) × (o.cause ≡ 0) → now ≡ after held (text_for mode script o.run) → IsRun mode tells left rest held now was has o
+is_run mode tells left rest held now was has o script comes run counted numbers told =
     record {
       script = script;
       comes = comes;
@@ -115,6 +115,8 @@ is_run mode tells left rest held now was has o script comes run counted told =
       run = run;
       alone = λ t. subst (EachIsAlone script) (sym (run t)) (users_are_alone script);
       counted = counted;
+      card = numbers.0;
+      cause = numbers.1;
     }
 
 pub cut_run : (tells : Bool) (words : List (List ℕ)) (mode : Mode) → mode_of words ≡ Some mode → (left rest held now : Option (List ℕ)) (was has : Option CallList) (o : Outcome) (script : Script) → Comes mode left rest script

@@ -30,6 +30,8 @@ pub record IsRun (mode : Mode) (tells : Bool) (left rest held now : Option (List
   pub run : tells ≡ true → result.run ≡ record_of script
   pub alone : tells ≡ true → EachIsAlone script result.run
   pub counted : IsCounted [] result.run.entries was has
+  pub card : result.card ≡ 0
+  pub cause : result.cause ≡ 0
 
 -- The drum failed, and nothing was written. Where the drum tells its records, the run is the record of some whole steps, behind
 -- which a user is to be brought into core; where it tells its calls, that load was cut off by the last one.

@@ -7,7 +7,7 @@ use Rattle.ctss_top.proofs.run.load.Goals as goal
 pub returns-in-Ok-clause-done : goal.returns-in-Ok-clause-done
 returns-in-Ok-clause-done g c left h =
     is_run (Load c.args.n) _ left left _ _ _ _ c.perform.result c.in-Ok.script (comes_made c.args.n left c.in-Ok.script c.in-Ok.ensures.value)
-    (λ told. c.perform.ensures.run told (grind (arith, h, nat_tests))) (c.perform.ensures.counted (grind (arith, h, nat_tests))) (c.perform.ensures.text h)
+    (λ told. c.perform.ensures.run told (grind (arith, h, nat_tests))) (c.perform.ensures.counted (grind (arith, h, nat_tests))) c.perform.ensures.numbers (c.perform.ensures.text h)
 
 pub returns-in-Ok-clause-part : goal.returns-in-Ok-clause-part
 returns-in-Ok-clause-part g c words left asked h =

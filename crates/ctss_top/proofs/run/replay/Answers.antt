@@ -33,7 +33,7 @@ returns-in-Ok-read_script-clause-done g c h =
     let spelled : script_of c.in-Ok.bytes.items ≡ Ok c.in-Ok-read_script.script = ap script_of (sym c.deref.ensures.value) ∙ c.in-Ok-read_script.ensures in
     is_run c.args.mode _ _ _ _ _ _ _ _ c.in-Ok-read_script.script
     (comes_read c.args.mode c.requires.mode _ _ c.in-Ok.bytes.items c.in-Ok-read_script.script c.in-Ok.ensures.bytes c.in-Ok.ensures.end spelled)
-    (λ told. c.perform.ensures.run told (grind (arith, h, nat_tests))) (c.perform.ensures.counted (grind (arith, h, nat_tests))) (c.perform.ensures.text h)
+    (λ told. c.perform.ensures.run told (grind (arith, h, nat_tests))) (c.perform.ensures.counted (grind (arith, h, nat_tests))) c.perform.ensures.numbers (c.perform.ensures.text h)
 
 pub returns-in-Ok-read_script-clause-part : goal.returns-in-Ok-read_script-clause-part
 returns-in-Ok-read_script-clause-part g c words asked h =

@@ -1,7 +1,7 @@
 //! From a word to the row of its operation, with no search. A place is a row's index in `ROWS`, and 110 says that there
 //! is none.
 
-ghost use Rattle.std.specs.Prelude.{◌≡◌, map, slice_get};
+ghost use Rattle.std.specs.Prelude.{◌≡◌, map, slice_get, IfSome};
 ghost use Rattle.std.specs.Option.{option_copied};
 ghost use Rattle.opcode_table.specs.Table.{row_of, ops, row_with_number, place_with_number};
 ghost use Rattle.opcode_table.specs.Words.{number_in};
@@ -108,8 +108,9 @@ static GROUP: [u8; 32] = [
 /// The row of the operation that a word names.
 #[inline]
 #[tactic(auto, using(crate::proofs::Places::row_there))]
-pub(crate) fn row_in(w: Word) -> Option<&'static Row>
-    ensures { option_copied result ≡ row_with_number (number_in w) }
+pub fn row_in(w: Word) -> Option<&'static Row>
+    ensures named { option_copied result ≡ row_with_number (number_in w) }
+    ensures own { IfSome result (λ row. row.now ≡ row_of row.now.0) }
 {
     row_in_place(place_in(w))
 }

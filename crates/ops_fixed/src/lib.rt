@@ -367,30 +367,19 @@ fn past(side: Side) -> u16
 fn with_left(w: Word, other: Word) -> Word
     ensures { result ≡ with_left w other }
 {
-    word((other.bits() >> 18 << 18) + (w.bits() & 0o777777))
+    Word::of((other.bits() >> 18 << 18) + (w.bits() & 0o777777))
 }
 
 fn with_tag(w: Word, tag: u8) -> Word
     requires { tag < 8 }
     ensures { result ≡ with_tag w tag }
 {
-    word((w.bits() >> 18 << 18) + (u64::from(tag) << 15) + (w.bits() & 0o77777))
+    Word::of((w.bits() >> 18 << 18) + (u64::from(tag) << 15) + (w.bits() & 0o77777))
 }
 
 fn with_prefix(w: Word, prefix: u8) -> Word
     requires { prefix < 8 }
     ensures { result ≡ with_prefix w prefix }
 {
-    word((u64::from(prefix) << 33) + (w.bits() & 0o77777777777))
-}
-
-/// The word of these bits.
-fn word(bits: u64) -> Word
-    requires { bits < 2 ^ 36 }
-    ensures { result ≡ bits }
-{
-    match Word::from_bits(bits) {
-        Ok(word) => word,
-        Err(_) => unreachable!(),
-    }
+    Word::of((u64::from(prefix) << 33) + (w.bits() & 0o77777777777))
 }

@@ -345,28 +345,28 @@ fn with_logic(a: Acc, l: Word) -> Acc
 fn and(a: Word, b: Word) -> Word
     ensures { result ≡ bit_and a b }
 {
-    word(a.bits() & b.bits())
+    Word::of(a.bits() & b.bits())
 }
 
 #[tactic(auto, using(crate::proofs::Bits::or_below))]
 fn or(a: Word, b: Word) -> Word
     ensures { result ≡ bit_or a b }
 {
-    word(a.bits() | b.bits())
+    Word::of(a.bits() | b.bits())
 }
 
 #[tactic(auto, using(crate::proofs::Bits::xor_below))]
 fn xor(a: Word, b: Word) -> Word
     ensures { result ≡ bit_xor a b }
 {
-    word(a.bits() ^ b.bits())
+    Word::of(a.bits() ^ b.bits())
 }
 
 /// The first word without the ones of the second.
 fn without(a: Word, b: Word) -> Word
     ensures { result ≡ without a b }
 {
-    word(a.bits() & (0o777777777777 - b.bits()))
+    Word::of(a.bits() & (0o777777777777 - b.bits()))
 }
 
 /// Whether all ones of the second word are ones of the first.
@@ -388,7 +388,7 @@ fn right_half(i: &Instr) -> Word
     requires { HasFields i.now }
     ensures { result ≡ half_of i.now }
 {
-    word((u64::from(i.tag) << 15) + u64::from(i.address))
+    Word::of((u64::from(i.tag) << 15) + u64::from(i.address))
 }
 
 /// Positions 18 to 35 of an instruction, on the left of a word.
@@ -396,16 +396,5 @@ fn left_half(i: &Instr) -> Word
     requires { HasFields i.now }
     ensures { result ≡ half_of i.now * 2 ^ 18 }
 {
-    word((u64::from(i.tag) << 15) + u64::from(i.address) << 18)
-}
-
-/// The word of these bits.
-fn word(bits: u64) -> Word
-    requires { bits < 2 ^ 36 }
-    ensures { result ≡ bits }
-{
-    match Word::from_bits(bits) {
-        Ok(word) => word,
-        Err(_) => unreachable!(),
-    }
+    Word::of((u64::from(i.tag) << 15) + u64::from(i.address) << 18)
 }

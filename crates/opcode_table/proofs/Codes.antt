@@ -4,7 +4,8 @@ use Rattle.std.proofs.lemmas.Bool.Decides.{nat_tests}
 use Rattle.word36.specs.Bits.{tag_of, address_of, decrement_of, prefix_of}
 use Rattle.std.specs.Option.{option_map, option_copied}
 use Rattle.std.specs.declared.option.Option.{Option}
-use Rattle.opcode_table.proofs.Arith.{prefix_number, code_numbered, prefix_numbered, group_numbered, regroup3, regroup4, flag_again, code_below, prefix_below, group_below}
+use Rattle.std.proofs.lemmas.Bool.{eqb-true}
+use Rattle.opcode_table.proofs.Arith.{prefix_number, no_prefix_number, code_numbered, prefix_numbered, group_numbered, regroup3, regroup4, flag_again, code_below, prefix_below, group_below}
 use Rattle.opcode_table.specs.Table.{row_of, ops, row_with_number, number_of, class_of}
 use Rattle.opcode_table.specs.Words.{number_in, fields_for, decoded, word_for, encoded, HasFields, IsCleanFor, IsClean, number_fits}
 use Rattle.opcode_table.specs.declared.op.Op.{Op}
@@ -29,18 +30,34 @@ own Cla = refl
 own _ = refl
 
 -- the first of these rows that passes a test is the row of its operation
-first_own : (q : Row → Bool) (os : List Op) (r : Row) → find q (map row_of os) ≡ Some r → r ≡ row_of r.0
+first_own : (q : Row → Bool) (os : List Op) (r : Row) → find q (map row_of os) ≡ Some r → (r ≡ row_of r.0) × (q r ≡ true)
 first_own q [] r h = cc
-first_own q (o ∷ os) r h = by_test (q (row_of o)) (first_own q os r) h
+first_own q (o ∷ os) r h = by_test (q (row_of o)) refl (first_own q os r) h
   where
-    by_test : (b : Bool) → (find q (map row_of os) ≡ Some r → r ≡ row_of r.0) → (if b then Some (row_of o) else find q (map row_of os)) ≡ Some r → r ≡ row_of r.0
-    by_test true rest e = let same : row_of o ≡ r = cc in subst (λ (x : Row). x ≡ row_of x.0) same (sym (ap row_of (own o)))
-    by_test false rest e = rest e
+    by_test : (b : Bool) → q (row_of o) ≡ b → (find q (map row_of os) ≡ Some r → (r ≡ row_of r.0) × (q r ≡ true))
+        → (if b then Some (row_of o) else find q (map row_of os)) ≡ Some r → (r ≡ row_of r.0) × (q r ≡ true)
+    by_test true is rest e =
+        let same : row_of o ≡ r = cc in
+        (subst (λ (x : Row). x ≡ row_of x.0) same (sym (ap row_of (own o))), subst (λ (x : Row). q x ≡ true) same is)
+    by_test false is rest e = rest e
 
 -- a row that a number finds is the row of its operation
 pub own_row : (n : ℕ) (found : Option (Bor Row)) → option_copied found ≡ row_with_number n → IfSome found (λ row. row.now ≡ row_of row.now.0)
 own_row n None h = search rules
-own_row n (Some row) h = first_own (λ (r : Row). r.1 == n) ops row.now (sym h)
+own_row n (Some row) h = (first_own (λ (r : Row). r.1 == n) ops row.now (sym h)).0
+
+prefix_fits : (r : Row) → r ≡ row_of r.0 → r.3 ≡ Prefixed → number_fits Prefixed r.1 ≡ true
+prefix_fits r is class =
+    let all : number_fits r.3 r.1 ≡ true = subst (λ (x : Row). number_fits x.3 x.1 ≡ true) (sym is) (fits r.0) in
+    subst (λ (c : Class). number_fits c r.1 ≡ true) class all
+
+-- and is none of a prefix, where the word has none
+pub not_prefixed : (w : ℕ) (found : Option (Bor Row)) → w < 2 ^ 36 → prefix_of w % 4 ≡ 0 → option_copied found ≡ row_with_number (number_in w)
+    → IfSome found (λ row. row.now.3 ≢ Prefixed)
+not_prefixed w None below p h = search rules
+not_prefixed w (Some row) below p h = λ class.
+    let first = first_own (λ (r : Row). r.1 == number_in w) ops row.now (sym h) in
+    no_prefix_number w row.now.1 below p (eqb-true _ _ first.1) (prefix_fits row.now first.0 class)
 
 -- the instruction of a word that has a prefix
 at_prefix : (w k : ℕ) → k ≡ prefix_of w → prefix_of w % 4 ≢ 0 → row_with_number (0o10000 + k) ≡ row_with_number (number_in w)

@@ -4,7 +4,7 @@ ghost use Rattle.opcode_table.specs.Table.{class_of, kind_of, row_of, row_with_n
 ghost use Rattle.std.specs.Option.{option_map};
 ghost use Rattle.opcode_table.specs.Words.{decoded, encoded, fields_for, IsClean, HasFields, word_for, number_fits};
 
-use crate::index::row_in;
+use crate::index::row_coded;
 use crate::rows::row;
 use crate::{Class, Instr, Kind, Op, Row};
 use word36::Word;
@@ -15,35 +15,35 @@ pub fn decode(w: Word) -> Option<Instr>
     ensures value { result ≡ decoded w }
     ensures fields { IfSome result HasFields }
 {
-    let row = row_in(w)?;
-    Some(instr_in(row, w))
+    if w.prefix() & 3 != 0 {
+        return decode_prefixed(w);
+    }
+    let row = row_coded(w)?;
+    Some(instr_coded(row, w))
 }
 
-/// The instruction of a row whose fields stand in a word.
+/// The instruction of a row of no prefix whose fields stand in a word.
 #[inline(always)]
-pub fn instr_in(row: &Row, w: Word) -> Instr
+pub fn instr_coded(row: &Row, w: Word) -> Instr
+    requires { row.now.3 ≢ Class.Prefixed }
     ensures value { result ≡ fields_for row.now.3 w row.now }
+    ensures op { result.op ≡ row.now.0 }
     ensures fields { HasFields result }
 {
-    let (address, tag) = (w.address(), w.tag());
     let flag = match row.3 {
         Class::Addressed => w.bits() >> 22 & 3 == 3,
-        Class::Direct | Class::Tagged | Class::Prefixed | Class::Group => false,
-    };
-    let decrement = match row.3 {
-        Class::Prefixed => w.decrement(),
-        Class::Addressed | Class::Direct | Class::Tagged | Class::Group => 0,
+        _ => false,
     };
     let address = match row.3 {
         Class::Group => 0,
-        Class::Addressed | Class::Direct | Class::Tagged | Class::Prefixed => address,
+        _ => w.address(),
     };
     Instr {
         op: row.0,
         flag,
-        tag,
+        tag: w.tag(),
         address,
-        decrement,
+        decrement: 0,
     }
 }
 

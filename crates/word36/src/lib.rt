@@ -245,6 +245,9 @@ mod tests {
         assert!(rt; minus.negative());
         assert_eq!(rt; minus.word(), Word::from_bits(0o400000000005)?);
         assert_eq!(rt; minus.logical(), Word::from_bits(5)?);
+        let mut other = plus;
+        other.set(true, 5);
+        assert_eq!(rt; other, minus);
         Ok(())
     }
 

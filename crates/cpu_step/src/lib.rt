@@ -8,11 +8,16 @@ ghost use Rattle.word36.specs.Bits.{prefix_of};
 ghost use Rattle.machine_model.specs.Machine.{table, instruction, executed, once, done, row, is_xec, place_of, place_in, indexed};
 ghost use Rattle.machine_model.specs.Results.{ended};
 ghost use Rattle.machine_model.specs.Runs.{many};
+ghost use Rattle.machine_model.specs.Fixed.{fixed_row};
+ghost use Rattle.machine_model.specs.Logic.{logic_row};
+ghost use Rattle.machine_model.specs.Index.{index_row};
 ghost use Rattle.machine_model.specs.Step.{went};
 ghost use Rattle.cpu_step.specs.Results.{outcome, stepped_by, may_halt, Stays};
 
 use cpu_regs::{MemoryPort, OpEnd, Regs};
-use opcode_table::{Class, Instr, Kind, Op, class, decode, decode_prefixed, instr_in, kind, row_in};
+use opcode_table::{
+    Class, Instr, Kind, Op, class, decode, decode_prefixed, instr_coded, kind, row_coded,
+};
 use word36::Word;
 
 /// How a step ended.
@@ -86,7 +91,7 @@ fn go<M: MemoryPort>(regs: &mut Regs, core: &mut M) -> bool
     if fetched.prefix() & 3 != 0 {
         go_prefixed(regs, core, fetched)
     } else {
-        go_named(regs, core, fetched)
+        go_coded(regs, core, fetched)
     }
 }
 
@@ -113,10 +118,11 @@ fn go_prefixed<M: MemoryPort>(regs: &mut Regs, core: &mut M, word: Word) -> bool
     }
 }
 
-/// Does the instruction that a word is, if it goes on and is no XEC and no DVH; else nothing.
+/// Does the instruction that a word without a prefix is, if it goes on and is no XEC and no DVH; else nothing.
 #[inline(always)]
-fn go_named<M: MemoryPort>(regs: &mut Regs, core: &mut M, word: Word) -> bool
-    requires { regs.old.ic < 2 ^ 15 }
+fn go_coded<M: MemoryPort>(regs: &mut Regs, core: &mut M, word: Word) -> bool
+    requires prefix { prefix_of word % 4 ≡ 0 }
+    requires ic { regs.old.ic < 2 ^ 15 }
     ensures goes { result ≡ true → instruction (decoded word) (λ i. executed i regs.old (M.words core.old))
         ≡ went regs.new (M.words core.new) }
     ensures regs { result ≡ false → regs.new ≡ regs.old }
@@ -124,18 +130,18 @@ fn go_named<M: MemoryPort>(regs: &mut Regs, core: &mut M, word: Word) -> bool
     ensures keeps { M.Keeps core.old core.new }
     ensures ic { regs.new.ic < 2 ^ 15 }
 {
-    let Some(row) = row_in(word) else {
+    let Some(row) = row_coded(word) else {
         return false;
     };
-    let i = instr_in(row, word);
-    go_by(regs, core, row.3, &i)
+    let i = instr_coded(row, word);
+    go_by(regs, core, row.3, row.4, &i)
 }
 
-/// Does an instruction if it goes on and is no XEC and no DVH; else nothing.
+/// Does an instruction of a class and a group if it goes on and is no XEC and no DVH; else nothing.
 #[inline(always)]
-#[tactic(auto, using(crate::proofs::Goes::never_halts))]
-fn go_by<M: MemoryPort>(regs: &mut Regs, core: &mut M, class: Class, i: &Instr) -> bool
+fn go_by<M: MemoryPort>(regs: &mut Regs, core: &mut M, class: Class, kind: Kind, i: &Instr) -> bool
     requires class { class ≡ class_of i.now.op }
+    requires kind { kind ≡ kind_of i.now.op }
     requires fields { HasFields i.now }
     requires ic { regs.old.ic < 2 ^ 15 }
     ensures goes { result ≡ true → executed i.now regs.old (M.words core.old) ≡ went regs.new (M.words core.new) }
@@ -147,13 +153,80 @@ fn go_by<M: MemoryPort>(regs: &mut Regs, core: &mut M, class: Class, i: &Instr) 
     let Ok(y) = place(regs, core, class, i) else {
         return false;
     };
-    if is_xec(kind(i.op)) || may_halt(i.op) {
+    match kind {
+        Kind::Fixed => go_fixed(regs, core, i, y),
+        Kind::Logic => go_logic(regs, core, i, y),
+        Kind::Index => go_index(regs, core, i, y),
+        _ => false,
+    }
+}
+
+/// Does an operation of the group at the place `y` if it goes on and is no DVH; else nothing.
+#[inline(always)]
+fn go_fixed<M: MemoryPort>(regs: &mut Regs, core: &mut M, i: &Instr, y: u16) -> bool
+    requires kind { kind_of i.now.op ≡ Kind.Fixed }
+    requires fields { HasFields i.now }
+    requires y { y < 2 ^ 15 }
+    requires ic { regs.old.ic < 2 ^ 15 }
+    ensures goes { result ≡ true → fixed_row i.now.op i.now regs.old (M.words core.old) y ≡ went regs.new (M.words core.new) }
+    ensures regs { result ≡ false → regs.new ≡ regs.old }
+    ensures core { result ≡ false → M.words core.new ≡ M.words core.old }
+    ensures keeps { M.Keeps core.old core.new }
+    ensures ic { regs.new.ic < 2 ^ 15 }
+{
+    if may_halt(i.op) {
         return false;
     }
-    match perform_at(regs, core, i, y) {
-        Stepped::Went => true,
-        Stepped::Halt => unreachable!(),
-        Stepped::Entry(_) | Stepped::Illegal | Stepped::Outside(_) => false,
+    match ops_fixed::apply(regs, core, i, y) {
+        OpEnd::Went => true,
+        OpEnd::Halt => unreachable!(),
+        OpEnd::Outside(_) => false,
+    }
+}
+
+/// Does an operation of the group at the place `y` if it goes on; else nothing.
+#[inline(always)]
+fn go_logic<M: MemoryPort>(regs: &mut Regs, core: &mut M, i: &Instr, y: u16) -> bool
+    requires kind { kind_of i.now.op ≡ Kind.Logic }
+    requires fields { HasFields i.now }
+    requires y { y < 2 ^ 15 }
+    requires ic { regs.old.ic < 2 ^ 15 }
+    ensures goes { result ≡ true → logic_row i.now.op i.now regs.old (M.words core.old) y ≡ went regs.new (M.words core.new) }
+    ensures regs { result ≡ false → regs.new ≡ regs.old }
+    ensures core { result ≡ false → M.words core.new ≡ M.words core.old }
+    ensures keeps { M.Keeps core.old core.new }
+    ensures ic { regs.new.ic < 2 ^ 15 }
+{
+    if may_halt(i.op) {
+        return false;
+    }
+    match ops_logic::apply(regs, core, i, y) {
+        OpEnd::Went => true,
+        OpEnd::Halt => unreachable!(),
+        OpEnd::Outside(_) => false,
+    }
+}
+
+/// Does an operation of the group at the place `y` if it goes on; else nothing.
+#[inline(always)]
+fn go_index<M: MemoryPort>(regs: &mut Regs, core: &mut M, i: &Instr, y: u16) -> bool
+    requires kind { kind_of i.now.op ≡ Kind.Index }
+    requires fields { HasFields i.now }
+    requires y { y < 2 ^ 15 }
+    requires ic { regs.old.ic < 2 ^ 15 }
+    ensures goes { result ≡ true → index_row i.now.op i.now regs.old (M.words core.old) y ≡ went regs.new (M.words core.new) }
+    ensures regs { result ≡ false → regs.new ≡ regs.old }
+    ensures core { result ≡ false → M.words core.new ≡ M.words core.old }
+    ensures keeps { M.Keeps core.old core.new }
+    ensures ic { regs.new.ic < 2 ^ 15 }
+{
+    if may_halt(i.op) {
+        return false;
+    }
+    match ops_index::apply(regs, core, i, y) {
+        OpEnd::Went => true,
+        OpEnd::Halt => unreachable!(),
+        OpEnd::Outside(_) => false,
     }
 }
 

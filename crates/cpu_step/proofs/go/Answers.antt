@@ -8,4 +8,4 @@ returns-then-prefix-ne0-clause-goes g c =
 
 pub returns-else-prefix-ne0-clause-goes : goal.returns-else-prefix-ne0-clause-goes
 returns-else-prefix-ne0-clause-goes g c =
-    λ goes. fetched c.args.regs.now (g.M.MemoryPort.words c.args.core.now) c.in-Ok.fetched _ (sym c.in-Ok.ensures) (c.go_named.ensures.goes goes)
+    λ goes. fetched c.args.regs.now (g.M.MemoryPort.words c.args.core.now) c.in-Ok.fetched _ (sym c.in-Ok.ensures) (c.go_coded.ensures.goes goes)

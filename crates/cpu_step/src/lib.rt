@@ -1,17 +1,23 @@
 //! One step of the machine.
 #![tactic(auto)]
 
-ghost use Rattle.std.specs.Prelude.{◌≡◌, ◌<◌, ◌≤◌, ◌^◌, true, false, IfOk};
+ghost use Rattle.std.specs.Prelude.{◌≡◌, ◌≢◌, ◌<◌, ◌≤◌, ◌^◌, ◌%◌, true, false, IfOk};
 ghost use Rattle.opcode_table.specs.Table.{class_of, kind_of};
-ghost use Rattle.opcode_table.specs.Words.{HasFields};
-ghost use Rattle.machine_model.specs.Machine.{table, executed, once, done, row, is_xec, place_of, place_in, indexed};
+ghost use Rattle.opcode_table.specs.Words.{HasFields, decoded};
+ghost use Rattle.word36.specs.Bits.{prefix_of};
+ghost use Rattle.machine_model.specs.Machine.{table, instruction, executed, once, done, row, is_xec, place_of, place_in, indexed};
 ghost use Rattle.machine_model.specs.Results.{ended};
 ghost use Rattle.machine_model.specs.Runs.{many};
+ghost use Rattle.machine_model.specs.Fixed.{fixed_row};
+ghost use Rattle.machine_model.specs.Logic.{logic_row};
+ghost use Rattle.machine_model.specs.Index.{index_row};
 ghost use Rattle.machine_model.specs.Step.{went};
 ghost use Rattle.cpu_step.specs.Results.{outcome, stepped_by, may_halt, Stays};
 
 use cpu_regs::{MemoryPort, OpEnd, Regs};
-use opcode_table::{Class, Instr, Kind, Op, class, decode, kind};
+use opcode_table::{
+    Class, Instr, Kind, Op, class, decode, decode_prefixed, instr_coded, kind, row_coded,
+};
 use word36::Word;
 
 /// How a step ended.
@@ -82,16 +88,60 @@ fn go<M: MemoryPort>(regs: &mut Regs, core: &mut M) -> bool
     let Ok(fetched) = core.load(regs.ic) else {
         return false;
     };
-    let Some(i) = decode(fetched) else {
-        return false;
-    };
-    go_by(regs, core, &i)
+    if fetched.prefix() & 3 != 0 {
+        go_prefixed(regs, core, fetched)
+    } else {
+        go_coded(regs, core, fetched)
+    }
 }
 
-/// Does an instruction if it goes on and is no XEC and no DVH; else nothing.
+/// Does the instruction that a word with a prefix is, if there is one; else nothing.
 #[inline(always)]
-#[tactic(auto, using(crate::proofs::Goes::never_halts))]
-fn go_by<M: MemoryPort>(regs: &mut Regs, core: &mut M, i: &Instr) -> bool
+#[tactic(auto, using(crate::proofs::Goes::prefixed_goes))]
+fn go_prefixed<M: MemoryPort>(regs: &mut Regs, core: &mut M, word: Word) -> bool
+    requires prefix { prefix_of word % 4 ≢ 0 }
+    requires ic { regs.old.ic < 2 ^ 15 }
+    ensures goes { result ≡ true → instruction (decoded word) (λ i. executed i regs.old (M.words core.old))
+        ≡ went regs.new (M.words core.new) }
+    ensures regs { result ≡ false → regs.new ≡ regs.old }
+    ensures core { result ≡ false → M.words core.new ≡ M.words core.old }
+    ensures keeps { M.Keeps core.old core.new }
+    ensures ic { regs.new.ic < 2 ^ 15 }
+{
+    let Some(i) = decode_prefixed(word) else {
+        return false;
+    };
+    match ops_index::apply(regs, core, &i, i.address) {
+        OpEnd::Went => true,
+        OpEnd::Halt => unreachable!(),
+        OpEnd::Outside(_) => false,
+    }
+}
+
+/// Does the instruction that a word without a prefix is, if it goes on and is no XEC and no DVH; else nothing.
+#[inline(always)]
+fn go_coded<M: MemoryPort>(regs: &mut Regs, core: &mut M, word: Word) -> bool
+    requires prefix { prefix_of word % 4 ≡ 0 }
+    requires ic { regs.old.ic < 2 ^ 15 }
+    ensures goes { result ≡ true → instruction (decoded word) (λ i. executed i regs.old (M.words core.old))
+        ≡ went regs.new (M.words core.new) }
+    ensures regs { result ≡ false → regs.new ≡ regs.old }
+    ensures core { result ≡ false → M.words core.new ≡ M.words core.old }
+    ensures keeps { M.Keeps core.old core.new }
+    ensures ic { regs.new.ic < 2 ^ 15 }
+{
+    let Some(row) = row_coded(word) else {
+        return false;
+    };
+    let i = instr_coded(row, word);
+    go_by(regs, core, row.3, row.4, &i)
+}
+
+/// Does an instruction of a class and a group if it goes on and is no XEC and no DVH; else nothing.
+#[inline(always)]
+fn go_by<M: MemoryPort>(regs: &mut Regs, core: &mut M, class: Class, kind: Kind, i: &Instr) -> bool
+    requires class { class ≡ class_of i.now.op }
+    requires kind { kind ≡ kind_of i.now.op }
     requires fields { HasFields i.now }
     requires ic { regs.old.ic < 2 ^ 15 }
     ensures goes { result ≡ true → executed i.now regs.old (M.words core.old) ≡ went regs.new (M.words core.new) }
@@ -100,13 +150,83 @@ fn go_by<M: MemoryPort>(regs: &mut Regs, core: &mut M, i: &Instr) -> bool
     ensures keeps { M.Keeps core.old core.new }
     ensures ic { regs.new.ic < 2 ^ 15 }
 {
-    if is_xec(kind(i.op)) || may_halt(i.op) {
+    let Ok(y) = place(regs, core, class, i) else {
+        return false;
+    };
+    match kind {
+        Kind::Fixed => go_fixed(regs, core, i, y),
+        Kind::Logic => go_logic(regs, core, i, y),
+        Kind::Index => go_index(regs, core, i, y),
+        _ => false,
+    }
+}
+
+/// Does an operation of the group at the place `y` if it goes on and is no DVH; else nothing.
+#[inline(always)]
+fn go_fixed<M: MemoryPort>(regs: &mut Regs, core: &mut M, i: &Instr, y: u16) -> bool
+    requires kind { kind_of i.now.op ≡ Kind.Fixed }
+    requires fields { HasFields i.now }
+    requires y { y < 2 ^ 15 }
+    requires ic { regs.old.ic < 2 ^ 15 }
+    ensures goes { result ≡ true → fixed_row i.now.op i.now regs.old (M.words core.old) y ≡ went regs.new (M.words core.new) }
+    ensures regs { result ≡ false → regs.new ≡ regs.old }
+    ensures core { result ≡ false → M.words core.new ≡ M.words core.old }
+    ensures keeps { M.Keeps core.old core.new }
+    ensures ic { regs.new.ic < 2 ^ 15 }
+{
+    if may_halt(i.op) {
         return false;
     }
-    match perform(regs, core, i) {
-        Stepped::Went => true,
-        Stepped::Halt => unreachable!(),
-        Stepped::Entry(_) | Stepped::Illegal | Stepped::Outside(_) => false,
+    match ops_fixed::apply(regs, core, i, y) {
+        OpEnd::Went => true,
+        OpEnd::Halt => unreachable!(),
+        OpEnd::Outside(_) => false,
+    }
+}
+
+/// Does an operation of the group at the place `y` if it goes on; else nothing.
+#[inline(always)]
+fn go_logic<M: MemoryPort>(regs: &mut Regs, core: &mut M, i: &Instr, y: u16) -> bool
+    requires kind { kind_of i.now.op ≡ Kind.Logic }
+    requires fields { HasFields i.now }
+    requires y { y < 2 ^ 15 }
+    requires ic { regs.old.ic < 2 ^ 15 }
+    ensures goes { result ≡ true → logic_row i.now.op i.now regs.old (M.words core.old) y ≡ went regs.new (M.words core.new) }
+    ensures regs { result ≡ false → regs.new ≡ regs.old }
+    ensures core { result ≡ false → M.words core.new ≡ M.words core.old }
+    ensures keeps { M.Keeps core.old core.new }
+    ensures ic { regs.new.ic < 2 ^ 15 }
+{
+    if may_halt(i.op) {
+        return false;
+    }
+    match ops_logic::apply(regs, core, i, y) {
+        OpEnd::Went => true,
+        OpEnd::Halt => unreachable!(),
+        OpEnd::Outside(_) => false,
+    }
+}
+
+/// Does an operation of the group at the place `y` if it goes on; else nothing.
+#[inline(always)]
+fn go_index<M: MemoryPort>(regs: &mut Regs, core: &mut M, i: &Instr, y: u16) -> bool
+    requires kind { kind_of i.now.op ≡ Kind.Index }
+    requires fields { HasFields i.now }
+    requires y { y < 2 ^ 15 }
+    requires ic { regs.old.ic < 2 ^ 15 }
+    ensures goes { result ≡ true → index_row i.now.op i.now regs.old (M.words core.old) y ≡ went regs.new (M.words core.new) }
+    ensures regs { result ≡ false → regs.new ≡ regs.old }
+    ensures core { result ≡ false → M.words core.new ≡ M.words core.old }
+    ensures keeps { M.Keeps core.old core.new }
+    ensures ic { regs.new.ic < 2 ^ 15 }
+{
+    if may_halt(i.op) {
+        return false;
+    }
+    match ops_index::apply(regs, core, i, y) {
+        OpEnd::Went => true,
+        OpEnd::Halt => unreachable!(),
+        OpEnd::Outside(_) => false,
     }
 }
 
@@ -132,7 +252,7 @@ fn execute<M: MemoryPort>(regs: &mut Regs, core: &mut M, i: &Instr) -> Stepped
     if !is_xec(kind(i.op)) {
         return perform(regs, core, i);
     }
-    let y = match place(regs, core, i) {
+    let y = match place(regs, core, class(i.op), i) {
         Ok(y) => y,
         Err(address) => return Stepped::Outside(address),
     };
@@ -171,7 +291,7 @@ fn perform<M: MemoryPort>(regs: &mut Regs, core: &mut M, i: &Instr) -> Stepped
     ensures keeps { M.Keeps core.old core.new }
     ensures ic { regs.new.ic < 2 ^ 15 }
 {
-    let y = match place(regs, core, i) {
+    let y = match place(regs, core, class(i.op), i) {
         Ok(y) => y,
         Err(address) => return Stepped::Outside(address),
     };
@@ -234,14 +354,14 @@ fn indexed(address: u16, x: u16) -> u16
     (address + 0o100000 - x) & 0o77777
 }
 
-/// The place that an instruction works at, or the address outside.
+/// The place that an instruction of a class works at, or the address outside.
 #[inline(always)]
-fn place<M: MemoryPort>(regs: &Regs, core: &M, i: &Instr) -> Result<u16, u16>
+fn place<M: MemoryPort>(regs: &Regs, core: &M, class: Class, i: &Instr) -> Result<u16, u16>
     requires { HasFields i.now }
-    ensures place { result ≡ place_of (class_of i.now.op) i.now regs.now (M.words core.now) }
+    ensures place { result ≡ place_of class i.now regs.now (M.words core.now) }
     ensures below { IfOk result (λ y. y < 2 ^ 15) }
 {
-    match class(i.op) {
+    match class {
         Class::Addressed => {
             let y = indexed(i.address, regs.xr(i.tag));
             if !i.flag {

@@ -1,5 +1,5 @@
 -- Many steps that all went on.
-use Rattle.std.proofs.Common.{◌≡◌, ℕ, zero, suc, ◌+◌, List, refl, sym, ap, ◌∙◌, add-one}
+use Rattle.std.proofs.Common.{◌≡◌, ℕ, zero, suc, ◌+◌, List, refl, sym, ap, ◌∙◌, add-one, add-zero, arith}
 use Rattle.cpu_regs.specs.declared.regs.Regs.{Regs}
 use Rattle.machine_model.specs.Step.{Step, went, halt, entry, illegal, outside}
 use Rattle.machine_model.specs.Machine.{table}
@@ -16,6 +16,20 @@ many_suc n r core = refl
 -- one more
 pub many_more : (n : ℕ) (r s t : Regs) (core c d : List ℕ) → many n r core ≡ went s c → table s c ≡ went t d → many (n + 1) r core ≡ went t d
 many_more n r s t core c d been goes = ap (λ (k : ℕ). many k r core) (add-one n) ∙ many_suc n r core ∙ ap behind been ∙ goes
+
+-- some, and then more
+pub many_sum : (n m : ℕ) (r s : Regs) (core d : List ℕ) → many n r core ≡ went s d → many (n + m) r core ≡ many m s d
+many_sum n zero r s core d been = ap (λ (k : ℕ). many k r core) (add-zero n) ∙ been ∙ sym (many_none s d)
+many_sum n (suc m) r s core d been =
+    let more : n + suc m ≡ suc (n + m) = omega arith in
+    ap (λ (k : ℕ). many k r core) more ∙ many_suc (n + m) r core ∙ ap behind (many_sum n m r s core d been) ∙ sym (many_suc m s d)
+
+-- what doesn't go on stays
+pub many_stays : (n m : ℕ) (r : Regs) (core : List ℕ) (last : Step) → many n r core ≡ last → behind last ≡ last → many (n + m) r core ≡ last
+many_stays n zero r core last been stays = ap (λ (k : ℕ). many k r core) (add-zero n) ∙ been
+many_stays n (suc m) r core last been stays =
+    let more : n + suc m ≡ suc (n + m) = omega arith in
+    ap (λ (k : ℕ). many k r core) more ∙ many_suc (n + m) r core ∙ ap behind (many_stays n m r core last been stays) ∙ stays
 
 -- all but the last
 pub record Before (n : ℕ) (r t : Regs) (core d : List ℕ) : Type 0 where

@@ -1,8 +1,14 @@
 -- The numbers of packed words, over plain variables.
-use Rattle.std.proofs.Common.{◌≡◌, ℕ, Bool, true, false, not, nat_lt, nat_le, nat_eq, ◌+◌, ◌-◌, ◌*◌, ◌/◌, ◌%◌, ◌^◌, ◌<◌, arith, ◌&&◌, if◌then◌else◌}
+use Rattle.std.proofs.Common.{◌≡◌, ◌≢◌, ℕ, Bool, true, false, not, nat_lt, nat_le, nat_eq, ◌+◌, ◌-◌, ◌*◌, ◌/◌, ◌%◌, ◌^◌, ◌<◌, arith, ◌&&◌, if◌then◌else◌}
 use Rattle.std.proofs.lemmas.Bool.Decides.{nat_tests}
 use Rattle.opcode_table.specs.Words.{number_in}
-use Rattle.word36.specs.Bits.{tag_of}
+use Rattle.word36.specs.Bits.{tag_of, prefix_of}
+
+pub prefix_number : (w k : ℕ) → k ≡ prefix_of w → prefix_of w % 4 ≢ 0 → number_in w ≡ 0o10000 + k
+prefix_number w k e n = grind (arith, nat_tests)
+
+pub no_prefix_number : (w k : ℕ) → w < 2 ^ 36 → prefix_of w % 4 ≡ 0 → k ≡ number_in w → nat_lt 0o10000 k && nat_lt k 0o10010 && not (nat_eq (k % 4) 0) ≢ true
+no_prefix_number w k below p is = grind (arith, nat_tests)
 
 pub code_numbered : (k m : ℕ) → m < 2 ^ 24 → nat_lt k 0o10000 && nat_eq (k / 2 ^ 9 % 4) 0 && not (nat_eq (k % 2 ^ 11) 0o760) ≡ true
     → number_in (k * 2 ^ 24 + m) ≡ k

@@ -13,7 +13,7 @@ use Rattle.word36.specs.Bits.{prefix_of, address_of}
 use Rattle.opcode_table.specs.Words.{number_in}
 use Rattle.opcode_table.specs.Table.{row_of, ops, row_with_number, place_with_number}
 use Rattle.opcode_table.specs.declared.op.Row.{Row}
-use Rattle.opcode_table.specs.declared.index.TheConstants.{CODES, PREFIXES, GROUP}
+use Rattle.opcode_table.specs.declared.index.TheConstants.{CODES, GROUP}
 
 pub row_there : (n : ℕ) → slice_get (map row_of ops) (place_with_number n) ≡ row_with_number n
 unfolding place_with_number
@@ -27,9 +27,6 @@ follows number i (v ∷ vs) = nat_eq v (place_with_number (number i)) && follows
 -- the numbers of the places
 abbrev code_number : ℕ → ℕ
 code_number i = i / 2 ^ 9 * 2 ^ 11 + i % 2 ^ 9
-
-abbrev prefix_number : ℕ → ℕ
-prefix_number i = 0o10000 + i
 
 abbrev group_number : ℕ → ℕ
 group_number i = 0o20000 + i / 2 ^ 4 * 0o100000 + i % 2 ^ 4
@@ -50,19 +47,12 @@ follows_at number i (v ∷ vs) (suc j) k e below at =
     let parts = and_parts (nat_eq v (place_with_number (number i))) (follows number (suc i) vs) e in
     follows_at number (suc i) vs j k parts.1 (omega arith) (omega arith)
 
-prefixes_follow : follows prefix_number 0 PREFIXES ≡ true
-unfolding follows place_with_number
-prefixes_follow = refl
-
 group_follows : follows group_number 0 GROUP ≡ true
 unfolding follows place_with_number
 group_follows = refl
 
 code_place : (p n : ℕ) → p < 1024 → n ≡ code_number p → slice_index_or CODES p 0 ≡ place_with_number n
 code_place p n below e = follows_at code_number 0 CODES p p codes_follow below (omega arith) ∙ ap place_with_number (sym e)
-
-prefix_place : (p n : ℕ) → p < 8 → n ≡ prefix_number p → slice_index_or PREFIXES p 0 ≡ place_with_number n
-prefix_place p n below e = follows_at prefix_number 0 PREFIXES p p prefixes_follow below (omega arith) ∙ ap place_with_number (sym e)
 
 group_place : (p n : ℕ) → p < 32 → n ≡ group_number p → slice_index_or GROUP p 0 ≡ place_with_number n
 group_place p n below e = follows_at group_number 0 GROUP p p group_follows below (omega arith) ∙ ap place_with_number (sym e)
@@ -88,9 +78,6 @@ unfolding place_with_number small_address
 none_past n low large = sym (past small_address (λ r. r.1 == n) (map row_of ops) refl (λ r e. other r n low large e))
 
 -- by the tests of a word
-number_prefix : (w prefix : ℕ) → prefix ≡ prefix_of w → prefix % 4 ≢ 0 → number_in w ≡ 0o10000 + prefix
-number_prefix w prefix p n = grind (arith, nat_tests)
-
 number_code : (w : ℕ) → prefix_of w % 4 ≡ 0 → w / 2 ^ 24 % 2 ^ 11 ≢ 0o760 → number_in w ≡ w / 2 ^ 24
 number_code w e n = grind (arith, nat_tests)
 
@@ -98,39 +85,50 @@ number_group : (w : ℕ) → prefix_of w % 4 ≡ 0 → w / 2 ^ 24 % 2 ^ 11 ≡ 0
 number_group w e n = grind (arith, nat_tests)
 
 -- what the code reads, in its words
-pub prefix_returns : (w prefix : ℕ) → prefix ≡ prefix_of w → prefix < 8 → bit_and prefix 3 ≢ 0
-    → slice_index_or PREFIXES prefix 0 ≡ place_with_number (number_in w)
-prefix_returns w prefix p below e =
-    let number : number_in w ≡ 0o10000 + prefix = number_prefix w prefix p (λ z. e (and_mask prefix 2 ∙ z)) in
-    prefix_place prefix (number_in w) below number
+pub code_returns : (w i : ℕ) → w < 2 ^ 36 → prefix_of w % 4 ≡ 0 → i ≡ w / 2 ^ 24 / 2 ^ 11 * 2 ^ 9 + w / 2 ^ 24 % 2 ^ 9
+    → slice_index_or CODES i 0 ≡ place_with_number (w / 2 ^ 24)
+code_returns w i below p e = code_place i (w / 2 ^ 24) (omega arith) (omega arith)
 
-pub code_returns : (w bits prefix : ℕ) → bits ≡ w → bits < 2 ^ 36 → prefix ≡ prefix_of w → bit_and prefix 3 ≡ 0
-    → bit_and (bits / 2 ^ 24) 0o3777 ≢ 0o760
-    → slice_index_or CODES (bits / 2 ^ 24 / 2 ^ 11 * 2 ^ 9 % 2 ^ 64 + bit_and (bits / 2 ^ 24) 0o777) 0 ≡ place_with_number (number_in w)
-code_returns w bits prefix b below p e n =
-    let two = and_mask prefix 2 in
-    let eleven = and_mask (bits / 2 ^ 24) 11 in
-    let nine = and_mask (bits / 2 ^ 24) 9 in
-    let number = number_code w (omega (arith, two, p, e)) (λ z. n (omega (arith, eleven, b, z))) in
-    code_place (bits / 2 ^ 24 / 2 ^ 11 * 2 ^ 9 % 2 ^ 64 + bit_and (bits / 2 ^ 24) 0o777) (number_in w) (omega (arith, nine)) (omega (arith, nine, number))
-
-pub group_returns : (w bits prefix address : ℕ) → bits ≡ w → bits < 2 ^ 36 → prefix ≡ prefix_of w → bit_and prefix 3 ≡ 0
-    → bit_and (bits / 2 ^ 24) 0o3777 ≡ 0o760
+pub group_returns : (w bits address : ℕ) → bits ≡ w → bits < 2 ^ 36 → prefix_of w % 4 ≡ 0 → bit_and (bits / 2 ^ 24) 0o3777 ≡ 0o760
     → address ≡ address_of w → address < 16 → slice_index_or GROUP (bits / 2 ^ 24 / 2 ^ 11 * 2 ^ 4 % 2 ^ 64 + address) 0 ≡ place_with_number (number_in w)
-group_returns w bits prefix address b below p e n a small =
-    let two = and_mask prefix 2 in
+group_returns w bits address b below p n a small =
     let eleven = and_mask (bits / 2 ^ 24) 11 in
-    let number = number_group w (omega (arith, two, p, e)) (omega (arith, eleven, b, n)) in
+    let number = number_group w p (omega (arith, eleven, b, n)) in
     group_place (bits / 2 ^ 24 / 2 ^ 11 * 2 ^ 4 % 2 ^ 64 + address) (number_in w) (omega arith) (omega (arith, number))
 
-pub past_returns : (w bits prefix address : ℕ) → bits ≡ w → prefix ≡ prefix_of w → bit_and prefix 3 ≡ 0
-    → bit_and (bits / 2 ^ 24) 0o3777 ≡ 0o760
+pub past_returns : (w bits address : ℕ) → bits ≡ w → prefix_of w % 4 ≡ 0 → bit_and (bits / 2 ^ 24) 0o3777 ≡ 0o760
     → address ≡ address_of w → 16 ≤ address → 110 ≡ place_with_number (number_in w)
-past_returns w bits prefix address b p e n a large =
-    let two = and_mask prefix 2 in
+past_returns w bits address b p n a large =
     let eleven = and_mask (bits / 2 ^ 24) 11 in
-    let number = number_group w (omega (arith, two, p, e)) (omega (arith, eleven, b, n)) in
+    let number = number_group w p (omega (arith, eleven, b, n)) in
     none_past (number_in w) (omega (arith, number)) (omega (arith, number, a))
+
+-- code 0760 is no number of a row
+no_row : (w : ℕ) → w < 2 ^ 36 → prefix_of w % 4 ≡ 0 → w / 2 ^ 24 % 2 ^ 11 ≡ 0o760 → row_with_number (w / 2 ^ 24) ≡ None
+no_row w below p n = by_sign (w / 2 ^ 35) refl
+  where
+    by_sign : (k : ℕ) → k ≡ w / 2 ^ 35 → row_with_number (w / 2 ^ 24) ≡ None
+    by_sign zero e = let plus : w / 2 ^ 24 ≡ 0o760 = omega arith in ap row_with_number plus
+    by_sign (suc zero) e = let minus : w / 2 ^ 24 ≡ 0o4760 = omega arith in ap row_with_number minus
+    by_sign (suc (suc k)) e = absurd (omega arith)
+
+-- the row of a word's code, and else that of its group
+pub coded : (w : ℕ) (r : Row) → w < 2 ^ 36 → prefix_of w % 4 ≡ 0 → Some r ≡ row_with_number (w / 2 ^ 24) → Some r ≡ row_with_number (number_in w)
+coded w r below p found = by_code (nat_eq (w / 2 ^ 24 % 2 ^ 11) 0o760) refl
+  where
+    by_code : (b : Bool) → nat_eq (w / 2 ^ 24 % 2 ^ 11) 0o760 ≡ b → Some r ≡ row_with_number (number_in w)
+    by_code true e = let none = no_row w below p (eqb-true _ _ e) in cc
+    by_code false e = let number = number_code w p (grind (arith, nat_tests, e)) in found ∙ ap row_with_number (sym number)
+
+pub grouped : (w place : ℕ) → w < 2 ^ 36 → prefix_of w % 4 ≡ 0 → None ≡ row_with_number (w / 2 ^ 24) → (w / 2 ^ 24 % 2 ^ 11 ≡ 0o760 → place ≡ place_with_number (number_in w))
+    → (w / 2 ^ 24 % 2 ^ 11 ≢ 0o760 → place ≡ 110) → slice_get (map row_of ops) place ≡ row_with_number (number_in w)
+grouped w place below p none group other = by_code (nat_eq (w / 2 ^ 24 % 2 ^ 11) 0o760) refl
+  where
+    by_code : (b : Bool) → nat_eq (w / 2 ^ 24 % 2 ^ 11) 0o760 ≡ b → slice_get (map row_of ops) place ≡ row_with_number (number_in w)
+    by_code true e = ap (slice_get (map row_of ops)) (group (eqb-true _ _ e)) ∙ row_there (number_in w)
+    by_code false e =
+        let differs : w / 2 ^ 24 % 2 ^ 11 ≢ 0o760 = grind (arith, nat_tests, e) in
+        ap (slice_get (map row_of ops)) (other differs) ∙ none ∙ ap row_with_number (sym (number_code w p differs))
 
 pub row_in_place : (xs : List Row) (i : ℕ) (r : Option (Bor Row)) → IsItemAt xs i r → option_copied r ≡ slice_get xs i
 row_in_place xs i None h = sym (slice_get_past xs i h.3)

@@ -1,13 +1,14 @@
 //! From a word to the row of its operation, with no search. A place is a row's index in `ROWS`, and 110 says that there
 //! is none.
 
-ghost use Rattle.std.specs.Prelude.{◌≡◌, map, slice_get};
+ghost use Rattle.std.specs.Prelude.{◌≡◌, ◌≢◌, ◌/◌, ◌%◌, ◌^◌, ◌<◌, map, slice_get, IfSome};
 ghost use Rattle.std.specs.Option.{option_copied};
+ghost use Rattle.word36.specs.Bits.{prefix_of};
 ghost use Rattle.opcode_table.specs.Table.{row_of, ops, row_with_number, place_with_number};
 ghost use Rattle.opcode_table.specs.Words.{number_in};
 
-use crate::Row;
 use crate::rows::ROWS;
+use crate::{Class, Row};
 use word36::Word;
 
 /// The places by positions S and 3 to 11, for words whose positions 1 and 2 are zero. Code 0760 has none here.
@@ -95,9 +96,6 @@ static CODES: [u8; 1024] = [
     110, 110, 110,  40, 110,  41, 110, 110, 110, 110, 110,  42,  48, 110, 110, 110,
 ];
 
-/// The places by prefix.
-static PREFIXES: [u8; 8] = [110, 96, 97, 98, 110, 110, 99, 100];
-
 /// The places by sign and address for code 0760, whose operations have addresses below 16.
 #[rattlefmt::skip]
 static GROUP: [u8; 32] = [
@@ -105,36 +103,61 @@ static GROUP: [u8; 32] = [
     110, 103, 110, 106, 110, 110, 110, 110, 110, 110, 110, 110, 110, 110, 110, 110,
 ];
 
-/// The row of the operation that a word names.
-#[inline]
-#[tactic(auto, using(crate::proofs::Places::row_there))]
-pub(crate) fn row_in(w: Word) -> Option<&'static Row>
-    ensures { option_copied result ≡ row_with_number (number_in w) }
+/// The row of the operation that a word names whose positions 1 and 2 are zero.
+#[inline(always)]
+pub fn row_coded(w: Word) -> Option<&'static Row>
+    requires { prefix_of w % 4 ≡ 0 }
+    ensures named { option_copied result ≡ row_with_number (number_in w) }
+    ensures own { IfSome result (λ row. row.now ≡ row_of row.now.0) }
+    ensures class { IfSome result (λ row. row.now.3 ≢ Class.Prefixed) }
 {
-    row_in_place(place_in(w))
+    row_found(w)
+}
+
+/// The row of the operation that a word names whose positions 1 and 2 are zero, by its code and then by its group.
+#[inline(always)]
+fn row_found(w: Word) -> Option<&'static Row>
+    requires { prefix_of w % 4 ≡ 0 }
+    ensures named { option_copied result ≡ row_with_number (number_in w) }
+    ensures word { w < 2 ^ 36 }
+{
+    match row_in_place(code_place(w)) {
+        Some(row) => Some(row),
+        None => row_in_place(group_place(w)),
+    }
 }
 
 /// The row of a place.
-#[inline]
+#[inline(always)]
 fn row_in_place(place: u8) -> Option<&'static Row>
     ensures { option_copied result ≡ slice_get (map row_of ops) place }
 {
     ROWS.get(usize::from(place))
 }
 
-/// The place of the row of the operation that a word names.
-#[inline]
-#[tactic(auto, using(crate::proofs::Places::prefix_returns, crate::proofs::Places::code_returns, crate::proofs::Places::group_returns, crate::proofs::Places::past_returns))]
-fn place_in(w: Word) -> u8
-    ensures { result ≡ place_with_number (number_in w) }
+/// The place of the row whose number is positions S and 1 to 11 of a word.
+#[inline(always)]
+fn code_place(w: Word) -> u8
+    requires { prefix_of w % 4 ≡ 0 }
+    ensures place { result ≡ place_with_number (w / 2 ^ 24) }
+    ensures word { w < 2 ^ 36 }
 {
-    let prefix = usize::from(w.prefix());
+    let code = (w.bits() >> 24) as u32;
+    let place = (code >> 11 << 9) + (code & 0o777);
+    CODES[place as usize]
+}
+
+/// The place of the row of the operation that a word of code 0760 names, and 110 for a word of another code.
+#[cold]
+#[tactic(auto, using(crate::proofs::Places::group_returns, crate::proofs::Places::past_returns))]
+fn group_place(w: Word) -> u8
+    requires { prefix_of w % 4 ≡ 0 }
+    ensures group { w / 2 ^ 24 % 2 ^ 11 ≡ 0o760 → result ≡ place_with_number (number_in w) }
+    ensures other { w / 2 ^ 24 % 2 ^ 11 ≢ 0o760 → result ≡ 110 }
+{
     let code = (w.bits() >> 24) as usize;
-    if prefix & 3 != 0 {
-        return PREFIXES[prefix];
-    }
     if code & 0o3777 != 0o760 {
-        return CODES[(code >> 11 << 9) + (code & 0o777)];
+        return 110;
     }
     let address = usize::from(w.address());
     if address < 16 {

@@ -6,9 +6,10 @@ mod op;
 mod rows;
 mod words;
 
+pub use index::row_coded;
 pub use op::{Class, Instr, Kind, Op, Row};
 pub use rows::{class, kind, op_named};
-pub use words::{decode, encode};
+pub use words::{decode, decode_prefixed, encode, instr_coded};
 
 #[cfg(test)]
 mod tests;

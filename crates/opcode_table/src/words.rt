@@ -1,9 +1,12 @@
-ghost use Rattle.std.specs.Prelude.{◌≡◌, ◌<◌, ◌^◌, Some, true, IfSome};
-ghost use Rattle.opcode_table.specs.Words.{decoded, encoded, IsClean, HasFields, word_for, number_fits};
+ghost use Rattle.std.specs.Prelude.{◌≡◌, ◌≢◌, ◌<◌, ◌^◌, ◌%◌, ◌+◌, Some, true, IfSome};
+ghost use Rattle.word36.specs.Bits.{prefix_of};
+ghost use Rattle.opcode_table.specs.Table.{class_of, kind_of, row_of, row_with_number};
+ghost use Rattle.std.specs.Option.{option_map};
+ghost use Rattle.opcode_table.specs.Words.{decoded, encoded, fields_for, IsClean, HasFields, word_for, number_fits};
 
-use crate::index::row_in;
+use crate::index::row_coded;
 use crate::rows::row;
-use crate::{Class, Instr, Row};
+use crate::{Class, Instr, Kind, Op, Row};
 use word36::Word;
 
 /// The instruction that a word is, and `None` where it names no operation of the table.
@@ -12,29 +15,75 @@ pub fn decode(w: Word) -> Option<Instr>
     ensures value { result ≡ decoded w }
     ensures fields { IfSome result HasFields }
 {
-    let row = row_in(w)?;
-    let named = Instr {
+    if w.prefix() & 3 != 0 {
+        return decode_prefixed(w);
+    }
+    let row = row_coded(w)?;
+    Some(instr_coded(row, w))
+}
+
+/// The instruction of a row of no prefix whose fields stand in a word.
+#[inline(always)]
+pub fn instr_coded(row: &Row, w: Word) -> Instr
+    requires { row.now.3 ≢ Class.Prefixed }
+    ensures value { result ≡ fields_for row.now.3 w row.now }
+    ensures op { result.op ≡ row.now.0 }
+    ensures fields { HasFields result }
+{
+    let flag = match row.3 {
+        Class::Addressed => w.bits() >> 22 & 3 == 3,
+        _ => false,
+    };
+    let address = match row.3 {
+        Class::Group => 0,
+        _ => w.address(),
+    };
+    Instr {
         op: row.0,
+        flag,
+        tag: w.tag(),
+        address,
+        decrement: 0,
+    }
+}
+
+/// The instruction of a word that a prefix names, and `None` where none has that prefix.
+#[inline(always)]
+#[tactic(auto, using(crate::proofs::Codes::no_prefix_decoded))]
+pub fn decode_prefixed(w: Word) -> Option<Instr>
+    requires { prefix_of w % 4 ≢ 0 }
+    ensures value { result ≡ decoded w }
+    ensures fields { IfSome result HasFields }
+    ensures class { IfSome result (λ i. class_of i.op ≡ Class.Prefixed) }
+    ensures kind { IfSome result (λ i. kind_of i.op ≡ Kind.Index) }
+{
+    let op = prefixed(w.prefix())?;
+    Some(Instr {
+        op,
         flag: false,
         tag: w.tag(),
         address: w.address(),
-        decrement: 0,
-    };
-    Some(match row.3 {
-        Class::Addressed => Instr {
-            flag: w.bits() >> 22 & 3 == 3,
-            ..named
-        },
-        Class::Direct | Class::Tagged => named,
-        Class::Prefixed => Instr {
-            decrement: w.decrement(),
-            ..named
-        },
-        Class::Group => Instr {
-            address: 0,
-            ..named
-        },
+        decrement: w.decrement(),
     })
+}
+
+/// The operation of a prefix, if there is one.
+#[inline(always)]
+#[tactic(auto, using(crate::proofs::Codes::no_prefix))]
+fn prefixed(prefix: u8) -> Option<Op>
+    requires { prefix < 8 }
+    ensures row { option_map row_of result ≡ row_with_number (0o10000 + prefix) }
+    ensures class { IfSome result (λ op. class_of op ≡ Class.Prefixed) }
+    ensures kind { IfSome result (λ op. kind_of op ≡ Kind.Index) }
+{
+    match prefix {
+        1 => Some(Op::Txi),
+        2 => Some(Op::Tix),
+        3 => Some(Op::Txh),
+        6 => Some(Op::Tnx),
+        7 => Some(Op::Txl),
+        _ => None,
+    }
 }
 
 /// The word of an instruction.
@@ -44,11 +93,7 @@ pub fn encode(i: &Instr) -> Word
     ensures value { result ≡ encoded i.now }
     ensures again { IsClean i.now → decoded result ≡ Some i.now }
 {
-    let bits = bits_of(row(i.op), i);
-    match Word::from_bits(bits) {
-        Ok(word) => word,
-        Err(_) => unreachable!(),
-    }
+    Word::of(bits_of(row(i.op), i))
 }
 
 /// The bits of an instruction of a row.

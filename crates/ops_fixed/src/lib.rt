@@ -10,6 +10,7 @@ ghost use Rattle.word36.specs.Bits.{is_minus, magnitude_of};
 ghost use Rattle.arith36.specs.Arith.{sum_of, product_of};
 ghost use Rattle.machine_model.specs.Fixed.{round, with_left, with_tag, with_prefix};
 ghost use Rattle.machine_model.specs.Step.{past, with_sum, with_pair};
+ghost use Rattle.ops_fixed.specs.Families.{is_load_or_store, is_part_store, is_sum, is_product, is_test, is_change};
 
 use arith36::{
     Divide, Side, add, add_magnitude, compare, dvp, mpr, mpy, round as rounded_sum, sub,
@@ -17,7 +18,7 @@ use arith36::{
 };
 use cpu_regs::{MemoryPort, OpEnd, Regs};
 use opcode_table::{Instr, Kind, Op};
-use word36::{Acc, Word};
+use word36::Word;
 
 /// Does an operation of this group at the place `y`.
 #[inline(always)]
@@ -32,11 +33,38 @@ pub fn apply<M: MemoryPort>(regs: &mut Regs, core: &mut M, i: &Instr, y: u16) ->
     ensures ic { regs.new.ic < 2 ^ 15 }
 {
     match i.op {
+        Op::Cla | Op::Cls | Op::Ldq | Op::Stz | Op::Sto | Op::Stq => load_or_store(
+            regs, core, i, y,
+        ),
+        Op::Slq | Op::Sta | Op::Std | Op::Stt | Op::Stl | Op::Stp => store_part(regs, core, i, y),
+        Op::Add | Op::Sub | Op::Adm | Op::Sbm => sum(regs, core, i, y),
+        Op::Mpy | Op::Mpr | Op::Dvp | Op::Dvh => product(regs, core, i, y),
+        Op::Cas | Op::Zet | Op::Nzt | Op::Lbt | Op::Pbt | Op::Dct => test(regs, core, i, y),
+        Op::Xca | Op::Clm | Op::Chs | Op::Ssp | Op::Ssm | Op::Com | Op::Rnd => change(
+            regs, core, i, y,
+        ),
+        _ => unreachable!(),
+    }
+}
+
+/// Loads a register from the word at `y`, or stores a register or zero there.
+#[inline(always)]
+fn load_or_store<M: MemoryPort>(regs: &mut Regs, core: &mut M, i: &Instr, y: u16) -> OpEnd
+    requires family { is_load_or_store i.now.op ≡ true }
+    requires fields { HasFields i.now }
+    requires y { y < 2 ^ 15 }
+    requires ic { regs.old.ic < 2 ^ 15 }
+    ensures row { ended result regs.new (M.words core.new) ≡ fixed_row i.now.op i.now regs.old (M.words core.old) y }
+    ensures outside { Keeps result regs.old regs.new (M.words core.old) (M.words core.new) }
+    ensures keeps { M.Keeps core.old core.new }
+    ensures ic { regs.new.ic < 2 ^ 15 }
+{
+    match i.op {
         Op::Cla => {
             let Ok(w) = core.load(y) else {
                 return OpEnd::Outside(y);
             };
-            regs.ac = Acc::new(w.negative(), w.magnitude());
+            regs.ac.set(w.negative(), w.magnitude());
             regs.skip(1);
             OpEnd::Went
         }
@@ -44,7 +72,7 @@ pub fn apply<M: MemoryPort>(regs: &mut Regs, core: &mut M, i: &Instr, y: u16) ->
             let Ok(w) = core.load(y) else {
                 return OpEnd::Outside(y);
             };
-            regs.ac = Acc::new(!w.negative(), w.magnitude());
+            regs.ac.set(!w.negative(), w.magnitude());
             regs.skip(1);
             OpEnd::Went
         }
@@ -77,6 +105,23 @@ pub fn apply<M: MemoryPort>(regs: &mut Regs, core: &mut M, i: &Instr, y: u16) ->
             regs.skip(1);
             OpEnd::Went
         }
+        _ => unreachable!(),
+    }
+}
+
+/// Stores a part of a register in the word at `y`.
+#[inline(always)]
+fn store_part<M: MemoryPort>(regs: &mut Regs, core: &mut M, i: &Instr, y: u16) -> OpEnd
+    requires family { is_part_store i.now.op ≡ true }
+    requires fields { HasFields i.now }
+    requires y { y < 2 ^ 15 }
+    requires ic { regs.old.ic < 2 ^ 15 }
+    ensures row { ended result regs.new (M.words core.new) ≡ fixed_row i.now.op i.now regs.old (M.words core.old) y }
+    ensures outside { Keeps result regs.old regs.new (M.words core.old) (M.words core.new) }
+    ensures keeps { M.Keeps core.old core.new }
+    ensures ic { regs.new.ic < 2 ^ 15 }
+{
+    match i.op {
         Op::Slq => {
             let Ok(w) = core.load(y) else {
                 return OpEnd::Outside(y);
@@ -128,6 +173,23 @@ pub fn apply<M: MemoryPort>(regs: &mut Regs, core: &mut M, i: &Instr, y: u16) ->
             regs.skip(1);
             OpEnd::Went
         }
+        _ => unreachable!(),
+    }
+}
+
+/// Adds or subtracts the word at `y`.
+#[inline(always)]
+fn sum<M: MemoryPort>(regs: &mut Regs, core: &mut M, i: &Instr, y: u16) -> OpEnd
+    requires family { is_sum i.now.op ≡ true }
+    requires fields { HasFields i.now }
+    requires y { y < 2 ^ 15 }
+    requires ic { regs.old.ic < 2 ^ 15 }
+    ensures row { ended result regs.new (M.words core.new) ≡ fixed_row i.now.op i.now regs.old (M.words core.old) y }
+    ensures outside { Keeps result regs.old regs.new (M.words core.old) (M.words core.new) }
+    ensures keeps { M.Keeps core.old core.new }
+    ensures ic { regs.new.ic < 2 ^ 15 }
+{
+    match i.op {
         Op::Add => {
             let Ok(w) = core.load(y) else {
                 return OpEnd::Outside(y);
@@ -160,6 +222,23 @@ pub fn apply<M: MemoryPort>(regs: &mut Regs, core: &mut M, i: &Instr, y: u16) ->
             regs.skip(1);
             OpEnd::Went
         }
+        _ => unreachable!(),
+    }
+}
+
+/// Multiplies or divides by the word at `y`.
+#[inline(always)]
+fn product<M: MemoryPort>(regs: &mut Regs, core: &mut M, i: &Instr, y: u16) -> OpEnd
+    requires family { is_product i.now.op ≡ true }
+    requires fields { HasFields i.now }
+    requires y { y < 2 ^ 15 }
+    requires ic { regs.old.ic < 2 ^ 15 }
+    ensures row { ended result regs.new (M.words core.new) ≡ fixed_row i.now.op i.now regs.old (M.words core.old) y }
+    ensures outside { Keeps result regs.old regs.new (M.words core.old) (M.words core.new) }
+    ensures keeps { M.Keeps core.old core.new }
+    ensures ic { regs.new.ic < 2 ^ 15 }
+{
+    match i.op {
         Op::Mpy => {
             let Ok(w) = core.load(y) else {
                 return OpEnd::Outside(y);
@@ -182,7 +261,7 @@ pub fn apply<M: MemoryPort>(regs: &mut Regs, core: &mut M, i: &Instr, y: u16) ->
             };
             match dvp(regs.ac, regs.mq, w) {
                 Divide::Divided(pair) => {
-                    regs.ac = pair.acc;
+                    regs.ac.set(pair.acc.negative(), pair.acc.magnitude());
                     regs.mq = pair.mq;
                     regs.skip(1);
                     OpEnd::Went
@@ -200,7 +279,7 @@ pub fn apply<M: MemoryPort>(regs: &mut Regs, core: &mut M, i: &Instr, y: u16) ->
             };
             match dvp(regs.ac, regs.mq, w) {
                 Divide::Divided(pair) => {
-                    regs.ac = pair.acc;
+                    regs.ac.set(pair.acc.negative(), pair.acc.magnitude());
                     regs.mq = pair.mq;
                     regs.skip(1);
                     OpEnd::Went
@@ -212,6 +291,23 @@ pub fn apply<M: MemoryPort>(regs: &mut Regs, core: &mut M, i: &Instr, y: u16) ->
                 }
             }
         }
+        _ => unreachable!(),
+    }
+}
+
+/// Tests the word at `y` or the registers, and skips.
+#[inline(always)]
+fn test<M: MemoryPort>(regs: &mut Regs, core: &mut M, i: &Instr, y: u16) -> OpEnd
+    requires family { is_test i.now.op ≡ true }
+    requires fields { HasFields i.now }
+    requires y { y < 2 ^ 15 }
+    requires ic { regs.old.ic < 2 ^ 15 }
+    ensures row { ended result regs.new (M.words core.new) ≡ fixed_row i.now.op i.now regs.old (M.words core.old) y }
+    ensures outside { Keeps result regs.old regs.new (M.words core.old) (M.words core.new) }
+    ensures keeps { M.Keeps core.old core.new }
+    ensures ic { regs.new.ic < 2 ^ 15 }
+{
+    match i.op {
         Op::Cas => {
             let Ok(w) = core.load(y) else {
                 return OpEnd::Outside(y);
@@ -233,49 +329,12 @@ pub fn apply<M: MemoryPort>(regs: &mut Regs, core: &mut M, i: &Instr, y: u16) ->
             regs.skip_if(w.magnitude() != 0);
             OpEnd::Went
         }
-        Op::Xca => {
-            let word = regs.ac.word();
-            regs.ac = Acc::new(regs.mq.negative(), regs.mq.magnitude());
-            regs.mq = word;
-            regs.skip(1);
-            OpEnd::Went
-        }
-        Op::Clm => {
-            regs.ac = Acc::new(regs.ac.negative(), 0);
-            regs.skip(1);
-            OpEnd::Went
-        }
         Op::Lbt => {
             regs.skip_if(regs.ac.magnitude() & 1 == 1);
             OpEnd::Went
         }
         Op::Pbt => {
             regs.skip_if(regs.ac.magnitude() >> 35 & 1 == 1);
-            OpEnd::Went
-        }
-        Op::Chs => {
-            regs.ac = Acc::new(!regs.ac.negative(), regs.ac.magnitude());
-            regs.skip(1);
-            OpEnd::Went
-        }
-        Op::Ssp => {
-            regs.ac = Acc::new(false, regs.ac.magnitude());
-            regs.skip(1);
-            OpEnd::Went
-        }
-        Op::Ssm => {
-            regs.ac = Acc::new(true, regs.ac.magnitude());
-            regs.skip(1);
-            OpEnd::Went
-        }
-        Op::Com => {
-            regs.ac = Acc::new(regs.ac.negative(), 0o1777777777777 - regs.ac.magnitude());
-            regs.skip(1);
-            OpEnd::Went
-        }
-        Op::Rnd => {
-            round_ac(regs);
-            regs.skip(1);
             OpEnd::Went
         }
         Op::Dct => {
@@ -288,12 +347,75 @@ pub fn apply<M: MemoryPort>(regs: &mut Regs, core: &mut M, i: &Instr, y: u16) ->
     }
 }
 
+/// Changes the accumulator by itself, or exchanges it.
+#[inline(always)]
+fn change<M: MemoryPort>(regs: &mut Regs, core: &mut M, i: &Instr, y: u16) -> OpEnd
+    requires family { is_change i.now.op ≡ true }
+    requires fields { HasFields i.now }
+    requires y { y < 2 ^ 15 }
+    requires ic { regs.old.ic < 2 ^ 15 }
+    ensures row { ended result regs.new (M.words core.new) ≡ fixed_row i.now.op i.now regs.old (M.words core.old) y }
+    ensures outside { Keeps result regs.old regs.new (M.words core.old) (M.words core.new) }
+    ensures keeps { M.Keeps core.old core.new }
+    ensures ic { regs.new.ic < 2 ^ 15 }
+{
+    match i.op {
+        Op::Xca => {
+            let word = regs.ac.word();
+            let negative = regs.mq.negative();
+            let magnitude = regs.mq.magnitude();
+            regs.ac.set(negative, magnitude);
+            regs.mq = word;
+            regs.skip(1);
+            OpEnd::Went
+        }
+        Op::Clm => {
+            let negative = regs.ac.negative();
+            regs.ac.set(negative, 0);
+            regs.skip(1);
+            OpEnd::Went
+        }
+        Op::Chs => {
+            let negative = !regs.ac.negative();
+            let magnitude = regs.ac.magnitude();
+            regs.ac.set(negative, magnitude);
+            regs.skip(1);
+            OpEnd::Went
+        }
+        Op::Ssp => {
+            let magnitude = regs.ac.magnitude();
+            regs.ac.set(false, magnitude);
+            regs.skip(1);
+            OpEnd::Went
+        }
+        Op::Ssm => {
+            let magnitude = regs.ac.magnitude();
+            regs.ac.set(true, magnitude);
+            regs.skip(1);
+            OpEnd::Went
+        }
+        Op::Com => {
+            let negative = regs.ac.negative();
+            let magnitude = 0o1777777777777 - regs.ac.magnitude();
+            regs.ac.set(negative, magnitude);
+            regs.skip(1);
+            OpEnd::Went
+        }
+        Op::Rnd => {
+            round_ac(regs);
+            regs.skip(1);
+            OpEnd::Went
+        }
+        _ => unreachable!(),
+    }
+}
+
 /// Adds a word to the accumulator.
 fn add_word(regs: &mut Regs, w: Word)
     ensures { regs.new ≡ with_sum regs.old (sum_of regs.old.ac (is_minus w) (magnitude_of w)) }
 {
     let sum = add(regs.ac, w);
-    regs.ac = sum.acc;
+    regs.ac.set(sum.acc.negative(), sum.acc.magnitude());
     regs.overflow |= sum.overflow;
 }
 
@@ -302,7 +424,7 @@ fn subtract_word(regs: &mut Regs, w: Word)
     ensures { regs.new ≡ with_sum regs.old (sum_of regs.old.ac (not (is_minus w)) (magnitude_of w)) }
 {
     let sum = sub(regs.ac, w);
-    regs.ac = sum.acc;
+    regs.ac.set(sum.acc.negative(), sum.acc.magnitude());
     regs.overflow |= sum.overflow;
 }
 
@@ -311,7 +433,7 @@ fn add_word_magnitude(regs: &mut Regs, w: Word)
     ensures { regs.new ≡ with_sum regs.old (sum_of regs.old.ac false (magnitude_of w)) }
 {
     let sum = add_magnitude(regs.ac, w);
-    regs.ac = sum.acc;
+    regs.ac.set(sum.acc.negative(), sum.acc.magnitude());
     regs.overflow |= sum.overflow;
 }
 
@@ -320,7 +442,7 @@ fn subtract_word_magnitude(regs: &mut Regs, w: Word)
     ensures { regs.new ≡ with_sum regs.old (sum_of regs.old.ac true (magnitude_of w)) }
 {
     let sum = sub_magnitude(regs.ac, w);
-    regs.ac = sum.acc;
+    regs.ac.set(sum.acc.negative(), sum.acc.magnitude());
     regs.overflow |= sum.overflow;
 }
 
@@ -329,7 +451,7 @@ fn round_ac(regs: &mut Regs)
     ensures { regs.new ≡ round regs.old }
 {
     let sum = rounded_sum(regs.ac, regs.mq);
-    regs.ac = sum.acc;
+    regs.ac.set(sum.acc.negative(), sum.acc.magnitude());
     regs.overflow |= sum.overflow;
 }
 
@@ -338,7 +460,7 @@ fn multiply(regs: &mut Regs, w: Word)
     ensures { regs.new ≡ with_pair regs.old (product_of regs.old.mq w) }
 {
     let pair = mpy(regs.mq, w);
-    regs.ac = pair.acc;
+    regs.ac.set(pair.acc.negative(), pair.acc.magnitude());
     regs.mq = pair.mq;
 }
 
@@ -347,7 +469,7 @@ fn multiply_rounded(regs: &mut Regs, w: Word)
     ensures { regs.new ≡ round (with_pair regs.old (product_of regs.old.mq w)) }
 {
     let pair = mpr(regs.mq, w);
-    regs.ac = pair.acc;
+    regs.ac.set(pair.acc.negative(), pair.acc.magnitude());
     regs.mq = pair.mq;
 }
 
@@ -367,30 +489,19 @@ fn past(side: Side) -> u16
 fn with_left(w: Word, other: Word) -> Word
     ensures { result ≡ with_left w other }
 {
-    word((other.bits() >> 18 << 18) + (w.bits() & 0o777777))
+    Word::of((other.bits() >> 18 << 18) + (w.bits() & 0o777777))
 }
 
 fn with_tag(w: Word, tag: u8) -> Word
     requires { tag < 8 }
     ensures { result ≡ with_tag w tag }
 {
-    word((w.bits() >> 18 << 18) + (u64::from(tag) << 15) + (w.bits() & 0o77777))
+    Word::of((w.bits() >> 18 << 18) + (u64::from(tag) << 15) + (w.bits() & 0o77777))
 }
 
 fn with_prefix(w: Word, prefix: u8) -> Word
     requires { prefix < 8 }
     ensures { result ≡ with_prefix w prefix }
 {
-    word((u64::from(prefix) << 33) + (w.bits() & 0o77777777777))
-}
-
-/// The word of these bits.
-fn word(bits: u64) -> Word
-    requires { bits < 2 ^ 36 }
-    ensures { result ≡ bits }
-{
-    match Word::from_bits(bits) {
-        Ok(word) => word,
-        Err(_) => unreachable!(),
-    }
+    Word::of((u64::from(prefix) << 33) + (w.bits() & 0o77777777777))
 }

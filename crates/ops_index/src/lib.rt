@@ -1,12 +1,13 @@
 //! Index registers, transfers and stops: what each instruction does.
 #![tactic(auto)]
 
-ghost use Rattle.std.specs.Prelude.{◌≡◌, ◌<◌, ◌^◌};
+ghost use Rattle.std.specs.Prelude.{◌≡◌, ◌<◌, ◌^◌, true};
 ghost use Rattle.opcode_table.specs.Table.{kind_of};
 ghost use Rattle.opcode_table.specs.Words.{HasFields};
 ghost use Rattle.machine_model.specs.Index.{index_row};
 ghost use Rattle.machine_model.specs.Results.{ended, Keeps};
 ghost use Rattle.machine_model.specs.Step.{complement, acc_address, acc_decrement, is_greater};
+ghost use Rattle.ops_index.specs.Families.{is_index_load, is_index_store, is_transfer, is_count, is_stop};
 
 use arith36::{Side, compare};
 use cpu_regs::{MemoryPort, OpEnd, Regs};
@@ -17,6 +18,47 @@ use word36::Acc;
 #[inline(always)]
 pub fn apply<M: MemoryPort>(regs: &mut Regs, core: &mut M, i: &Instr, y: u16) -> OpEnd
     requires kind { kind_of i.now.op ≡ Kind.Index }
+    requires fields { HasFields i.now }
+    requires y { y < 2 ^ 15 }
+    requires ic { regs.old.ic < 2 ^ 15 }
+    ensures row { ended result regs.new (M.words core.new) ≡ index_row i.now.op i.now regs.old (M.words core.old) y }
+    ensures outside { Keeps result regs.old regs.new (M.words core.old) (M.words core.new) }
+    ensures keeps { M.Keeps core.old core.new }
+    ensures ic { regs.new.ic < 2 ^ 15 }
+{
+    match i.op {
+        Op::Lxa
+        | Op::Lxd
+        | Op::Lac
+        | Op::Ldc
+        | Op::Axt
+        | Op::Axc
+        | Op::Pax
+        | Op::Pdx
+        | Op::Pac
+        | Op::Pdc => load_index(regs, core, i, y),
+        Op::Sxa | Op::Sxd | Op::Sca | Op::Scd | Op::Pxa | Op::Pxd | Op::Pca | Op::Pcd =>
+            store_index(regs, core, i, y),
+        Op::Tra
+        | Op::Tze
+        | Op::Tnz
+        | Op::Tpl
+        | Op::Tmi
+        | Op::Tov
+        | Op::Tno
+        | Op::Tqp
+        | Op::Tlq
+        | Op::Tsx => transfer(regs, core, i, y),
+        Op::Txi | Op::Tix | Op::Tnx | Op::Txh | Op::Txl => count(regs, core, i, y),
+        Op::Nop | Op::Htr | Op::Hpr => stop(regs, core, i, y),
+        _ => unreachable!(),
+    }
+}
+
+/// Loads an index register.
+#[inline(always)]
+fn load_index<M: MemoryPort>(regs: &mut Regs, core: &mut M, i: &Instr, y: u16) -> OpEnd
+    requires family { is_index_load i.now.op ≡ true }
     requires fields { HasFields i.now }
     requires y { y < 2 ^ 15 }
     requires ic { regs.old.ic < 2 ^ 15 }
@@ -88,6 +130,23 @@ pub fn apply<M: MemoryPort>(regs: &mut Regs, core: &mut M, i: &Instr, y: u16) ->
             regs.skip(1);
             OpEnd::Went
         }
+        _ => unreachable!(),
+    }
+}
+
+/// Stores an index register.
+#[inline(always)]
+fn store_index<M: MemoryPort>(regs: &mut Regs, core: &mut M, i: &Instr, y: u16) -> OpEnd
+    requires family { is_index_store i.now.op ≡ true }
+    requires fields { HasFields i.now }
+    requires y { y < 2 ^ 15 }
+    requires ic { regs.old.ic < 2 ^ 15 }
+    ensures row { ended result regs.new (M.words core.new) ≡ index_row i.now.op i.now regs.old (M.words core.old) y }
+    ensures outside { Keeps result regs.old regs.new (M.words core.old) (M.words core.new) }
+    ensures keeps { M.Keeps core.old core.new }
+    ensures ic { regs.new.ic < 2 ^ 15 }
+{
+    match i.op {
         Op::Sxa => {
             let Ok(w) = core.load(y) else {
                 return OpEnd::Outside(y);
@@ -121,25 +180,46 @@ pub fn apply<M: MemoryPort>(regs: &mut Regs, core: &mut M, i: &Instr, y: u16) ->
             OpEnd::Went
         }
         Op::Pxa => {
-            regs.ac = Acc::new(false, u64::from(regs.xr(i.tag)));
+            let magnitude = u64::from(regs.xr(i.tag));
+            regs.ac.set(false, magnitude);
             regs.skip(1);
             OpEnd::Went
         }
         Op::Pxd => {
-            regs.ac = Acc::new(false, u64::from(regs.xr(i.tag)) << 18);
+            let magnitude = u64::from(regs.xr(i.tag)) << 18;
+            regs.ac.set(false, magnitude);
             regs.skip(1);
             OpEnd::Went
         }
         Op::Pca => {
-            regs.ac = Acc::new(false, u64::from(complement(regs.xr(i.tag))));
+            let magnitude = u64::from(complement(regs.xr(i.tag)));
+            regs.ac.set(false, magnitude);
             regs.skip(1);
             OpEnd::Went
         }
         Op::Pcd => {
-            regs.ac = Acc::new(false, u64::from(complement(regs.xr(i.tag))) << 18);
+            let magnitude = u64::from(complement(regs.xr(i.tag))) << 18;
+            regs.ac.set(false, magnitude);
             regs.skip(1);
             OpEnd::Went
         }
+        _ => unreachable!(),
+    }
+}
+
+/// Transfers by the registers and indicators.
+#[inline(always)]
+fn transfer<M: MemoryPort>(regs: &mut Regs, core: &mut M, i: &Instr, y: u16) -> OpEnd
+    requires family { is_transfer i.now.op ≡ true }
+    requires fields { HasFields i.now }
+    requires y { y < 2 ^ 15 }
+    requires ic { regs.old.ic < 2 ^ 15 }
+    ensures row { ended result regs.new (M.words core.new) ≡ index_row i.now.op i.now regs.old (M.words core.old) y }
+    ensures outside { Keeps result regs.old regs.new (M.words core.old) (M.words core.new) }
+    ensures keeps { M.Keeps core.old core.new }
+    ensures ic { regs.new.ic < 2 ^ 15 }
+{
+    match i.op {
         Op::Tra => {
             regs.jump(y);
             OpEnd::Went
@@ -185,6 +265,23 @@ pub fn apply<M: MemoryPort>(regs: &mut Regs, core: &mut M, i: &Instr, y: u16) ->
             regs.jump(y);
             OpEnd::Went
         }
+        _ => unreachable!(),
+    }
+}
+
+/// Counts an index register and transfers.
+#[inline(always)]
+fn count<M: MemoryPort>(regs: &mut Regs, core: &mut M, i: &Instr, y: u16) -> OpEnd
+    requires family { is_count i.now.op ≡ true }
+    requires fields { HasFields i.now }
+    requires y { y < 2 ^ 15 }
+    requires ic { regs.old.ic < 2 ^ 15 }
+    ensures row { ended result regs.new (M.words core.new) ≡ index_row i.now.op i.now regs.old (M.words core.old) y }
+    ensures outside { Keeps result regs.old regs.new (M.words core.old) (M.words core.new) }
+    ensures keeps { M.Keeps core.old core.new }
+    ensures ic { regs.new.ic < 2 ^ 15 }
+{
+    match i.op {
         Op::Txi => {
             regs.set_xr(i.tag, (regs.xr(i.tag) + i.decrement) & 0o77777);
             regs.jump(y);
@@ -218,6 +315,23 @@ pub fn apply<M: MemoryPort>(regs: &mut Regs, core: &mut M, i: &Instr, y: u16) ->
             regs.jump_if(regs.xr(i.tag) <= i.decrement, y);
             OpEnd::Went
         }
+        _ => unreachable!(),
+    }
+}
+
+/// Stops, or does nothing.
+#[inline(always)]
+fn stop<M: MemoryPort>(regs: &mut Regs, core: &mut M, i: &Instr, y: u16) -> OpEnd
+    requires family { is_stop i.now.op ≡ true }
+    requires fields { HasFields i.now }
+    requires y { y < 2 ^ 15 }
+    requires ic { regs.old.ic < 2 ^ 15 }
+    ensures row { ended result regs.new (M.words core.new) ≡ index_row i.now.op i.now regs.old (M.words core.old) y }
+    ensures outside { Keeps result regs.old regs.new (M.words core.old) (M.words core.new) }
+    ensures keeps { M.Keeps core.old core.new }
+    ensures ic { regs.new.ic < 2 ^ 15 }
+{
+    match i.op {
         Op::Nop => {
             regs.skip(1);
             OpEnd::Went

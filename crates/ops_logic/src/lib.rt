@@ -1,7 +1,7 @@
 //! Logic, shifts and sense indicators: what each instruction does.
 #![tactic(auto)]
 
-ghost use Rattle.std.specs.Prelude.{◌≡◌, ◌<◌, ◌*◌, ◌^◌, bit_and, bit_or, bit_xor};
+ghost use Rattle.std.specs.Prelude.{◌≡◌, ◌<◌, ◌*◌, ◌^◌, bit_and, bit_or, bit_xor, true};
 ghost use Rattle.opcode_table.specs.Table.{kind_of};
 ghost use Rattle.opcode_table.specs.Words.{HasFields};
 ghost use Rattle.machine_model.specs.Logic.{logic_row};
@@ -9,6 +9,7 @@ ghost use Rattle.machine_model.specs.Results.{ended, Keeps};
 ghost use Rattle.shift36.specs.Shift.{acc_left, long_left, long_right, logical_left, logical_right};
 ghost use Rattle.machine_model.specs.Logic.{count_of};
 ghost use Rattle.machine_model.specs.Step.{past, with_sum, with_shifted, with_logic, without, has_ones, has_zeros, half_of};
+ghost use Rattle.ops_logic.specs.Families.{is_load_or_store, is_combination, is_shift, is_of_accumulator, is_of_word, is_of_half};
 
 use arith36::{Side, acl, compare_logical};
 use cpu_regs::{MemoryPort, OpEnd, Regs};
@@ -29,11 +30,41 @@ pub fn apply<M: MemoryPort>(regs: &mut Regs, core: &mut M, i: &Instr, y: u16) ->
     ensures ic { regs.new.ic < 2 ^ 15 }
 {
     match i.op {
+        Op::Cal | Op::Ldi | Op::Slw | Op::Sti => load_or_store(regs, core, i, y),
+        Op::Acl | Op::Ana | Op::Era | Op::Ora | Op::Ans | Op::Ors | Op::Las => combine(
+            regs, core, i, y,
+        ),
+        Op::Xcl | Op::Als | Op::Ars | Op::Lls | Op::Lrs | Op::Lgl | Op::Lgr | Op::Rql => shift(
+            regs, core, i, y,
+        ),
+        Op::Pai | Op::Pia | Op::Oai | Op::Iia | Op::Ria | Op::Tio | Op::Tif => indicate(
+            regs, core, i, y,
+        ),
+        Op::Osi | Op::Iis | Op::Ris | Op::Ont | Op::Oft => indicate_by_word(regs, core, i, y),
+        Op::Sir | Op::Sil | Op::Rir | Op::Ril | Op::Rnt | Op::Lnt | Op::Rft | Op::Lft =>
+            indicate_by_half(regs, core, i, y),
+        _ => unreachable!(),
+    }
+}
+
+/// Loads the accumulator or the indicators from the word at `y`, or stores them there.
+#[inline(always)]
+fn load_or_store<M: MemoryPort>(regs: &mut Regs, core: &mut M, i: &Instr, y: u16) -> OpEnd
+    requires family { is_load_or_store i.now.op ≡ true }
+    requires fields { HasFields i.now }
+    requires y { y < 2 ^ 15 }
+    requires ic { regs.old.ic < 2 ^ 15 }
+    ensures row { ended result regs.new (M.words core.new) ≡ logic_row i.now.op i.now regs.old (M.words core.old) y }
+    ensures outside { Keeps result regs.old regs.new (M.words core.old) (M.words core.new) }
+    ensures keeps { M.Keeps core.old core.new }
+    ensures ic { regs.new.ic < 2 ^ 15 }
+{
+    match i.op {
         Op::Cal => {
             let Ok(w) = core.load(y) else {
                 return OpEnd::Outside(y);
             };
-            regs.ac = Acc::new(false, w.bits());
+            regs.ac.set(false, w.bits());
             regs.skip(1);
             OpEnd::Went
         }
@@ -59,6 +90,23 @@ pub fn apply<M: MemoryPort>(regs: &mut Regs, core: &mut M, i: &Instr, y: u16) ->
             regs.skip(1);
             OpEnd::Went
         }
+        _ => unreachable!(),
+    }
+}
+
+/// Combines the accumulator with the word at `y`.
+#[inline(always)]
+fn combine<M: MemoryPort>(regs: &mut Regs, core: &mut M, i: &Instr, y: u16) -> OpEnd
+    requires family { is_combination i.now.op ≡ true }
+    requires fields { HasFields i.now }
+    requires y { y < 2 ^ 15 }
+    requires ic { regs.old.ic < 2 ^ 15 }
+    ensures row { ended result regs.new (M.words core.new) ≡ logic_row i.now.op i.now regs.old (M.words core.old) y }
+    ensures outside { Keeps result regs.old regs.new (M.words core.old) (M.words core.new) }
+    ensures keeps { M.Keeps core.old core.new }
+    ensures ic { regs.new.ic < 2 ^ 15 }
+{
+    match i.op {
         Op::Acl => {
             let Ok(w) = core.load(y) else {
                 return OpEnd::Outside(y);
@@ -71,7 +119,8 @@ pub fn apply<M: MemoryPort>(regs: &mut Regs, core: &mut M, i: &Instr, y: u16) ->
             let Ok(w) = core.load(y) else {
                 return OpEnd::Outside(y);
             };
-            regs.ac = Acc::new(false, and(regs.ac.logical(), w).bits());
+            let magnitude = and(regs.ac.logical(), w).bits();
+            regs.ac.set(false, magnitude);
             regs.skip(1);
             OpEnd::Went
         }
@@ -79,7 +128,8 @@ pub fn apply<M: MemoryPort>(regs: &mut Regs, core: &mut M, i: &Instr, y: u16) ->
             let Ok(w) = core.load(y) else {
                 return OpEnd::Outside(y);
             };
-            regs.ac = Acc::new(false, xor(regs.ac.logical(), w).bits());
+            let magnitude = xor(regs.ac.logical(), w).bits();
+            regs.ac.set(false, magnitude);
             regs.skip(1);
             OpEnd::Went
         }
@@ -114,9 +164,27 @@ pub fn apply<M: MemoryPort>(regs: &mut Regs, core: &mut M, i: &Instr, y: u16) ->
             regs.skip(past(compare_logical(regs.ac, w)));
             OpEnd::Went
         }
+        _ => unreachable!(),
+    }
+}
+
+/// Shifts.
+#[inline(always)]
+fn shift<M: MemoryPort>(regs: &mut Regs, core: &mut M, i: &Instr, y: u16) -> OpEnd
+    requires family { is_shift i.now.op ≡ true }
+    requires fields { HasFields i.now }
+    requires y { y < 2 ^ 15 }
+    requires ic { regs.old.ic < 2 ^ 15 }
+    ensures row { ended result regs.new (M.words core.new) ≡ logic_row i.now.op i.now regs.old (M.words core.old) y }
+    ensures outside { Keeps result regs.old regs.new (M.words core.old) (M.words core.new) }
+    ensures keeps { M.Keeps core.old core.new }
+    ensures ic { regs.new.ic < 2 ^ 15 }
+{
+    match i.op {
         Op::Xcl => {
             let word = regs.ac.logical();
-            regs.ac = Acc::new(false, regs.mq.bits());
+            let magnitude = regs.mq.bits();
+            regs.ac.set(false, magnitude);
             regs.mq = word;
             regs.skip(1);
             OpEnd::Went
@@ -156,13 +224,31 @@ pub fn apply<M: MemoryPort>(regs: &mut Regs, core: &mut M, i: &Instr, y: u16) ->
             regs.skip(1);
             OpEnd::Went
         }
+        _ => unreachable!(),
+    }
+}
+
+/// Does an operation of the indicators with the accumulator.
+#[inline(always)]
+fn indicate<M: MemoryPort>(regs: &mut Regs, core: &mut M, i: &Instr, y: u16) -> OpEnd
+    requires family { is_of_accumulator i.now.op ≡ true }
+    requires fields { HasFields i.now }
+    requires y { y < 2 ^ 15 }
+    requires ic { regs.old.ic < 2 ^ 15 }
+    ensures row { ended result regs.new (M.words core.new) ≡ logic_row i.now.op i.now regs.old (M.words core.old) y }
+    ensures outside { Keeps result regs.old regs.new (M.words core.old) (M.words core.new) }
+    ensures keeps { M.Keeps core.old core.new }
+    ensures ic { regs.new.ic < 2 ^ 15 }
+{
+    match i.op {
         Op::Pai => {
             regs.si = regs.ac.logical();
             regs.skip(1);
             OpEnd::Went
         }
         Op::Pia => {
-            regs.ac = Acc::new(false, regs.si.bits());
+            let magnitude = regs.si.bits();
+            regs.ac.set(false, magnitude);
             regs.skip(1);
             OpEnd::Went
         }
@@ -181,6 +267,31 @@ pub fn apply<M: MemoryPort>(regs: &mut Regs, core: &mut M, i: &Instr, y: u16) ->
             regs.skip(1);
             OpEnd::Went
         }
+        Op::Tio => {
+            regs.jump_if(has_ones(regs.si, regs.ac.logical()), y);
+            OpEnd::Went
+        }
+        Op::Tif => {
+            regs.jump_if(has_zeros(regs.si, regs.ac.logical()), y);
+            OpEnd::Went
+        }
+        _ => unreachable!(),
+    }
+}
+
+/// Does an operation of the indicators with the word at `y`.
+#[inline(always)]
+fn indicate_by_word<M: MemoryPort>(regs: &mut Regs, core: &mut M, i: &Instr, y: u16) -> OpEnd
+    requires family { is_of_word i.now.op ≡ true }
+    requires fields { HasFields i.now }
+    requires y { y < 2 ^ 15 }
+    requires ic { regs.old.ic < 2 ^ 15 }
+    ensures row { ended result regs.new (M.words core.new) ≡ logic_row i.now.op i.now regs.old (M.words core.old) y }
+    ensures outside { Keeps result regs.old regs.new (M.words core.old) (M.words core.new) }
+    ensures keeps { M.Keeps core.old core.new }
+    ensures ic { regs.new.ic < 2 ^ 15 }
+{
+    match i.op {
         Op::Osi => {
             let Ok(w) = core.load(y) else {
                 return OpEnd::Outside(y);
@@ -219,14 +330,23 @@ pub fn apply<M: MemoryPort>(regs: &mut Regs, core: &mut M, i: &Instr, y: u16) ->
             regs.skip_if(has_zeros(regs.si, w));
             OpEnd::Went
         }
-        Op::Tio => {
-            regs.jump_if(has_ones(regs.si, regs.ac.logical()), y);
-            OpEnd::Went
-        }
-        Op::Tif => {
-            regs.jump_if(has_zeros(regs.si, regs.ac.logical()), y);
-            OpEnd::Went
-        }
+        _ => unreachable!(),
+    }
+}
+
+/// Does an operation of the indicators with half a word of the instruction.
+#[inline(always)]
+fn indicate_by_half<M: MemoryPort>(regs: &mut Regs, core: &mut M, i: &Instr, y: u16) -> OpEnd
+    requires family { is_of_half i.now.op ≡ true }
+    requires fields { HasFields i.now }
+    requires y { y < 2 ^ 15 }
+    requires ic { regs.old.ic < 2 ^ 15 }
+    ensures row { ended result regs.new (M.words core.new) ≡ logic_row i.now.op i.now regs.old (M.words core.old) y }
+    ensures outside { Keeps result regs.old regs.new (M.words core.old) (M.words core.new) }
+    ensures keeps { M.Keeps core.old core.new }
+    ensures ic { regs.new.ic < 2 ^ 15 }
+{
+    match i.op {
         Op::Sir => {
             regs.si = or(regs.si, right_half(i));
             regs.skip(1);
@@ -272,7 +392,7 @@ fn shift_ac_left(regs: &mut Regs, n: u8)
     ensures { regs.new ≡ with_sum regs.old (acc_left regs.old.ac n) }
 {
     let sum = als(regs.ac, n);
-    regs.ac = sum.acc;
+    regs.ac.set(sum.acc.negative(), sum.acc.magnitude());
     regs.overflow |= sum.overflow;
 }
 
@@ -281,7 +401,7 @@ fn shift_long_left(regs: &mut Regs, n: u8)
     ensures { regs.new ≡ with_shifted regs.old (long_left regs.old.ac regs.old.mq n) }
 {
     let shifted = lls(regs.ac, regs.mq, n);
-    regs.ac = shifted.acc;
+    regs.ac.set(shifted.acc.negative(), shifted.acc.magnitude());
     regs.mq = shifted.mq;
     regs.overflow |= shifted.overflow;
 }
@@ -291,7 +411,7 @@ fn shift_long_right(regs: &mut Regs, n: u8)
     ensures { regs.new ≡ with_shifted regs.old (long_right regs.old.ac regs.old.mq n) }
 {
     let shifted = lrs(regs.ac, regs.mq, n);
-    regs.ac = shifted.acc;
+    regs.ac.set(shifted.acc.negative(), shifted.acc.magnitude());
     regs.mq = shifted.mq;
     regs.overflow |= shifted.overflow;
 }
@@ -301,7 +421,7 @@ fn shift_logical_left(regs: &mut Regs, n: u8)
     ensures { regs.new ≡ with_shifted regs.old (logical_left regs.old.ac regs.old.mq n) }
 {
     let shifted = lgl(regs.ac, regs.mq, n);
-    regs.ac = shifted.acc;
+    regs.ac.set(shifted.acc.negative(), shifted.acc.magnitude());
     regs.mq = shifted.mq;
     regs.overflow |= shifted.overflow;
 }
@@ -311,7 +431,7 @@ fn shift_logical_right(regs: &mut Regs, n: u8)
     ensures { regs.new ≡ with_shifted regs.old (logical_right regs.old.ac regs.old.mq n) }
 {
     let shifted = lgr(regs.ac, regs.mq, n);
-    regs.ac = shifted.acc;
+    regs.ac.set(shifted.acc.negative(), shifted.acc.magnitude());
     regs.mq = shifted.mq;
     regs.overflow |= shifted.overflow;
 }
@@ -345,28 +465,28 @@ fn with_logic(a: Acc, l: Word) -> Acc
 fn and(a: Word, b: Word) -> Word
     ensures { result ≡ bit_and a b }
 {
-    word(a.bits() & b.bits())
+    Word::of(a.bits() & b.bits())
 }
 
 #[tactic(auto, using(crate::proofs::Bits::or_below))]
 fn or(a: Word, b: Word) -> Word
     ensures { result ≡ bit_or a b }
 {
-    word(a.bits() | b.bits())
+    Word::of(a.bits() | b.bits())
 }
 
 #[tactic(auto, using(crate::proofs::Bits::xor_below))]
 fn xor(a: Word, b: Word) -> Word
     ensures { result ≡ bit_xor a b }
 {
-    word(a.bits() ^ b.bits())
+    Word::of(a.bits() ^ b.bits())
 }
 
 /// The first word without the ones of the second.
 fn without(a: Word, b: Word) -> Word
     ensures { result ≡ without a b }
 {
-    word(a.bits() & (0o777777777777 - b.bits()))
+    Word::of(a.bits() & (0o777777777777 - b.bits()))
 }
 
 /// Whether all ones of the second word are ones of the first.
@@ -388,7 +508,7 @@ fn right_half(i: &Instr) -> Word
     requires { HasFields i.now }
     ensures { result ≡ half_of i.now }
 {
-    word((u64::from(i.tag) << 15) + u64::from(i.address))
+    Word::of((u64::from(i.tag) << 15) + u64::from(i.address))
 }
 
 /// Positions 18 to 35 of an instruction, on the left of a word.
@@ -396,16 +516,5 @@ fn left_half(i: &Instr) -> Word
     requires { HasFields i.now }
     ensures { result ≡ half_of i.now * 2 ^ 18 }
 {
-    word((u64::from(i.tag) << 15) + u64::from(i.address) << 18)
-}
-
-/// The word of these bits.
-fn word(bits: u64) -> Word
-    requires { bits < 2 ^ 36 }
-    ensures { result ≡ bits }
-{
-    match Word::from_bits(bits) {
-        Ok(word) => word,
-        Err(_) => unreachable!(),
-    }
+    Word::of((u64::from(i.tag) << 15) + u64::from(i.address) << 18)
 }

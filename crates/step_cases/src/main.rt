@@ -11,8 +11,7 @@ mod case;
 
 ghost use Rattle.std.specs.Prelude.{◌≡◌, ◌<◌, ◌^◌};
 ghost use Rattle.cpu_step.specs.Results.{outcome};
-ghost use Rattle.machine_model.specs.Step.{went};
-ghost use Rattle.step_cases.specs.Runs.{steps_on};
+ghost use Rattle.machine_model.specs.Runs.{many};
 
 use case::{Case, read_case, result_text};
 use cpu_regs::Regs;
@@ -23,12 +22,15 @@ use std::io::{self, BufRead, BufReader, BufWriter, Write};
 /// Does so many steps, and gives how the last one ended.
 fn run(regs: &mut Regs, core: &mut PlainCore, steps: u64) -> Stepped
     requires { regs.old.ic < 2 ^ 15 }
-    ensures { outcome result regs.new core.new
-        ≡ steps_on steps (went regs.old core.old) }
+    ensures { outcome result regs.new core.new ≡ many steps regs.old core.old }
 {
-    'steps: for _ in 0..steps {
+    let mut done = 0;
+    'steps: while done < steps {
+        done += cpu_step::run(regs, core, steps - done - 1);
         match step(regs, core) {
-            Stepped::Went => {}
+            Stepped::Went => {
+                done += 1;
+            }
             end => return end,
         }
     }

@@ -40,6 +40,15 @@ impl Acc {
         }
     }
 
+    /// Sets the sign and the magnitude.
+    pub fn set(&mut self, negative: bool, magnitude: u64)
+        requires { magnitude < 2 ^ 37 }
+        ensures { self.new ≡ record { negative = negative; magnitude = magnitude } }
+    {
+        self.negative = negative;
+        self.magnitude = magnitude;
+    }
+
     /// Whether the sign is minus. It is so of minus zero too.
     pub fn negative(self) -> bool
         ensures { result ≡ self.negative }

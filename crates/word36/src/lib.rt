@@ -73,6 +73,14 @@ impl Word {
         }
     }
 
+    /// The word with these bits, where the caller knows that they are 36: `from_bits` without its test.
+    pub fn of(bits: u64) -> Word
+        requires { bits < 2 ^ 36 }
+        ensures { result ≡ bits }
+    {
+        Word { bits }
+    }
+
     /// The word of a sign and a magnitude.
     pub fn signed(negative: bool, magnitude: u64) -> Word
         requires { magnitude < 2 ^ 35 }
@@ -211,6 +219,7 @@ mod tests {
             minus_zero != Word::default() && minus_zero.negative() && minus_zero.magnitude() == 0
         );
         let ones = Word::signed(true, 0o377777777777);
+        assert_eq!(rt; Word::of(0o777777777777), ones);
         assert_eq!(rt; ones, Word::try_from(0o777777777777)?);
         assert_eq!(rt;
             ones.with_address(0o12345),
@@ -236,6 +245,9 @@ mod tests {
         assert!(rt; minus.negative());
         assert_eq!(rt; minus.word(), Word::from_bits(0o400000000005)?);
         assert_eq!(rt; minus.logical(), Word::from_bits(5)?);
+        let mut other = plus;
+        other.set(true, 5);
+        assert_eq!(rt; other, minus);
         Ok(())
     }
 

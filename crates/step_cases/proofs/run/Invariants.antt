@@ -1,10 +1,14 @@
-use Rattle.std.proofs.Common.{◌<◌, ◌^◌, ◌≡◌, ◌-◌}
+use Rattle.std.proofs.Common.{◌≡◌, ◌<◌, ◌≤◌, ◌^◌, ◌-◌}
 use Rattle.machine_model.specs.Step.{went}
-use Rattle.step_cases.specs.Runs.{steps_on}
+use Rattle.machine_model.specs.Runs.{many}
 use Rattle.step_cases.proofs.run.Given as goal
 
--- the steps that are left lead where all of them lead
 abbrev pub invariant-steps : goal.invariant-steps
-invariant-steps l =
-    (l.regs.ic < 2 ^ 15)
-    × (steps_on (l.steps - l.counter) (went l.regs l.core) ≡ steps_on l.steps (went l.fn.regs l.fn.core))
+invariant-steps l = record {
+  most : l.done ≤ l.steps;
+  steps : many l.done l.fn.regs l.fn.core ≡ went l.regs l.core;
+  ic : l.regs.ic < 2 ^ 15;
+}
+
+abbrev pub decreases-steps : goal.decreases-steps
+decreases-steps l = l.steps - l.done

@@ -9,6 +9,3 @@ mod words;
 pub use op::{Class, Instr, Kind, Op, Row};
 pub use rows::{class, kind, op_named};
 pub use words::{decode, encode};
-
-#[cfg(test)]
-mod tests;

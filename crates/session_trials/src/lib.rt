@@ -1,0 +1,13 @@
+//! Trials of a user's session: lines, commands, programs with their entries and cores, and the level queues.
+#![tactic(auto)]
+
+#[cfg(test)]
+mod cores;
+#[cfg(test)]
+mod entries;
+#[cfg(test)]
+mod levels;
+#[cfg(test)]
+mod lines;
+#[cfg(test)]
+mod sessions;

@@ -1,15 +1,17 @@
-ghost use Rattle.std.specs.Prelude.{◌≡◌, ◌≢◌, ◌<◌, ◌≤◌, ℕ, length};
+ghost use Rattle.std.specs.Prelude.{◌≡◌, ◌≢◌, ◌<◌, ◌≤◌, ℕ, All, length};
 ghost use Rattle.core_bank.specs.Bank.{AreWords, block_at};
 ghost use Rattle.drum_slots.specs.Kept.{Serves};
 ghost use Rattle.drum_slots.specs.Table.{quota_in, records_of};
 ghost use Rattle.image_map.specs.Blocks.{first};
 ghost use Rattle.image_map.specs.Images.{size_of, image_in, where_told};
+ghost use Rattle.medium.specs.Damages.{IsDamage};
 
 use core_bank::Bank;
 use cpu_regs::{MemoryPort, Outside};
 use ctss_types::UserNo;
 use image_map::{DrumFault, Image, Plan, Port, store_in};
 use medium::{Damage, Medium, MemoryMedium};
+use std::alloc::Global;
 use std::process::Abort;
 use std::test::Fail;
 use word36::Word;
@@ -208,6 +210,24 @@ fn word_after_turns<D: Medium>(rt: &impl Abort, image: &mut Image<'_, D>) -> Res
     Ok(get(image, one, 5).unwrap_or_default())
 }
 
+/// Tries the word after these turns over a drum with these faults and damages.
+fn gives(
+    rt: &impl Abort,
+    alloc: Global,
+    faults: &[u64],
+    damages: &[Damage],
+    want: Result<Word, DrumFault>,
+) -> Result<(), Fail>
+    requires { All (λ damage. IsDamage 256 damage) damages.now }
+{
+    let mut drum = MemoryMedium::new(alloc, 2, 256, faults, damages, 0)?;
+    let mut image = Image::new(alloc, &mut drum, 2, &[1, 1])?;
+    assert_eq!(rt; word_after_turns(rt, &mut image), want);
+    assert_eq!(rt; image.failed(), want.is_err());
+    let _ = image.back();
+    Ok(())
+}
+
 #[test]
 fn shows_what_the_drum_gives(rt: HostRuntime) -> Result<(), Fail> {
     let damage = Damage {
@@ -215,31 +235,13 @@ fn shows_what_the_drum_gives(rt: HostRuntime) -> Result<(), Fail> {
         place: 5,
         word: 9,
     };
-    let mut drum = MemoryMedium::new(rt.alloc(), 2, 256, &[], &[damage], 0)?;
-    let mut image = Image::new(rt.alloc(), &mut drum, 2, &[1, 1])?;
-    assert_eq!(rt;
-        word_after_turns(&rt, &mut image),
-        Ok(Word::signed(false, 9))
-    );
-    let _ = image.back();
-    Ok(())
+    gives(&rt, rt.alloc(), &[], &[damage], Ok(Word::signed(false, 9)))
 }
 
 #[test]
 fn fails_with_each_call_of_the_drum(rt: HostRuntime) -> Result<(), Fail> {
     for number in 1..4 {
-        let mut drum = MemoryMedium::new(rt.alloc(), 2, 256, &[number], &[], 0)?;
-        let mut image = Image::new(rt.alloc(), &mut drum, 2, &[1, 1])?;
-        assert_eq!(rt; word_after_turns(&rt, &mut image), Err(DrumFault));
-        assert!(rt; image.failed());
-        let _ = image.back();
+        gives(&rt, rt.alloc(), &[number], &[], Err(DrumFault))?;
     }
-    let mut drum = MemoryMedium::new(rt.alloc(), 2, 256, &[4], &[], 0)?;
-    let mut image = Image::new(rt.alloc(), &mut drum, 2, &[1, 1])?;
-    assert_eq!(rt;
-        word_after_turns(&rt, &mut image),
-        Ok(Word::signed(false, 7))
-    );
-    let _ = image.back();
-    Ok(())
+    gives(&rt, rt.alloc(), &[4], &[], Ok(Word::signed(false, 7)))
 }

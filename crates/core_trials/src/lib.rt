@@ -1,15 +1,7 @@
-//! Trials of core and drum: banks, a drum's records, the blocks kept there, who owns core, and users' images.
+//! Trials of core: who owns which block, and users' images over core and drum.
 #![tactic(auto)]
 
 #[cfg(test)]
-mod banks;
-#[cfg(test)]
 mod images;
 #[cfg(test)]
-mod media;
-#[cfg(test)]
 mod owners;
-#[cfg(test)]
-mod registers;
-#[cfg(test)]
-mod slots;

@@ -1,15 +1,13 @@
-//! Trials of the machine's parts: words, characters, sums, shifts, operations and registers.
+//! Trials of the machine's parts: operations, registers, relocation, and cores.
 #![tactic(auto)]
 
 #[cfg(test)]
-mod characters;
+mod banks;
+#[cfg(test)]
+mod cores;
 #[cfg(test)]
 mod operations;
 #[cfg(test)]
 mod registers;
 #[cfg(test)]
-mod shifts;
-#[cfg(test)]
-mod sums;
-#[cfg(test)]
-mod words;
+mod relocation;

@@ -1,8 +1,6 @@
-//! Trials of a user's session: lines, commands, programs with their entries and cores, and the level queues.
+//! Trials of a user's session: lines, commands, programs with their entries, and the level queues.
 #![tactic(auto)]
 
-#[cfg(test)]
-mod cores;
 #[cfg(test)]
 mod entries;
 #[cfg(test)]

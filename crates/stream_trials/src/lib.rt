@@ -1,4 +1,4 @@
-//! Trials of streams, and of the texts beside scripts: words of the command line, made scripts and summaries.
+//! Trials of streams, of the words of the command line, and of made scripts.
 #![tactic(auto)]
 
 #[cfg(test)]
@@ -7,5 +7,3 @@ mod command;
 mod made;
 #[cfg(test)]
 mod streams;
-#[cfg(test)]
-mod summary;

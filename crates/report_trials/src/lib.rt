@@ -1,0 +1,7 @@
+//! Trials of what is written of a run: reports and summaries.
+#![tactic(auto)]
+
+#[cfg(test)]
+mod report;
+#[cfg(test)]
+mod summary;

@@ -1,9 +1,7 @@
-//! Trials of streams, of the words of the command line, and of made scripts.
+//! Trials of streams, and of the words of the command line.
 #![tactic(auto)]
 
 #[cfg(test)]
 mod command;
-#[cfg(test)]
-mod made;
 #[cfg(test)]
 mod streams;

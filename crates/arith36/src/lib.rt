@@ -206,6 +206,3 @@ pub fn compare_logical(a: Acc, w: Word) -> Side
 {
     side_of_number(a.magnitude(), w.bits())
 }
-
-#[cfg(test)]
-mod tests;

@@ -6,6 +6,3 @@ mod load;
 
 pub use deck::{deck_in, store_deck};
 pub use load::{PrepareFault, fill, prepare};
-
-#[cfg(test)]
-mod tests;

@@ -6,8 +6,6 @@
 
 mod command;
 mod named;
-#[cfg(test)]
-mod tests;
 mod words;
 
 pub use words::ArgList;

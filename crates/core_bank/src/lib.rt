@@ -137,6 +137,3 @@ impl Bank {
         self.memory.all_mut()
     }
 }
-
-#[cfg(test)]
-mod tests;

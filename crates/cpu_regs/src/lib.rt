@@ -8,6 +8,3 @@ mod regs;
 pub use index::IndexRegisters;
 pub use port::{MemoryPort, Outside};
 pub use regs::{OpEnd, Regs};
-
-#[cfg(test)]
-mod tests;

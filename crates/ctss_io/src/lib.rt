@@ -12,6 +12,3 @@ pub use memory::{MemorySink, MemorySource};
 pub use outside::{Got, Sink, Source, Took};
 pub use standard::{StdSink, StdSource};
 pub use whole::{LIMIT, ReadEnd, WriteFault, read_bytes, write_all};
-
-#[cfg(test)]
-mod tests;

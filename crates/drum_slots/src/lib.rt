@@ -6,6 +6,3 @@ mod table;
 
 pub use slots::Slots;
 pub use table::{DrumFault, SlotTable};
-
-#[cfg(test)]
-mod tests;

@@ -15,6 +15,3 @@ pub use common::CommonPort;
 pub use fault::PortFault;
 pub use files::Files;
 pub use port::{FilePort, Listing, ListingRow};
-
-#[cfg(test)]
-mod tests;

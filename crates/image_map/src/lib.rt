@@ -11,6 +11,3 @@ pub use image::{Image, no_sizes};
 pub use laws::{others_stay, resident_is_in_core, room_for_all};
 pub use onion_swap::Plan;
 pub use port::{Port, store_in};
-
-#[cfg(test)]
-mod tests;

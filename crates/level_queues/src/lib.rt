@@ -6,6 +6,3 @@ mod row;
 
 pub use queues::{Charge, Chosen, Queues};
 pub use row::level_of;
-
-#[cfg(test)]
-mod tests;

@@ -103,6 +103,3 @@ impl Lines {
         self.count = 0;
     }
 }
-
-#[cfg(test)]
-mod tests;

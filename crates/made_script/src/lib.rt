@@ -44,6 +44,3 @@ pub fn make_script(alloc: Global, n: u32) -> Result<Script, NoMemory>
         end: 1_000_000,
     })
 }
-
-#[cfg(test)]
-mod tests;

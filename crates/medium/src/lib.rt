@@ -7,6 +7,3 @@ mod memory;
 
 pub use medium::{Failed, Medium};
 pub use memory::{Damage, MemoryMedium};
-
-#[cfg(test)]
-mod tests;

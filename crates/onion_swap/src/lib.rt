@@ -4,6 +4,3 @@
 mod owners;
 
 pub use owners::{Owners, Plan};
-
-#[cfg(test)]
-mod tests;

@@ -10,6 +10,3 @@ pub use index::row_coded;
 pub use op::{Class, Instr, Kind, Op, Row};
 pub use rows::{class, kind, op_named};
 pub use words::{decode, decode_prefixed, encode, instr_coded};
-
-#[cfg(test)]
-mod tests;

@@ -88,6 +88,3 @@ impl MemoryPort for PlainCore {
         }
     }
 }
-
-#[cfg(test)]
-mod tests;

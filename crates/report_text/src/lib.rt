@@ -30,6 +30,3 @@ pub fn report(alloc: Global, script: &Script, run: &Record, dump: bool) -> Resul
     writeln!(out, "END {clock}")?;
     Ok(Sequence::from_vec(out.into_bytes()))
 }
-
-#[cfg(test)]
-mod tests;

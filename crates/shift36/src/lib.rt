@@ -171,6 +171,3 @@ pub fn rql(q: Word, n: u8) -> Word
         Err(_) => unreachable!(),
     }
 }
-
-#[cfg(test)]
-mod tests;

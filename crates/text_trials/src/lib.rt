@@ -1,8 +1,6 @@
-//! Trials of the shared types, of scripts as they are read, and of reports.
+//! Trials of the shared types, and of scripts as they are read.
 #![tactic(auto)]
 
-#[cfg(test)]
-mod report;
 #[cfg(test)]
 mod script;
 #[cfg(test)]

@@ -6,6 +6,3 @@ mod line;
 
 pub use call::{answer, is_line_count, read_call};
 pub use line::{line_in, store_line};
-
-#[cfg(test)]
-mod tests;

@@ -14,6 +14,3 @@ mod turn;
 pub use line_buffer::Put;
 pub use session::Session;
 pub use turn::{Step, Turn};
-
-#[cfg(test)]
-mod tests;

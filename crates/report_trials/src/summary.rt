@@ -1,0 +1,100 @@
+use ctss_types::{
+    Account, Cause, Entries, Entry, EventKind, Item, Params, Record, Script, Sequence, name_word,
+};
+use report_text::summary;
+use std::alloc::Global;
+use std::test::Fail;
+
+/// A script of two accounts.
+fn script(alloc: Global) -> Result<Script, Fail> {
+    let account = Account {
+        name: name_word(b"ALFA"),
+        password: name_word(b"SESAME"),
+        blocks: 8,
+        tracks: 10,
+    };
+    Ok(Script {
+        params: Params {
+            wq: 1024,
+            quantum: 100,
+            swap: 10,
+            drum: 16,
+            disk: 40,
+            common: 5,
+        },
+        accounts: Sequence::from_vec(vec![in alloc; account; 2]?),
+        files: Sequence::new(alloc),
+        events: Sequence::new(alloc),
+        end: 400,
+    })
+}
+
+/// A service that ended for a cause.
+fn served(ran: u64, cause: Cause) -> Entry {
+    Entry::Serve {
+        tick: 10,
+        user: 1,
+        level: 2,
+        ran,
+        cause,
+    }
+}
+
+/// Four services, two of which ended with a read that found no line, a load, and entries that no sum counts.
+fn entries(alloc: Global) -> Result<Entries, Fail> {
+    let entries = vec![in alloc;
+        Entry::Taken {
+            tick: 0,
+            console: 1,
+            kind: EventKind::Line,
+            user: 1,
+            own: 0,
+        },
+        Entry::Clock {
+            answer: 0,
+            user: 1,
+        },
+        served(4, Cause::Wait),
+        served(10, Cause::Stop),
+        Entry::Swap {
+            tick: 20,
+            user: 2,
+            dumped: 5,
+            read: 7,
+            fresh: 9,
+        },
+        served(6, Cause::Preempt),
+        served(1, Cause::Wait),
+        Entry::Idle {
+            from: 200,
+            until: 300,
+        },
+    ]?;
+    Ok(Sequence::from_vec(entries))
+}
+
+#[test]
+fn sums_up_a_short_run(rt: HostRuntime) -> Result<(), Fail> {
+    let alloc = rt.alloc();
+    let first = Sequence::from_vec(vec![in alloc; Item::Quit, Item::Hang]?);
+    let second = Sequence::from_vec(vec![in alloc; Item::Hang]?);
+    let run = Record {
+        entries: entries(alloc)?,
+        transcripts: Sequence::from_vec(vec![in alloc; first, second]?),
+        files: Sequence::new(alloc),
+        common: Sequence::new(alloc),
+        clock: 300,
+    };
+    let text = summary(alloc, 999_999, &script(alloc)?, &run)?;
+    let want: &[u8] = b"LOAD 999999\n\
+        USERS 2\n\
+        ITEMS 3\n\
+        SERVES 4\n\
+        SWAPS 1\n\
+        DUMPED 5\n\
+        READ 7\n\
+        STEPS 19\n\
+        END 300\n";
+    assert_eq!(rt; text.as_slice(), want);
+    Ok(())
+}

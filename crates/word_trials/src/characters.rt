@@ -1,0 +1,84 @@
+use bcd48::{char_of, code_of, is_character, pack6, text6};
+
+// Each character with its code.
+static CODES: [(u8, u8); 48] = [
+    (b'0', 0o00),
+    (b'1', 0o01),
+    (b'2', 0o02),
+    (b'3', 0o03),
+    (b'4', 0o04),
+    (b'5', 0o05),
+    (b'6', 0o06),
+    (b'7', 0o07),
+    (b'8', 0o10),
+    (b'9', 0o11),
+    (b'=', 0o13),
+    (b'\'', 0o14),
+    (b'+', 0o20),
+    (b'A', 0o21),
+    (b'B', 0o22),
+    (b'C', 0o23),
+    (b'D', 0o24),
+    (b'E', 0o25),
+    (b'F', 0o26),
+    (b'G', 0o27),
+    (b'H', 0o30),
+    (b'I', 0o31),
+    (b'.', 0o33),
+    (b')', 0o34),
+    (b'-', 0o40),
+    (b'J', 0o41),
+    (b'K', 0o42),
+    (b'L', 0o43),
+    (b'M', 0o44),
+    (b'N', 0o45),
+    (b'O', 0o46),
+    (b'P', 0o47),
+    (b'Q', 0o50),
+    (b'R', 0o51),
+    (b'$', 0o53),
+    (b'*', 0o54),
+    (b' ', 0o60),
+    (b'/', 0o61),
+    (b'S', 0o62),
+    (b'T', 0o63),
+    (b'U', 0o64),
+    (b'V', 0o65),
+    (b'W', 0o66),
+    (b'X', 0o67),
+    (b'Y', 0o70),
+    (b'Z', 0o71),
+    (b',', 0o73),
+    (b'(', 0o74),
+];
+
+#[test]
+fn codes_are_those_of_the_table(rt: HostRuntime) {
+    for (byte, code) in CODES {
+        assert!(rt; is_character(byte));
+        assert_eq!(rt; code_of(byte), Some(code), "{byte}");
+    }
+    for byte in [b'a', b'"', b'#', b'@', b'\n', 0, 255] {
+        assert!(rt; !is_character(byte));
+        assert_eq!(rt; code_of(byte), None, "{byte}");
+    }
+    for (code, byte) in [
+        (0o00, b'0'),
+        (0o14, b'\''),
+        (0o60, b' '),
+        (0o74, b'('),
+        (0o12, b' '),
+        (0o77, b' '),
+    ] {
+        assert_eq!(rt; char_of(code), byte, "{code}");
+    }
+}
+
+#[test]
+fn packs_and_prints(rt: HostRuntime) {
+    let hello = pack6(&[0o30, 0o25, 0o43, 0o43, 0o46, 0o60]);
+    assert_eq!(rt; hello, 0o302543434660);
+    assert_eq!(rt; text6(hello), *b"HELLO ");
+    assert_eq!(rt; text6(0o665126436760), *b"WRFLX ");
+    assert_eq!(rt; text6(0o122147777777), *b" AP   ");
+}

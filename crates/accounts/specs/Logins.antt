@@ -1,4 +1,4 @@
--- What a name and a password come to.
+-- proof: what a name and a password come to.
 use Rattle.std.specs.Prelude.{ℕ, Bool, false, if◌then◌else◌, Option, Some, None, List}
 use Rattle.ctss_types.specs.declared.script.Account.{Account}
 use Rattle.time_sharing.specs.System.{at}

@@ -1,4 +1,4 @@
--- Arithmetic of the accumulator by signs and numbers.
+-- claim: arithmetic of the accumulator by signs and numbers.
 use Rattle.std.specs.Prelude.{ℕ, Bool, true, false, not, ◌&&◌, ◌+◌, ◌-◌, ◌*◌, ◌/◌, ◌%◌, ◌^◌, nat_eq, nat_le, nat_lt, if◌then◌else◌}
 use Rattle.word36.specs.Bits.{Acc37, is_minus, magnitude_of, word_of, logical_of}
 use Rattle.arith36.specs.declared.Sum.{Sum}

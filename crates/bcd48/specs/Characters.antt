@@ -1,4 +1,4 @@
--- The 48 characters and their codes.
+-- claim: the 48 characters and their codes.
 use Rattle.std.specs.Prelude.{ℕ, Bool, not, ◌==◌, ◌&&◌, ◌||◌, nat_lt, Option, Some, List, ◌++◌, slice_index, codes, if◌then◌else◌}
 use Rattle.std.specs.List.{list_any, position}
 

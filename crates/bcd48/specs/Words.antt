@@ -1,4 +1,4 @@
--- Six codes in a word of 36 bits, the first one highest.
+-- claim: six codes in a word of 36 bits, the first one highest.
 use Rattle.std.specs.Prelude.{ℕ, ◌+◌, ◌*◌, ◌/◌, ◌%◌, ◌^◌, List, [], ◌∷◌, length, map}
 use Rattle.bcd48.specs.Characters.{char_of}
 

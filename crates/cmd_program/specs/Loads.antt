@@ -1,4 +1,4 @@
--- What an answer says of a deck.
+-- proof: what an answer says of a deck.
 use Rattle.std.specs.Prelude.{◌≡◌, Ok, Err}
 use Rattle.std.specs.declared.result.Result.{Result}
 use Rattle.program_model.specs.declared.Deck.{Deck}

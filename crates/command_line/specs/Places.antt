@@ -1,4 +1,4 @@
--- The command as clap sees it: its two places, and what the words at them ask for.
+-- proof: the command as clap sees it: its two places, and what the words at them ask for.
 use Rattle.std.specs.Prelude.{ℕ, true, List, [], ◌∷◌, Option, Some, None, codes}
 use Rattle.text_model.specs.declared.mode.Mode.{Mode}
 use Rattle.text_model.specs.Words.{mode_named, mode_with}

@@ -1,4 +1,4 @@
--- A text copied into a slice from some place on.
+-- proof: a text copied into a slice from some place on.
 use Rattle.std.specs.Prelude.{◌≡◌, ℕ, ◌-◌, min, List, ◌++◌, take, drop, length}
 use Rattle.console_texts.specs.declared.copying.Window.{Window}
 

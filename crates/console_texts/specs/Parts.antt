@@ -1,4 +1,4 @@
--- What a console has shown: the texts of logins, and parts of users' transcripts.
+-- proof: what a console has shown: the texts of logins, and parts of users' transcripts.
 use Rattle.std.specs.Prelude.{◌≡◌, ℕ, ◌+◌, ◌<◌, ◌≤◌, Bool, true, false, Option, Some, None, List, [], ◌∷◌, ◌++◌, take, drop, length, map, codes, All}
 use Rattle.std.specs.List.{flat_map}
 use Rattle.time_sharing.specs.Machine.{Line, Item}

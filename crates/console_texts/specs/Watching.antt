@@ -1,4 +1,4 @@
--- The consoles' texts along a run of all users.
+-- claim: the consoles' texts along a run of all users.
 use Rattle.std.specs.Prelude.{◌≡◌, ℕ, Option, Some, None, List, [], ◌∷◌, map}
 use Rattle.time_sharing.specs.Rows.{machine}
 use Rattle.time_sharing.specs.System.{Entry, Taken, Login, Refused, Idle, Swap, Serve, Clock, Common}

@@ -1,4 +1,4 @@
--- The words of a core and its blocks.
+-- proof: the words of a core and its blocks.
 use Rattle.std.specs.Prelude.{ℕ, ◌+◌, ◌*◌, ◌^◌, ◌<◌, List, ◌++◌, take, drop, slice_range, replicate}
 use Rattle.std.specs.List.{All}
 use Rattle.std.specs.Borrow.{Lends, MutBor, Fml, Array, u64}

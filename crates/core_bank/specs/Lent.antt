@@ -1,4 +1,4 @@
--- What a memory lends.
+-- proof: what a memory lends.
 use Rattle.std.specs.Prelude.{ℕ, List}
 use Rattle.std.specs.Borrow.{Lends, MutBor, Fml, Array, u64}
 use Rattle.core_bank.specs.Parts.{with_middle, with_words}

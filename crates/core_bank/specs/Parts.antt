@@ -1,4 +1,4 @@
--- Words with others in the place of some.
+-- proof: words with others in the place of some.
 use Rattle.std.specs.Prelude.{ℕ, ◌-◌, List, ◌++◌, take, drop, length}
 
 -- the words with others from one place up to another

@@ -1,4 +1,4 @@
--- The registers at the start, their index numbers, and where the instruction counter goes.
+-- claim: the registers at the start, their index numbers, and where the instruction counter goes.
 use Rattle.std.specs.Prelude.{ℕ, Bool, false, ◌+◌, ◌%◌, ◌^◌, if◌then◌else◌, replicate}
 use Rattle.cpu_regs.specs.Index.{index_at, with_index}
 use Rattle.cpu_regs.specs.declared.regs.Regs.{Regs}

@@ -1,4 +1,4 @@
--- What the answers of a step mean.
+-- proof: what the answers of a step mean.
 use Rattle.std.specs.Prelude.{ℕ, Bool, true, false, List, ◌≡◌}
 use Rattle.cpu_regs.specs.declared.regs.Regs.{Regs}
 use Rattle.cpu_regs.specs.declared.regs.OpEnd.{OpEnd}

@@ -1,4 +1,4 @@
--- A source and a sink in memory, as contracts see them, and what each call makes of them.
+-- proof: a source and a sink in memory, as contracts see them, and what each call makes of them.
 use Rattle.std.specs.Prelude.{ℕ, Bool, ◌-◌, min, nat_eq, nat_le, if◌then◌else◌, List, ◌++◌, length, take, drop}
 use Rattle.std.specs.List.{list_any}
 use Rattle.ctss_io.specs.declared.outside.Got.{Got}

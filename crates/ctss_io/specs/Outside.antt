@@ -1,4 +1,4 @@
--- What the answers of a source and of a sink say.
+-- claim: what the answers of a source and of a sink say.
 use Rattle.std.specs.Prelude.{◌≡◌, ℕ, ◌+◌, ◌-◌, ◌^◌, ◌≤◌, min, List, [], ◌++◌, take, Option, None, Some}
 pub use Rattle.faults.specs.Faults.{Rose}
 use Rattle.ctss_io.specs.declared.outside.Got.{Got}

@@ -1,4 +1,4 @@
--- A standard stream, as contracts see it.
+-- proof: a standard stream, as contracts see it.
 use Rattle.std.specs.Prelude.{ℕ}
 
 -- a stream, and how often a call over it has failed

@@ -1,4 +1,4 @@
--- What reading all and writing all say.
+-- claim: what reading all and writing all say.
 use Rattle.std.specs.Prelude.{◌≡◌, ◌<◌, ◌≤◌, ℕ, List, length, take, Option, None, Some, codes}
 pub use Rattle.faults.specs.Faults.{WhereTold}
 use Rattle.ctss_io.specs.declared.whole.ReadEnd.{ReadEnd}

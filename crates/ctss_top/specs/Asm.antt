@@ -1,4 +1,4 @@
--- Assembly: cards come in, and their deck or their faults go out.
+-- claim: assembly: cards come in, and their deck or their faults go out.
 use Rattle.std.specs.Prelude.{◌≡◌, ◌≤◌, ◌<◌, ℕ, nat_le, if◌then◌else◌, List, [], ◌∷◌, length, Option}
 use Rattle.std.specs.Str.Lines.{lines}
 use Rattle.ctss_io.specs.Outside.{before, after, IsAtEnd}

@@ -1,4 +1,4 @@
--- What each mode does with a script: where the script comes from, and which text is written of its run.
+-- claim: what each mode does with a script: where the script comes from, and which text is written of its run.
 use Rattle.std.specs.Prelude.{◌≡◌, ◌≤◌, ℕ, Bool, true, false, List, [], length, Option, Ok, Err}
 use Rattle.ctss_types.specs.declared.script.Script.{Script}
 use Rattle.ctss_types.specs.declared.history.Record.{Record}

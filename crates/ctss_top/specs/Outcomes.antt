@@ -1,4 +1,4 @@
--- Outcomes that need no record.
+-- claim: outcomes that need no record.
 use Rattle.std.specs.Prelude.{ℕ, []}
 use Rattle.ctss_types.specs.declared.history.Record.{Record}
 use Rattle.ctss_top.specs.declared.outcome.Outcome.{Outcome}

@@ -1,4 +1,4 @@
--- How the run of a script ends.
+-- claim: how the run of a script ends.
 use Rattle.std.specs.Prelude.{◌≡◌, ℕ, List, [], ◌∷◌, map, Option}
 use Rattle.std.specs.List.{All}
 use Rattle.ctss_types.specs.declared.script.Script.{Script}

@@ -1,4 +1,4 @@
--- What the answers of the top call mean.
+-- claim: what the answers of the top call mean.
 use Rattle.std.specs.Prelude.{◌≡◌, ℕ, Bool, true, List, [], ◌∷◌, Option, Some, None, Ok, Err}
 use Rattle.std.specs.declared.result.Result.{Result}
 use Rattle.ctss_types.specs.declared.script.Script.{Script}

@@ -1,4 +1,4 @@
--- The words of an entry's line.
+-- claim: the words of an entry's line.
 use Rattle.std.specs.Prelude.{ℕ, List, codes}
 use Rattle.ctss_types.specs.declared.history.Cause.{Cause}
 use Rattle.ctss_types.specs.declared.history.Cause.TheVariants as cause

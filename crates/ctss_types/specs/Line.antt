@@ -1,4 +1,4 @@
--- A line of text, and how its characters are kept.
+-- claim: a line of text, and how its characters are kept.
 use Rattle.std.specs.Prelude.{◌≡◌, ◌≤◌, ℕ, ◌-◌, true, nat_eq, if◌then◌else◌, List, [], ◌∷◌, ◌++◌, length, replicate, take, drop}
 use Rattle.std.specs.List.{list_all}
 use Rattle.std.proofs.Common.{sym, ◌∙◌, ap, arith, take-append-drop, length-take}

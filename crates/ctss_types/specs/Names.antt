@@ -1,4 +1,4 @@
--- The names of a file.
+-- claim: the names of a file.
 use Rattle.std.specs.Prelude.{ℕ}
 
 -- two words

@@ -1,4 +1,4 @@
--- The words of a line, and names as words of the machine.
+-- claim: the words of a line, and names as words of the machine.
 use Rattle.std.specs.Prelude.{ℕ, not, ◌-◌, ◌==◌, ◌++◌, nat_eq, List, length, map, filter, replicate, take, drop}
 use Rattle.std.specs.List.{slice_split, prefix_len}
 use Rattle.std.specs.Option.{unwrap_or}

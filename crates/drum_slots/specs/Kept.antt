@@ -1,4 +1,4 @@
--- The copies that are kept, where the drum tells its records.
+-- claim: the copies that are kept, where the drum tells its records.
 use Rattle.std.specs.Prelude.{◌≡◌, ◌≤◌, ℕ, List, [], map, slice_index_or, slice_set, Option, None, Some}
 use Rattle.medium.specs.Medium.{HasShape}
 

@@ -1,4 +1,4 @@
--- The places of users' blocks: users in order, each with as many places as its quota.
+-- proof: the places of users' blocks: users in order, each with as many places as its quota.
 use Rattle.std.specs.Prelude.{ℕ, ◌+◌, List, take, sum, slice_index_or}
 
 -- how many blocks a user may have; none past the last user

@@ -1,4 +1,4 @@
--- Which record keeps which block, and which records are free.
+-- proof: which record keeps which block, and which records are free.
 use Rattle.std.specs.Prelude.{◌≡◌, ℕ, suc, ◌+◌, ◌≤◌, Bool, true, false, if◌then◌else◌, List, [], ◌∷◌, length, slice_index_or, Option, None, Some}
 
 -- the least free record, or how many there are where none is

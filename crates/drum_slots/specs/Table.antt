@@ -1,4 +1,4 @@
--- What slots say of users' blocks.
+-- proof: what slots say of users' blocks.
 use Rattle.std.specs.Prelude.{ℕ, Bool, List, Option, length}
 use Rattle.drum_slots.specs.declared.slots.Slots.{Slots}
 use Rattle.drum_slots.specs.Keys.{key, quota_of}

@@ -1,4 +1,4 @@
--- What the answers of assembling mean.
+-- proof: what the answers of assembling mean.
 use Rattle.std.specs.Prelude.{◌≡◌, ℕ, ◌+◌, not, if◌then◌else◌, List, [], ◌∷◌, length, Result, Ok, Err}
 use Rattle.std.specs.List.{prefix_len}
 use Rattle.fap_read.specs.declared.card.Card.{Card}

@@ -1,4 +1,4 @@
--- The words of a card by what its field comes to.
+-- proof: the words of a card by what its field comes to.
 use Rattle.std.specs.Prelude.{Bool, ℕ, List, [], ◌∷◌, Option}
 use Rattle.fap_model.specs.declared.types.Operation.{Operation}
 use Rattle.fap_model.specs.declared.types.Operation.TheVariants.{Machine as machine, Pze as pze, Org as org, Bss as bss, Equ as equ, Dec as dec, Oct as oct, Bci as bci, End as end}

@@ -1,4 +1,4 @@
--- The value of an expression, part by part.
+-- proof: the value of an expression, part by part.
 use Rattle.std.specs.Prelude.{ℕ, Bool, List, [], ◌∷◌, Option, Some, None, nat_eq}
 use Rattle.fap_model.specs.declared.types.Term.{Term}
 use Rattle.fap_model.specs.Terms.{term_of}

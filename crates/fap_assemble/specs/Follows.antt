@@ -1,4 +1,4 @@
--- What the passes behind the first one keep: the symbols known so far are the first of the whole table.
+-- proof: what the passes behind the first one keep: the symbols known so far are the first of the whole table.
 use Rattle.std.specs.Prelude.{◌≡◌, ℕ, ◌≤◌, List, length, map}
 use Rattle.fap_model.specs.Places.{known_after}
 use Rattle.fap_assemble.specs.declared.fault.CardFault.{CardFault}

@@ -1,4 +1,4 @@
--- What the passes over the cards keep.
+-- proof: what the passes over the cards keep.
 use Rattle.std.specs.Prelude.{◌≡◌, ℕ, List, [], Option, Some, None}
 use Rattle.fap_model.specs.Places.{Known, nothing_known, known_after}
 use Rattle.fap_model.specs.Decks.{literals_with, reach_from}

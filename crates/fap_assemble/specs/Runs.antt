@@ -1,4 +1,4 @@
--- The words of segments while they grow: the words of all segments but the last, and the last one by itself.
+-- proof: the words of segments while they grow: the words of all segments but the last, and the last one by itself.
 use Rattle.std.specs.Prelude.{ℕ, suc, ◌+◌, ◌*◌, ◌^◌, Bool, ◌&&◌, nat_eq, nat_lt, if◌then◌else◌, List, [], ◌∷◌, ◌++◌, length}
 use Rattle.fap_model.specs.Places.{Known, known_behind}
 use Rattle.fap_model.specs.Decks.{Whole, max_run, words_by, operation_in}

@@ -1,4 +1,4 @@
--- What a card does to what is known, part by part.
+-- proof: what a card does to what is known, part by part.
 use Rattle.fap_read.specs.declared.card.Card.{Card}
 use Rattle.std.specs.Prelude.{ℕ, ◌%◌, ◌^◌, if◌then◌else◌, List, map, Option, Some, None, is_none}
 use Rattle.fap_model.specs.Cards.{is_comment, symbol_of}

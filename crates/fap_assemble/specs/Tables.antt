@@ -1,4 +1,4 @@
--- The table of symbols.
+-- proof: the table of symbols.
 use Rattle.std.specs.Prelude.{ℕ, List, [], ◌∷◌, ◌++◌, if◌then◌else◌, is_none}
 use Rattle.fap_model.specs.Places.{value_in}
 

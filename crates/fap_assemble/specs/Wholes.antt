@@ -1,4 +1,4 @@
--- What all cards together tell, as the code holds it.
+-- proof: what all cards together tell, as the code holds it.
 use Rattle.std.specs.Prelude.{ℕ, Bool, false, if◌then◌else◌, List, length, take, Option, Some}
 use Rattle.std.specs.Option.{option_map}
 use Rattle.fap_model.specs.declared.types.Operation.{Operation}

@@ -1,4 +1,4 @@
--- The deck of a list of cards, or the faults of its cards.
+-- claim: the deck of a list of cards, or the faults of its cards.
 use Rattle.std.specs.Prelude.{ℕ, zero, suc, ◌+◌, ◌-◌, ◌*◌, ◌/◌, ◌%◌, ◌^◌, max, Bool, true, false, not, ◌&&◌, ◌||◌, nat_eq, nat_lt, nat_le, if◌then◌else◌, List, [], ◌∷◌, ◌++◌, length, Option, Some, None}
 use Rattle.std.specs.List.{list_any}
 use Rattle.opcode_table.specs.Words.{encoded}

@@ -1,4 +1,4 @@
--- Worked rows: nine cards and their deck, and three cards that are at fault.
+-- claim: worked rows: nine cards and their deck, and three cards that are at fault.
 use Rattle.std.specs.Prelude.{◌≡◌, ℕ, List, [], ◌∷◌, ◌++◌, codes}
 use Rattle.fap_model.specs.Decks.{assembled, deck, faulty}
 

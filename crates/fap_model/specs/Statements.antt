@@ -1,4 +1,4 @@
--- What a card says by itself: its operation and its field.
+-- claim: what a card says by itself: its operation and its field.
 use Rattle.std.specs.Prelude.{ℕ, zero, suc, ◌+◌, ◌-◌, ◌*◌, ◌/◌, ◌%◌, ◌^◌, Bool, true, false, not, ◌&&◌, ◌||◌, ◌==◌, nat_eq, nat_lt, nat_le, if◌then◌else◌, List, [], ◌∷◌, ◌++◌, length, get_or, take, drop, replicate, Option, Some, None, bytes_eq, codes}
 use Rattle.std.specs.Option.{option_map, option_and_then}
 use Rattle.ctss_types.specs.Words.{name_of}

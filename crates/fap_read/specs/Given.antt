@@ -1,4 +1,4 @@
--- Words that a card gives.
+-- proof: words that a card gives.
 use Rattle.std.specs.Prelude.{ℕ, ◌*◌, ◌++◌, Bool, true, false, List, take, replicate, Option}
 use Rattle.fap_model.specs.Statements.{packed_words}
 use Rattle.fap_model.specs.declared.types.Operation.{Operation}

@@ -1,4 +1,4 @@
--- What taking the first term or the first item off a text leaves.
+-- proof: what taking the first term or the first item off a text leaves.
 use Rattle.std.specs.Prelude.{◌<◌, ◌^◌, ℕ, Bool, true, false, List, [], ◌∷◌, filter, Option, Some, None}
 use Rattle.std.specs.List.{slice_split, zip}
 use Rattle.fap_model.specs.Terms.{is_sign, items_of}

@@ -1,4 +1,4 @@
--- Counts of faults, and what is told of an object outside.
+-- claim: counts of faults, and what is told of an object outside.
 use Rattle.std.specs.Prelude.{ℕ, ◌+◌, ◌-◌, ◌^◌, ◌≤◌, min, Option, None, Some}
 
 -- a count has risen: it is greater than before, or stands at the end of its type

@@ -1,4 +1,4 @@
--- What a call on a directory answers and leaves, by what its definition tells: a call may also fail at the disk or want memory.
+-- proof: what a call on a directory answers and leaves, by what its definition tells: a call may also fail at the disk or want memory.
 use Rattle.std.specs.Prelude.{◌≡◌, ℕ, List, [], ◌∷◌, ◌++◌, Ok, Err}
 use Rattle.std.specs.declared.result.Result.{Result}
 use Rattle.ctss_types.specs.declared.file.FileBody.{FileBody}

@@ -1,4 +1,4 @@
--- A directory as contracts see it.
+-- proof: a directory as contracts see it.
 use Rattle.std.specs.Prelude.{◌≡◌, ℕ, ◌≤◌, List, map}
 use Rattle.std.specs.List.{IsDistinct}
 use Rattle.ctss_types.specs.declared.file.FileBody.{FileBody}

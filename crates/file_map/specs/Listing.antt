@@ -1,4 +1,4 @@
--- What a listing shows of a directory.
+-- proof: what a listing shows of a directory.
 use Rattle.std.specs.Prelude.{List, map, length}
 use Rattle.ctss_types.specs.declared.file.FileBody.{FileBody}
 use Rattle.file_map.specs.declared.port.ListingRow.{ListingRow}

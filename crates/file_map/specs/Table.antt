@@ -1,4 +1,4 @@
--- What the entries of a table of files stand for.
+-- proof: what the entries of a table of files stand for.
 use Rattle.std.specs.Prelude.{List, map}
 use Rattle.ctss_types.specs.Names.{NamePair}
 use Rattle.ctss_types.specs.declared.file.FileBody.{FileBody}

@@ -1,4 +1,4 @@
--- Files by owner.
+-- claim: files by owner.
 use Rattle.std.specs.Prelude.{ℕ, nat_eq, List, map, filter}
 use Rattle.ctss_types.specs.declared.file.FileBody.{FileBody}
 use Rattle.ctss_types.specs.declared.file.OwnedFile.{OwnedFile}

@@ -1,4 +1,4 @@
--- Worked rows of files.
+-- claim: worked rows of files.
 use Rattle.std.specs.Prelude.{◌≡◌, ℕ, List, [], ◌∷◌, ◌++◌, replicate, Ok, Err}
 use Rattle.std.specs.declared.result.Result.{Result}
 use Rattle.ctss_types.specs.Names.{NamePair}

@@ -1,4 +1,4 @@
--- Lists of blocks of core.
+-- proof: lists of blocks of core.
 use Rattle.std.specs.Prelude.{ℕ, zero, suc, List, [], ◌∷◌, ◌++◌}
 
 -- the first n of these blocks

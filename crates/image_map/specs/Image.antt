@@ -1,4 +1,4 @@
--- What an `Image` shows.
+-- proof: what an `Image` shows.
 use Rattle.std.specs.Prelude.{ℕ, List}
 use Rattle.std.specs.Borrow.{MutBor}
 use Rattle.medium.specs.declared.medium.Medium.{Ghosts}

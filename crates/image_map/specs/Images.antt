@@ -1,4 +1,4 @@
--- A user's image: its blocks, which lie in core, on the drum, or nowhere.
+-- proof: a user's image: its blocks, which lie in core, on the drum, or nowhere.
 use Rattle.std.specs.Prelude.{◌≡◌, ℕ, ◌<◌, ◌≤◌, ◌-◌, ◌++◌, nat_eq, if◌then◌else◌, List, slice_index_or, length, take, replicate, Option, None, Some}
 use Rattle.core_bank.specs.Bank.{block_at, blank}
 use Rattle.drum_slots.specs.Keys.{quota_of, key}

@@ -1,4 +1,4 @@
--- What a load does to owners, slots and free records, and which calls of the drum it makes.
+-- claim: what a load does to owners, slots and free records, and which calls of the drum it makes.
 use Rattle.std.specs.Prelude.{◌≡◌, ℕ, zero, suc, ◌+◌, ◌<◌, Bool, true, false, nat_eq, if◌then◌else◌, List, [], ◌∷◌, ◌++◌, length, slice_set, Option, None, Some}
 use Rattle.medium.specs.Medium.{Call, CallList, with_call, read_call, write_call}
 use Rattle.drum_slots.specs.declared.slots.Slots.{Slots}

@@ -1,4 +1,4 @@
--- Owners and kept copies, without the records that keep them.
+-- proof: owners and kept copies, without the records that keep them.
 use Rattle.std.specs.Prelude.{ℕ, Bool, true, false, ◌&&◌, nat_lt, List, Option, None, Some}
 use Rattle.drum_slots.specs.Keys.{quota_of, key}
 use Rattle.drum_slots.specs.Slots.{slot_of}

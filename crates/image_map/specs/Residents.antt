@@ -1,4 +1,4 @@
--- Images while a user is resident.
+-- proof: images while a user is resident.
 use Rattle.std.specs.Prelude.{◌≡◌, ◌≢◌, ℕ, ◌*◌, List, drop, Option}
 use Rattle.core_bank.specs.Bank.{block_at}
 use Rattle.drum_slots.specs.declared.slots.Slots.{Slots}

@@ -1,4 +1,4 @@
--- Room on the drum for all users' blocks.
+-- proof: room on the drum for all users' blocks.
 use Rattle.std.specs.Prelude.{◌≡◌, ℕ, ◌+◌, ◌≤◌, Bool, true, false, if◌then◌else◌, nat_eq, List, length, sum, Option}
 use Rattle.drum_slots.specs.Slots.{IsSlots, count_kept}
 use Rattle.plan_model.specs.Loads.{owner_of, count_below}

@@ -1,4 +1,4 @@
--- How many words the first blocks of a bank have.
+-- proof: how many words the first blocks of a bank have.
 use Rattle.std.proofs.Common.{◌≡◌, ℕ, ◌*◌, List, length, take, ap, sym, ◌∙◌, length-take}
 
 pub taken_length : (n m : ℕ) (xs ys : List ℕ) → length xs ≡ 32768 → length ys ≡ 32768 → n ≡ m → length (take (256 * n) xs) ≡ length (take (256 * m) ys)

@@ -1,4 +1,4 @@
--- What images show, and what each call does to it.
+-- proof: what images show, and what each call does to it.
 use Rattle.std.specs.Prelude.{◌≡◌, ◌≢◌, ℕ, ◌≤◌, ◌+◌, ◌∷◌, replicate, None, Bool, true, false, List, length, slice_set, Option, Result, IfOk, OnErr}
 use Rattle.std.specs.Borrow.{GName}
 use Rattle.faults.specs.Faults.{Rose}

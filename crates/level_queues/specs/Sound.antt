@@ -1,4 +1,4 @@
--- What is true of the rows: nine, each user in them at most once, and users of 1 to 30.
+-- proof: what is true of the rows: nine, each user in them at most once, and users of 1 to 30.
 use Rattle.std.specs.Prelude.{◌≡◌, ℕ, zero, suc, ◌+◌, ◌≤◌, ◌<◌, cond, nat_eq, List, [], ◌∷◌, length}
 use Rattle.ctss_types.specs.declared.session.Waiting.{Waiting}
 

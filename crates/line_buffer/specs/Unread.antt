@@ -1,4 +1,4 @@
--- Lines that were typed ahead, and how many came.
+-- proof: lines that were typed ahead, and how many came.
 use Rattle.std.specs.Prelude.{ℕ, List}
 
 -- the lines that nobody has read, and the count since the last restart

@@ -1,4 +1,4 @@
--- The rows of loads, stores, fixed-point arithmetic and the accumulator's signs. W is the word at y.
+-- claim: the rows of loads, stores, fixed-point arithmetic and the accumulator's signs. W is the word at y.
 use Rattle.std.specs.Prelude.{ℕ, Bool, true, false, not, ◌+◌, ◌-◌, ◌*◌, ◌/◌, ◌%◌, ◌^◌, List, nat_eq, ◌||◌}
 use Rattle.word36.specs.Bits.{is_minus, magnitude_of, with_address, with_decrement, acc_word}
 use Rattle.arith36.specs.Arith.{sum_of, product_of, rounded, round_overflows, divided, compared}

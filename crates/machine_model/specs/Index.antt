@@ -1,4 +1,4 @@
--- The rows of index registers, transfers and stops. W is the word at y, and the tag names the index register.
+-- claim: the rows of index registers, transfers and stops. W is the word at y, and the tag names the index register.
 use Rattle.std.specs.Prelude.{ℕ, false, not, ◌+◌, ◌-◌, ◌*◌, ◌%◌, ◌^◌, List, if◌then◌else◌, nat_eq, nat_lt}
 use Rattle.word36.specs.Bits.{is_minus, address_of, decrement_of, with_address, with_decrement}
 use Rattle.arith36.specs.Arith.{compared}

@@ -1,4 +1,4 @@
--- The rows of logic, shifts and sense indicators. L is positions P and 1 to 35 of the accumulator, W the word at y.
+-- claim: the rows of logic, shifts and sense indicators. L is positions P and 1 to 35 of the accumulator, W the word at y.
 use Rattle.std.specs.Prelude.{ℕ, ◌*◌, ◌%◌, ◌^◌, List, bit_and, bit_or, bit_xor}
 use Rattle.word36.specs.Bits.{logical_of}
 use Rattle.arith36.specs.Arith.{logical_sum, compared_logical}

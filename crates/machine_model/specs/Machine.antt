@@ -1,4 +1,4 @@
--- One step of the machine: fetch, decode, do.
+-- claim: one step of the machine: fetch, decode, do.
 use Rattle.std.specs.Prelude.{ℕ, Bool, true, false, ◌+◌, ◌-◌, ◌%◌, ◌^◌, List, length, slice_index, if◌then◌else◌, nat_lt, Some, None, Ok, Err}
 use Rattle.std.specs.declared.result.Result.{Result}
 use Rattle.std.specs.declared.option.Option.{Option}

@@ -1,4 +1,4 @@
--- What the answers of the code mean.
+-- proof: what the answers of the code mean.
 use Rattle.std.specs.Prelude.{ℕ, List, ◌≡◌}
 use Rattle.cpu_regs.specs.declared.regs.Regs.{Regs}
 use Rattle.cpu_regs.specs.declared.regs.OpEnd.{OpEnd}

@@ -1,4 +1,4 @@
--- Worked rows of the machine: one step each, on registers that are zero unless said. Words are written in octal.
+-- claim: worked rows of the machine: one step each, on registers that are zero unless said. Words are written in octal.
 use Rattle.std.specs.Prelude.{◌≡◌, ℕ, true, false, ◌-◌, ◌+◌, ◌^◌, List, [], ◌∷◌, replicate}
 use Rattle.word36.specs.Bits.{Acc37}
 use Rattle.cpu_regs.specs.declared.regs.Regs.{Regs}

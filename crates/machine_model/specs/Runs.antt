@@ -1,4 +1,4 @@
--- Many steps of the machine.
+-- proof: many steps of the machine.
 use Rattle.std.specs.Prelude.{ℕ, zero, suc, List}
 use Rattle.cpu_regs.specs.declared.regs.Regs.{Regs}
 use Rattle.machine_model.specs.Step.{Step, went, halt, entry, illegal, outside}

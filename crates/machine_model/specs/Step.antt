@@ -1,4 +1,4 @@
--- What a step of the machine gives, and the words that the rows of the instruction table are written in.
+-- claim: what a step of the machine gives, and the words that the rows of the instruction table are written in.
 use Rattle.std.specs.Prelude.{ℕ, Bool, true, false, ◌+◌, ◌-◌, ◌*◌, ◌/◌, ◌%◌, ◌^◌, List, length, slice_index, slice_set, if◌then◌else◌, nat_lt, nat_eq, bit_and, ◌||◌}
 use Rattle.word36.specs.Bits.{Acc37, is_minus, magnitude_of}
 use Rattle.cpu_regs.specs.declared.regs.Regs.{Regs}

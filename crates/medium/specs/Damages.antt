@@ -1,4 +1,4 @@
--- What damages do to a read.
+-- proof: what damages do to a read.
 use Rattle.std.specs.Prelude.{ℕ, Bool, true, ◌^◌, ◌<◌, nat_eq, if◌then◌else◌, List, [], ◌∷◌, slice_set, Option, None, Some}
 use Rattle.medium.specs.declared.memory.Damage.{Damage}
 

@@ -1,4 +1,4 @@
--- What the fields of a list of calls in memory stand for.
+-- proof: what the fields of a list of calls in memory stand for.
 use Rattle.std.specs.Prelude.{◌≡◌, ℕ, ◌+◌, ◌*◌, ◌≤◌, if◌then◌else◌, List, [], ◌∷◌, length, take, drop, None, Some, vec_capacity}
 use Rattle.medium.specs.Medium.{Call}
 use Rattle.medium.specs.LogState.{LogState}

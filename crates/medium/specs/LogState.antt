@@ -1,4 +1,4 @@
--- A list of calls in memory, as contracts see it.
+-- proof: a list of calls in memory, as contracts see it.
 use Rattle.std.specs.Prelude.{ℕ, Option}
 use Rattle.medium.specs.Medium.{CallList}
 

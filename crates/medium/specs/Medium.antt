@@ -1,4 +1,4 @@
--- What the calls of a medium do to its records and to its list of calls.
+-- claim: what the calls of a medium do to its records and to its list of calls.
 use Rattle.std.specs.Prelude.{◌≡◌, ℕ, Bool, true, false, ◌-◌, ◌^◌, ◌<◌, nat_eq, if◌then◌else◌, List, [], ◌∷◌, ◌++◌, length, slice_set, slice_index_or, Option, None, Some}
 use Rattle.std.specs.List.{All}
 use Rattle.faults.specs.Faults.{WhereTold}

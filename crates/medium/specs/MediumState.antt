@@ -1,4 +1,4 @@
--- A medium in memory, as contracts see it, and what its calls make of it.
+-- proof: a medium in memory, as contracts see it, and what its calls make of it.
 use Rattle.std.specs.Prelude.{ℕ, Bool, ◌+◌, ◌-◌, ◌^◌, min, nat_eq, if◌then◌else◌, List, [], slice_index_or, slice_set, Option}
 use Rattle.std.specs.List.{list_any}
 use Rattle.medium.specs.Medium.{CallList, read_call, write_call, with_call}

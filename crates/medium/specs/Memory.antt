@@ -1,4 +1,4 @@
--- What the fields of a medium in memory stand for.
+-- proof: what the fields of a medium in memory stand for.
 use Rattle.std.specs.Prelude.{◌^◌, ◌<◌, length}
 use Rattle.std.specs.List.{All}
 use Rattle.medium.specs.Rows.{items_of, IsRow}

@@ -1,4 +1,4 @@
--- The records of a medium in memory.
+-- claim: the records of a medium in memory.
 use Rattle.std.specs.Prelude.{◌≡◌, length, ℕ, List, [], ◌∷◌, map, Option, None, Some, Vec}
 use Rattle.std.specs.declared.alloc.Global.{Global}
 use Rattle.medium.specs.Medium.{AreWords}

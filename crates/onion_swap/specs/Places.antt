@@ -1,4 +1,4 @@
--- Owners of blocks, and which blocks of the user that is loaded have a copy.
+-- proof: owners of blocks, and which blocks of the user that is loaded have a copy.
 use Rattle.std.specs.Prelude.{ℕ, Bool, false, List, slice_index_or}
 use Rattle.plan_model.specs.Loads.{Places}
 

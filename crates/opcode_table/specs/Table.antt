@@ -1,4 +1,4 @@
--- The table of operations.
+-- claim: the table of operations.
 use Rattle.std.specs.Prelude.{ℕ, List, [], ◌∷◌, take, find, map, ◌==◌, nat_eq, codes}
 use Rattle.std.specs.List.{position_or_len}
 use Rattle.std.specs.Option.{option_map}

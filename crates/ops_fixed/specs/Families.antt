@@ -1,4 +1,4 @@
--- The families of the operations.
+-- proof: the families of the operations.
 use Rattle.std.specs.Prelude.{Bool, true, false}
 use Rattle.opcode_table.specs.declared.op.Op.{Op}
 use Rattle.opcode_table.specs.declared.op.Op.TheVariants as op

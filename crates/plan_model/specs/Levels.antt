@@ -1,4 +1,4 @@
--- Levels and queues: nine lists of users with the ticks that are left of their time.
+-- claim: levels and queues: nine lists of users with the ticks that are left of their time.
 use Rattle.std.specs.Prelude.{ℕ, zero, suc, ◌+◌, ◌-◌, ◌*◌, ◌/◌, ◌^◌, min, Bool, true, false, if◌then◌else◌, not, ◌||◌, nat_eq, nat_lt, nat_le, List, [], ◌∷◌, ◌++◌, Option, Some, None, filter, map, get_or, set, replicate}
 use Rattle.std.specs.List.{list_any}
 use Rattle.ctss_types.specs.declared.session.Waiting.{Waiting}

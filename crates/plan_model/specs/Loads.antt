@@ -1,4 +1,4 @@
--- Loads: who owns which block of core, whose blocks are kept on the drum, and what a load moves.
+-- claim: loads: who owns which block of core, whose blocks are kept on the drum, and what a load moves.
 use Rattle.std.specs.Prelude.{ℕ, zero, suc, ◌+◌, ◌*◌, Bool, true, false, if◌then◌else◌, not, ◌||◌, ◌&&◌, nat_eq, nat_lt, nat_le, List, map, replicate, take, drop, ◌++◌, slice_index_or}
 
 -- the owner of each of the 128 blocks, 0 for none, and whether a copy of a user's block is kept

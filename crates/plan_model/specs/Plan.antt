@@ -1,4 +1,4 @@
--- Whom to serve, and what of each user is where.
+-- claim: whom to serve, and what of each user is where.
 use Rattle.std.specs.Prelude.{ℕ, ◌+◌, ◌*◌, List, not, Bool}
 use Rattle.time_sharing.specs.Machine.{CutKind, Quit, Hang, Spent, End, Ending, Went, Stopped, Resized, Replaced, LoggedOut}
 use Rattle.time_sharing.specs.System.{Move}

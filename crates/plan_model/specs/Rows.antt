@@ -1,4 +1,4 @@
--- Worked rows of levels, queues and loads.
+-- claim: worked rows of levels, queues and loads.
 use Rattle.std.specs.Prelude.{◌≡◌, ℕ, zero, suc, ◌*◌, Option, Some, List, true, false}
 use Rattle.ctss_types.specs.declared.session.Waiting.{Waiting}
 use Rattle.plan_model.specs.Levels.{Levels, level_of_words, empty_levels, chosen, entered, charged, dropped, waits, woken}

@@ -1,4 +1,4 @@
--- Many ticks of a user's time.
+-- proof: many ticks of a user's time.
 use Rattle.std.specs.Prelude.{ℕ, ◌-◌, if◌then◌else◌, nat_eq, List, map}
 use Rattle.ctss_types.specs.declared.session.Waiting.{Waiting}
 use Rattle.plan_model.specs.Levels.{Levels}

@@ -1,4 +1,4 @@
--- Supervisor entries: how the arguments of a call are read, and what an answer leaves in the registers.
+-- claim: supervisor entries: how the arguments of a call are read, and what an answer leaves in the registers.
 use Rattle.std.specs.Prelude.{ℕ, ◌+◌, ◌-◌, ◌%◌, ◌^◌, Bool, true, false, ◌&&◌, nat_eq, nat_lt, nat_le, if◌then◌else◌, List, length, slice_index, codes, Option, Some, None, Ok, Err}
 use Rattle.std.specs.declared.result.Result.{Result}
 use Rattle.word36.specs.Bits.{address_of, decrement_of}

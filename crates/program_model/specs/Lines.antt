@@ -1,4 +1,4 @@
--- Lines as words of a program, six characters each.
+-- claim: lines as words of a program, six characters each.
 use Rattle.std.specs.Prelude.{ℕ, zero, suc, List, [], ◌∷◌, slice_index, slice_set, take, drop}
 use Rattle.std.specs.List.{flat_map}
 use Rattle.bcd48.specs.Words.{characters_of}

@@ -1,4 +1,4 @@
--- Worked rows of programs.
+-- claim: worked rows of programs.
 use Rattle.std.specs.Prelude.{◌≡◌, ℕ, ◌^◌, ◌*◌, ◌+◌, ◌-◌, false, List, [], ◌∷◌, ◌++◌, replicate, codes, Ok, Err, Some, None}
 use Rattle.std.specs.declared.result.Result.{Result}
 use Rattle.ctss_types.specs.Words.{name_of}

@@ -1,4 +1,4 @@
--- The blocks of core that a program's addresses reach.
+-- proof: the blocks of core that a program's addresses reach.
 use Rattle.std.specs.Prelude.{ℕ, ◌+◌, ◌*◌, ◌%◌, ◌<◌, ◌≤◌}
 
 -- so many blocks of core, from a first one on

@@ -1,4 +1,4 @@
--- The sums that the code has, over a schedule.
+-- proof: the sums that the code has, over a schedule.
 use Rattle.std.specs.Prelude.{◌≡◌, ◌≤◌, ℕ, List}
 use Rattle.ctss_types.specs.declared.history.Entry.{Entry}
 use Rattle.schedule_model.specs.Sums.{serves_in, swaps_in, dumped_in, read_in, steps_in}

@@ -1,4 +1,4 @@
--- The sums of two users' schedule.
+-- claim: the sums of two users' schedule.
 use Rattle.std.specs.Prelude.{◌≡◌, List, [], ◌∷◌}
 use Rattle.ctss_types.specs.declared.history.Cause.TheVariants as cause
 use Rattle.ctss_types.specs.declared.history.EventKind.TheVariants as kind

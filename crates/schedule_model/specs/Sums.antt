@@ -1,4 +1,4 @@
--- Sums over the entries of a schedule.
+-- claim: sums over the entries of a schedule.
 use Rattle.std.specs.Prelude.{ℕ, suc, ◌+◌, ◌-◌, List, [], ◌∷◌}
 use Rattle.ctss_types.specs.declared.history.Cause.{Cause}
 use Rattle.ctss_types.specs.declared.history.Cause.TheVariants as cause

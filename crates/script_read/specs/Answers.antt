@@ -1,4 +1,4 @@
--- What the answers of reading mean.
+-- proof: what the answers of reading mean.
 use Rattle.std.specs.Prelude.{◌≡◌, Result, Ok, Err}
 use Rattle.ctss_types.specs.declared.script.Script.{Script}
 use Rattle.text_model.specs.declared.cause.ScriptRefusal.{ScriptRefusal}

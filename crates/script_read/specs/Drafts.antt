@@ -1,4 +1,4 @@
--- The code's draft and what its answers mean.
+-- proof: the code's draft and what its answers mean.
 use Rattle.std.specs.Prelude.{◌≡◌, Result, Ok, Err}
 use Rattle.text_model.specs.declared.cause.ScriptCause.{ScriptCause}
 use Rattle.text_model.specs.Drafts.{Draft}

@@ -1,4 +1,4 @@
--- The tracks beside the last file.
+-- proof: the tracks beside the last file.
 use Rattle.std.specs.Prelude.{ℕ, List, Option, Some, None}
 use Rattle.ctss_types.specs.declared.file.OwnedFile.{OwnedFile}
 use Rattle.file_model.specs.Files.{tracks_of}

@@ -1,4 +1,4 @@
--- Shifts by products, quotients and remainders.
+-- claim: shifts by products, quotients and remainders.
 use Rattle.std.specs.Prelude.{ℕ, Bool, false, ◌+◌, ◌-◌, ◌*◌, ◌/◌, ◌%◌, ◌^◌, nat_le}
 use Rattle.word36.specs.Bits.{Acc37, is_minus, magnitude_of, word_of}
 use Rattle.arith36.specs.declared.Sum.{Sum}

@@ -1,4 +1,4 @@
--- What the fields of a case say.
+-- proof: what the fields of a case say.
 use Rattle.std.specs.Prelude.{◌≡◌, ℕ, ◌+◌, ◌<◌, List, [], drop, nat_eq, slice_index, slice_index_or}
 use Rattle.std.specs.Result.{OkIff}
 use Rattle.std.specs.declared.result.Result.{Result}

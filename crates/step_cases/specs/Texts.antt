@@ -1,4 +1,4 @@
--- How a step ended, as text.
+-- proof: how a step ended, as text.
 use Rattle.std.specs.Prelude.{◌≡◌, ℕ, ◌<◌, ◌^◌, List, ◌++◌, codes}
 use Rattle.word36.specs.Octal.{octal_digits, octal_text}
 use Rattle.cpu_step.specs.declared.Stepped.{Stepped}

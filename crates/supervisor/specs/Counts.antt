@@ -1,4 +1,4 @@
--- The drum calls of a run, counted by the loads of its schedule.
+-- claim: the drum calls of a run, counted by the loads of its schedule.
 use Rattle.std.specs.Prelude.{◌≡◌, ℕ, ◌+◌, ◌<◌, List, ◌++◌, length, Option}
 use Rattle.time_sharing.specs.System.{Entry}
 use Rattle.medium.specs.Medium.{Call, CallList}

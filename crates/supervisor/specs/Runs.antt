@@ -1,4 +1,4 @@
--- Many steps at once, between two states with what the users have in core and on the drum.
+-- proof: many steps at once, between two states with what the users have in core and on the drum.
 use Rattle.std.specs.Prelude.{◌≡◌, ℕ, ◌≤◌, true, List}
 use Rattle.user_cores.specs.Memory.{Memory}
 use Rattle.system_model.specs.Run.{Run}

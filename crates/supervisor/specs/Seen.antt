@@ -1,4 +1,4 @@
--- The state that the fields stand for, with users' blocks in these places.
+-- claim: the state that the fields stand for, with users' blocks in these places.
 use Rattle.std.specs.Prelude.{ℕ, suc, ◌≤◌, Bool, false, List, [], ◌∷◌, map, Option, Some, None}
 use Rattle.ctss_types.specs.declared.script.Account.{Account}
 use Rattle.ctss_types.specs.declared.file.OwnedFile.{OwnedFile}

@@ -1,4 +1,4 @@
--- What the consoles have shown of a run.
+-- proof: what the consoles have shown of a run.
 use Rattle.std.specs.Prelude.{◌≡◌, ℕ, true, List, map}
 use Rattle.time_sharing.specs.System.{Console}
 use Rattle.user_model.specs.User.{User}

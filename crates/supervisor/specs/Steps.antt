@@ -1,4 +1,4 @@
--- Steps of the machine of all users, between two states with what the users have in core and on the drum.
+-- claim: steps of the machine of all users, between two states with what the users have in core and on the drum.
 use Rattle.std.specs.Prelude.{◌≡◌, ◌≢◌, ℕ, suc, ◌≤◌, ◌<◌, true, false, List, [], length, map, Option, Some, None, Ok, Err}
 use Rattle.std.specs.declared.result.Result.{Result}
 use Rattle.ctss_types.specs.declared.fault.RunFault.{RunFault}

@@ -1,4 +1,4 @@
--- Each case of a step, field by field.
+-- claim: each case of a step, field by field.
 use Rattle.std.specs.Prelude.{ℕ, suc, ◌+◌, ◌-◌, Bool, true, false, if◌then◌else◌, nat_eq, List, [], ◌∷◌, ◌++◌, Option, Some, None, drop, set, get_or}
 use Rattle.time_sharing.specs.Machine.{Line, CutKind, Quit, Hang, Spent, Ending}
 use Rattle.time_sharing.specs.Rows.{machine}

@@ -1,4 +1,4 @@
--- The words of users' programs apart from the rest of the users, and both joined.
+-- proof: the words of users' programs apart from the rest of the users, and both joined.
 use Rattle.std.specs.Prelude.{ℕ, suc, ◌+◌, ◌*◌, Bool, if◌then◌else◌, nat_eq, nat_lt, List, [], ◌∷◌, ◌++◌}
 use Rattle.time_sharing.specs.Machine.{Line, Ending}
 use Rattle.time_sharing.specs.System.{Service, Console, Off, On, Password, Session, Event, Dials, Types, Quits, Hangs, Swap, Cause, max_lines, cause_of, consoles_after, service_after, service_entry, clock_entry}

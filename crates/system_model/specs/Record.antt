@@ -1,4 +1,4 @@
--- The record of a script.
+-- claim: the record of a script.
 use Rattle.std.specs.Prelude.{◌≡◌, ℕ, suc, ◌-◌, ◌<◌, ◌≤◌, nat_eq, List, [], ◌∷◌, length, map, filter, get_or}
 use Rattle.ctss_types.specs.declared.script.Script.{Script}
 use Rattle.ctss_types.specs.declared.script.Account.{Account}

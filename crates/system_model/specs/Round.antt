@@ -1,4 +1,4 @@
--- What is round the users: the queues, the loads, the logins, the common files.
+-- claim: what is round the users: the queues, the loads, the logins, the common files.
 use Rattle.std.specs.Prelude.{ℕ, suc, Bool, true, false, if◌then◌else◌, ◌&&◌, nat_eq, nat_le, List, [], ◌∷◌, Option, Some, None, bytes_eq, codes, length}
 use Rattle.ctss_types.specs.declared.script.Account.{Account}
 use Rattle.ctss_types.specs.declared.file.FileBody.{FileBody}

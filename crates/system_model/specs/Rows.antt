@@ -1,4 +1,4 @@
--- Worked rows: a script without users; one user that logs in, gives a password and logs out; and one that is refused
+-- claim: worked rows: a script without users; one user that logs in, gives a password and logs out; and one that is refused
 -- three times, types a command with a word too much after a day, and hangs up.
 use Rattle.std.specs.Prelude.{◌≡◌, ℕ, List, [], ◌∷◌, codes}
 use Rattle.ctss_types.specs.Words.{name_of}

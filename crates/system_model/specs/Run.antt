@@ -1,4 +1,4 @@
--- The machine of all users, with its accounts, closed: what contracts cite.
+-- claim: the machine of all users, with its accounts, closed: what contracts cite.
 use Rattle.std.specs.Prelude.{◌≡◌, ℕ, ◌+◌, Bool, true, false, if◌then◌else◌, nat_le, List, [], ◌∷◌, ◌++◌, Option, Some, None, drop}
 use Rattle.ctss_types.specs.declared.script.Account.{Account}
 use Rattle.ctss_types.specs.declared.file.FileBody.{FileBody}

@@ -1,4 +1,4 @@
--- What is true of each state of a run: users, consoles and ticks are in range.
+-- proof: what is true of each state of a run: users, consoles and ticks are in range.
 use Rattle.std.specs.Prelude.{◌≡◌, ℕ, ◌-◌, ◌<◌, ◌≤◌, true, List, [], length, get_or, Some}
 use Rattle.std.specs.List.{All}
 use Rattle.time_sharing.specs.System.{Timed, Service, Console, Off, Session}

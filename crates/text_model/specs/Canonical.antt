@@ -1,4 +1,4 @@
--- The one canonical text of a script: single blanks, no leading zeros, no comments, LF behind each card.
+-- claim: the one canonical text of a script: single blanks, no leading zeros, no comments, LF behind each card.
 use Rattle.std.specs.Prelude.{ℕ, suc, List, [], ◌∷◌, ◌++◌, codes}
 use Rattle.std.specs.List.{flat_map}
 use Rattle.word36.specs.Octal.{octal_text}

@@ -1,4 +1,4 @@
--- The forms of cards, by the text behind their first word.
+-- claim: the forms of cards, by the text behind their first word.
 use Rattle.std.specs.Prelude.{ℕ, zero, suc, not, List, [], ◌∷◌, Option, Some, None, bytes_eq, codes, if◌then◌else◌}
 use Rattle.std.specs.Option.{option_and_then, option_map}
 use Rattle.ctss_types.specs.Words.{word_in, behind_word}

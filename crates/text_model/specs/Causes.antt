@@ -1,4 +1,4 @@
--- The number of a cause.
+-- claim: the number of a cause.
 use Rattle.std.specs.Prelude.{ℕ}
 use Rattle.text_model.specs.declared.cause.ScriptCause.{ScriptCause}
 use Rattle.text_model.specs.declared.cause.ScriptCause.TheVariants.{NotACard, TimeFalls, UnknownNumber, OverLimit, DrumSmall, DiskSmall, NoEnd, TooLong}

@@ -1,4 +1,4 @@
--- What the cards so far say, and what one card more adds or for what cause it is refused.
+-- claim: what the cards so far say, and what one card more adds or for what cause it is refused.
 use Rattle.std.specs.Prelude.{ℕ, ◌+◌, ◌-◌, Bool, true, false, not, ◌&&◌, ◌||◌, nat_eq, nat_le, nat_lt, List, [], ◌∷◌, ◌++◌, length, get_or, Option, Some, None, Ok, Err, option_to_list, bytes_eq, codes, if◌then◌else◌}
 use Rattle.std.specs.declared.result.Result.{Result}
 use Rattle.std.specs.Option.{is_some}

@@ -1,4 +1,4 @@
--- The fields of a card: what stands between blanks.
+-- claim: the fields of a card: what stands between blanks.
 use Rattle.std.specs.Prelude.{ℕ, Bool, ◌&&◌, nat_eq, nat_le, List, [], ◌∷◌, length, Option, Some, None, if◌then◌else◌}
 use Rattle.std.specs.Option.{option_map}
 use Rattle.std.specs.List.{list_all}

@@ -1,4 +1,4 @@
--- Scripts that keep the rules of cards, and what their texts read as.
+-- claim: scripts that keep the rules of cards, and what their texts read as.
 use Rattle.std.specs.Prelude.{◌≡◌, ◌≤◌, ◌<◌, ◌+◌, ◌^◌, ℕ, Bool, true, not, ◌&&◌, nat_eq, List, [], ◌∷◌, length, sum, map, Ok}
 use Rattle.std.specs.List.Sorted.{IsNonDecreasing}
 use Rattle.std.specs.List.{All, list_any, list_all}

@@ -1,4 +1,4 @@
--- The script that is made of a number: users with a program that counts down, each of which types the same.
+-- claim: the script that is made of a number: users with a program that counts down, each of which types the same.
 use Rattle.std.specs.Prelude.{ℕ, zero, suc, ◌+◌, ◌*◌, ◌/◌, ◌%◌, ◌^◌, List, [], ◌∷◌, ◌++◌, codes}
 use Rattle.std.specs.Fmt.{decimal}
 use Rattle.ctss_types.specs.Words.{name_of}

@@ -1,4 +1,4 @@
--- Parts of lines.
+-- claim: parts of lines.
 use Rattle.std.specs.Prelude.{ℕ, ◌-◌, List, [], ◌∷◌, ◌++◌, length, replicate}
 use Rattle.std.specs.Fmt.{decimal}
 use Rattle.ctss_types.specs.Words.{text_of_name}

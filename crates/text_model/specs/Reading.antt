@@ -1,4 +1,4 @@
--- The script of bytes: its lines are cards, each adds to what the cards before it say, and the first one that is refused refuses
+-- claim: the script of bytes: its lines are cards, each adds to what the cards before it say, and the first one that is refused refuses
 -- the script.
 use Rattle.std.specs.Prelude.{◌≡◌, ◌≤◌, ℕ, suc, Bool, true, not, ◌&&◌, nat_le, List, [], ◌∷◌, length, sum, map, Option, Some, None, Ok, Err, if◌then◌else◌}
 use Rattle.std.specs.declared.result.Result.{Result}

@@ -1,4 +1,4 @@
--- Worked rows: the cards of a script, and the lines of a record's report.
+-- claim: worked rows: the cards of a script, and the lines of a record's report.
 use Rattle.std.specs.Prelude.{◌≡◌, ℕ, ◌+◌, true, List, [], ◌∷◌, ◌++◌, length, map, get_or, codes, replicate, Some, None, Ok, Err}
 use Rattle.std.specs.declared.result.Result.{Result}
 use Rattle.std.specs.List.{flat_map}

@@ -1,4 +1,4 @@
--- The summary of the run of a made script.
+-- claim: the summary of the run of a made script.
 use Rattle.std.specs.Prelude.{ℕ, List, ◌++◌, codes, length, sum, map}
 use Rattle.ctss_types.specs.declared.script.Script.{Script}
 use Rattle.ctss_types.specs.declared.history.Record.{Record}

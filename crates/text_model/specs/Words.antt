@@ -1,4 +1,4 @@
--- The words of the command line, and the texts of refusals.
+-- claim: the words of the command line, and the texts of refusals.
 use Rattle.std.specs.Prelude.{ℕ, Bool, false, nat_eq, nat_le, List, [], ◌∷◌, ◌++◌, Option, Some, None, bytes_eq, codes, if◌then◌else◌}
 use Rattle.std.specs.Option.{option_and_then}
 use Rattle.std.specs.List.{flat_map, list_any}

@@ -1,4 +1,4 @@
--- Buffers of calls.
+-- proof: buffers of calls.
 use Rattle.std.specs.Prelude.{◌≡◌, ℕ, ◌+◌, ◌≤◌, true}
 use Rattle.program_model.specs.declared.Call.{Call}
 use Rattle.program_model.specs.declared.Call.TheVariants.{ReadLine, WriteLine, GetTime, GetMemory, SetMemory, Dead, Dormant}

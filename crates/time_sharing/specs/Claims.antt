@@ -1,4 +1,4 @@
--- What the public functions of this crate claim, over any types of states, plans and files.
+-- claim: what the public functions of this crate claim, over any types of states, plans and files.
 use Rattle.std.specs.Prelude.{◌≡◌, ℕ, ◌+◌, ◌≤◌, ◌<◌, true, false, List, [], ◌∷◌, ◌++◌, nat_lt, length}
 use Rattle.time_sharing.specs.Machine.{Machine, Laws, End}
 use Rattle.time_sharing.specs.Rows.{Rows, Private, machine}

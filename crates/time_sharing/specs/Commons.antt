@@ -1,4 +1,4 @@
--- The common files, by the operations of a record alone.
+-- claim: the common files, by the operations of a record alone.
 use Rattle.std.specs.Prelude.{List, [], ◌∷◌}
 use Rattle.time_sharing.specs.Machine.{CommonOp, Reply}
 use Rattle.time_sharing.specs.System.{World, Entry, Taken, Login, Refused, Idle, Swap, Serve, Clock, Common}

@@ -1,4 +1,4 @@
--- What a record and its script say came to one user.
+-- claim: what a record and its script say came to one user.
 use Rattle.std.specs.Prelude.{ℕ, pred, ◌+◌, if◌then◌else◌, nat_eq, List, [], ◌∷◌, ◌++◌, Option, Some, None, fold}
 use Rattle.time_sharing.specs.Machine.{Quit, Hang, Spent, End, Line, Reply}
 use Rattle.time_sharing.specs.Private.{FeedItem, Open, Typed, Cut, Feed}

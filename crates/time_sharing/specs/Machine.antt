@@ -1,4 +1,4 @@
--- One user's machine, seen from outside: any states with these functions.
+-- claim: one user's machine, seen from outside: any states with these functions.
 use Rattle.std.specs.Prelude.{◌≡◌, ◌≢◌, ℕ, suc, Bool, true, List, Option}
 pub use Rattle.ctss_types.specs.declared.session.CutKind.{CutKind}
 pub use Rattle.ctss_types.specs.declared.session.CutKind.TheVariants.{Quit, Hang, Spent, End}

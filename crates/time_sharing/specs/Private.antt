@@ -1,4 +1,4 @@
--- One user's machine alone: no ticks, no queue and no other users.
+-- claim: one user's machine alone: no ticks, no queue and no other users.
 use Rattle.std.specs.Prelude.{ℕ, zero, suc, ◌-◌, Bool, true, false, List, [], ◌∷◌, Option, Some, None, is_some, fold}
 use Rattle.time_sharing.specs.Machine.{Machine, CutKind, Line, Reply, Done}
 

@@ -1,4 +1,4 @@
--- Runs of the private machine that reach a given number of own steps.
+-- claim: runs of the private machine that reach a given number of own steps.
 use Rattle.std.specs.Prelude.{◌≡◌, ℕ, zero, suc, ◌-◌, List, [], ◌∷◌, ◌++◌, Some}
 use Rattle.time_sharing.specs.Machine.{Machine, Line, Reply}
 use Rattle.time_sharing.specs.Private.{Alone, FeedItem, Open, Typed, Cut, next}

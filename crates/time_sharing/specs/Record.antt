@@ -1,4 +1,4 @@
--- Whole runs, and what isolation says of them.
+-- claim: whole runs, and what isolation says of them.
 use Rattle.std.specs.Prelude.{◌≡◌, ℕ, ◌+◌, ◌*◌, ◌-◌, ◌≤◌, Bool, true, false, nat_lt, List, [], ◌∷◌, ◌++◌, Option, Some, None, length, replicate}
 use Rattle.time_sharing.specs.Machine.{Machine}
 use Rattle.time_sharing.specs.Private.{alone, Feed}

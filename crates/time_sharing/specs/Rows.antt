@@ -1,4 +1,4 @@
--- A machine made of rows: what a step does is said over a part of the state that has no unread lines, no
+-- claim: a machine made of rows: what a step does is said over a part of the state that has no unread lines, no
 -- transcript and no counts. So a row can't break what every machine owes.
 use Rattle.std.specs.Prelude.{ℕ, suc, ◌+◌, ◌-◌, Bool, true, false, if◌then◌else◌, ◌&&◌, ◌||◌, not, List, [], ◌∷◌, ◌++◌, Option, Some, None, length}
 use Rattle.time_sharing.specs.Machine.{Machine, Item, In, Out, Quitted, Hung, CutKind, Quit, Hang, Spent, End, Ending, Went, Stopped, Resized, Replaced, LoggedOut, Line, CommonOp, Reply}

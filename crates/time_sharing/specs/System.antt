@@ -1,4 +1,4 @@
--- The machine of all users: one private state per user, a list of common files, and a plan that says whom to serve.
+-- claim: the machine of all users: one private state per user, a list of common files, and a plan that says whom to serve.
 use Rattle.std.specs.Prelude.{ℕ, zero, suc, ◌+◌, min, Bool, true, false, if◌then◌else◌, nat_eq, nat_lt, nat_le, List, [], ◌∷◌, ◌++◌, map, Option, Some, None, get_or, set}
 use Rattle.time_sharing.specs.Machine.{Machine, CutKind, Quit, Hang, Spent, End, Ending, Went, Stopped, Resized, Replaced, LoggedOut, Line, CommonOp, Reply, Done}
 pub use Rattle.ctss_types.specs.declared.history.Cause.{Cause}

@@ -1,4 +1,4 @@
--- What the consoles show: seen from the steps of the machine of all users, which it doesn't change.
+-- claim: what the consoles show: seen from the steps of the machine of all users, which it doesn't change.
 use Rattle.std.specs.Prelude.{◌≡◌, ℕ, zero, suc, List, [], ◌∷◌, ◌++◌, nat_eq, if◌then◌else◌, drop, length, codes, replicate}
 use Rattle.std.specs.List.{flat_map}
 use Rattle.time_sharing.specs.Machine.{Machine, Line, Item, In, Out, Quitted, Hung}

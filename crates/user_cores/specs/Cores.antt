@@ -1,4 +1,4 @@
--- What users' cores show, and what each call does to it.
+-- proof: what users' cores show, and what each call does to it.
 use Rattle.std.specs.Prelude.{◌≡◌, ◌≢◌, ℕ, ◌≤◌, ◌+◌, ◌*◌, Bool, true, List, length, slice_set, Option, Result, IfOk, OnErr}
 use Rattle.faults.specs.Faults.{Rose}
 use Rattle.medium.specs.Medium.{CallList}

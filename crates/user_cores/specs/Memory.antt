@@ -1,4 +1,4 @@
--- What every user's program has in core and on the drum.
+-- proof: what every user's program has in core and on the drum.
 use Rattle.std.specs.Prelude.{◌≡◌, ℕ, Bool, List, [], length, Option, Some, None}
 use Rattle.std.specs.List.{All, flat_map}
 use Rattle.plan_model.specs.Loads.{Places}

@@ -1,4 +1,4 @@
--- The drum calls of a load.
+-- proof: the drum calls of a load.
 use Rattle.std.specs.Prelude.{◌≡◌, ◌<◌, ℕ, List, length, Option}
 use Rattle.medium.specs.Medium.{Call, CallList}
 use Rattle.image_map.specs.Loads.{with_calls, cut, count_writes, count_reads}

@@ -1,4 +1,4 @@
--- Cores that are swapped with a drum: what stays true of them, and what each user has there.
+-- proof: cores that are swapped with a drum: what stays true of them, and what each user has there.
 use Rattle.std.specs.Prelude.{ℕ, ◌≤◌, ◌*◌, List, take}
 use Rattle.std.specs.Option.{is_some}
 use Rattle.image_map.specs.State.{ImageState, IsWorking, image, size, places_in}

@@ -1,4 +1,4 @@
--- What a row says of a user whose words lie apart: one statement for every supervisor entry and every command.
+-- proof: what a row says of a user whose words lie apart: one statement for every supervisor entry and every command.
 use Rattle.std.specs.Prelude.{◌≡◌, ℕ, suc, ◌-◌, Bool, true, false, not, ◌||◌, if◌then◌else◌, List, [], ◌∷◌, ◌++◌, drop, Option, Some, None}
 use Rattle.std.specs.declared.result.Result.{Result}
 use Rattle.time_sharing.specs.Machine.{Line, Item, Ending}

@@ -1,4 +1,4 @@
--- The table of commands: what a line asks for, and what each command does.
+-- claim: the table of commands: what a line asks for, and what each command does.
 use Rattle.std.specs.Prelude.{ℕ, List, [], ◌∷◌, ◌++◌, length, nat_le, codes, bytes_eq, if◌then◌else◌, Some, Ok, Err}
 use Rattle.std.specs.declared.result.Result.{Result}
 use Rattle.ctss_types.specs.declared.session.Command.{Command}

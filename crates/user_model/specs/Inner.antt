@@ -1,4 +1,4 @@
--- One user's inner state: all of a user but the unread lines, the transcript and the counts.
+-- claim: one user's inner state: all of a user but the unread lines, the transcript and the counts.
 use Rattle.std.specs.Prelude.{ℕ, ◌-◌, ◌*◌, List, [], ◌++◌, length, take, replicate, Option, None}
 use Rattle.ctss_types.specs.declared.script.Account.{Account}
 use Rattle.ctss_types.specs.declared.file.FileBody.{FileBody}

@@ -1,4 +1,4 @@
--- The steps of a program that works: what each end of an instruction and each supervisor entry does.
+-- claim: the steps of a program that works: what each end of an instruction and each supervisor entry does.
 use Rattle.std.specs.Prelude.{ℕ, ◌*◌, Bool, true, false, if◌then◌else◌, ◌||◌, nat_eq, nat_lt, List, [], ◌∷◌, ◌++◌, length, codes, Option, Some, None, Ok, Err}
 use Rattle.std.specs.declared.result.Result.{Result}
 use Rattle.time_sharing.specs.Machine.{Line, Went, Stopped, Resized}

@@ -1,4 +1,4 @@
--- The rows of a user: what the machine made of rows is made of.
+-- claim: the rows of a user: what the machine made of rows is made of.
 use Rattle.std.specs.Prelude.{ℕ, Bool, true, false, List, [], ◌∷◌, Option, Some, None, codes}
 use Rattle.ctss_types.specs.declared.script.Account.{Account}
 use Rattle.ctss_types.specs.declared.file.FileBody.{FileBody}

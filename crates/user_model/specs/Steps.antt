@@ -1,4 +1,4 @@
--- A step that was done, field by field.
+-- proof: a step that was done, field by field.
 use Rattle.std.specs.Prelude.{suc, Bool, if◌then◌else◌, not, [], ◌++◌, Option}
 use Rattle.time_sharing.specs.Machine.{Line}
 use Rattle.time_sharing.specs.Rows.{Outcome, is_logout, behind, in_line, out_all}

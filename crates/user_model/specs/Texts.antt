@@ -1,4 +1,4 @@
--- The lines that a user's steps write.
+-- claim: the lines that a user's steps write.
 use Rattle.std.specs.Prelude.{ℕ, ◌+◌, ◌/◌, ◌%◌, [], ◌∷◌, ◌++◌, codes}
 use Rattle.std.specs.Fmt.{decimal}
 use Rattle.time_sharing.specs.Machine.{Line}

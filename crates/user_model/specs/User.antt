@@ -1,4 +1,4 @@
--- One user's machine, closed: what contracts cite.
+-- claim: one user's machine, closed: what contracts cite.
 use Rattle.std.specs.Prelude.{◌≡◌, ℕ, Bool, true, List}
 use Rattle.time_sharing.specs.Machine.{Line, CutKind, Ending, Went, Stopped, Resized, Replaced, LoggedOut, Done}
 use Rattle.time_sharing.specs.Rows.{Private, machine}

@@ -1,4 +1,4 @@
--- What a turn of a user leaves, with the words of its program before and after.
+-- proof: what a turn of a user leaves, with the words of its program before and after.
 use Rattle.std.specs.Prelude.{◌≡◌, ℕ, true, false, List, None, slice_get}
 use Rattle.std.specs.declared.result.Result.{Result}
 use Rattle.program_model.specs.declared.Call.{Call}

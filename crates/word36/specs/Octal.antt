@@ -1,4 +1,4 @@
--- Octal digits as ASCII text.
+-- claim: octal digits as ASCII text.
 use Rattle.std.specs.Prelude.{ℕ, zero, suc, ◌+◌, ◌/◌, ◌%◌, List, [], ◌∷◌, ◌++◌}
 
 -- the last k octal digits of n

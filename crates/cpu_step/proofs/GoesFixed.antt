@@ -1,8 +1,8 @@
 -- No row of this group halts, but those of operations that may.
-use Rattle.std.proofs.Common.{refl, cond}
-use Rattle.std.specs.Prelude.{Bool, List, false, nat_eq, not, true, ℕ, ◌%◌, ◌*◌, ◌+◌, ◌-◌, ◌/◌, ◌^◌, ◌||◌, ◌≡◌}
+use Rattle.std.proofs.Common.{refl}
+use Rattle.std.specs.Prelude.{List, false, nat_eq, not, true, ℕ, ◌%◌, ◌+◌, ◌/◌, ◌^◌, ◌≡◌}
 use Rattle.word36.specs.Bits.{is_minus, magnitude_of, with_address, with_decrement, acc_word}
-use Rattle.arith36.specs.Arith.{sum_of, product_of, rounded, round_overflows, divided, compared}
+use Rattle.arith36.specs.Arith.{sum_of, product_of, divided, compared}
 use Rattle.arith36.specs.declared.Divide.{Divide}
 use Rattle.arith36.specs.declared.Divide.TheVariants.{Divided, Check}
 use Rattle.cpu_regs.specs.declared.regs.Regs.{Regs}
@@ -10,10 +10,10 @@ use Rattle.cpu_regs.specs.Registers.{skip, skip_if}
 use Rattle.opcode_table.specs.declared.op.Op.{Op}
 use Rattle.opcode_table.specs.declared.op.Op.TheVariants as op
 use Rattle.opcode_table.specs.declared.op.Instr.{Instr}
-use Rattle.machine_model.specs.Step.{Step, acc_address, acc_decrement, acc_of, at, entry, halt, illegal, next, outside, past, put, went, with_ac, with_pair, with_sum}
-use Rattle.machine_model.specs.Fixed.{with_left, with_tag, with_prefix, round, divide, with_sign, with_magnitude, fixed_row}
+use Rattle.machine_model.specs.Step.{acc_address, acc_decrement, acc_of, next, past, put, went, with_ac, with_pair, with_sum}
+use Rattle.machine_model.specs.Fixed.{with_left, with_tag, with_prefix, round, divide, fixed_row}
 use Rattle.cpu_step.specs.Results.{may_halt}
-use Rattle.cpu_step.proofs.Halts.{halts, at_goes, either_goes}
+use Rattle.cpu_step.proofs.Halts.{halts, at_goes}
 
 divide_goes : (d : Divide) (r : Regs) (core : List ℕ) → halts (divide d went r core) ≡ false
 divide_goes (Divided p) r core = refl

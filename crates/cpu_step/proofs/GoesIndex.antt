@@ -1,14 +1,13 @@
 -- No row of this group halts, but those of operations that may.
-use Rattle.std.proofs.Common.{refl, cond}
-use Rattle.std.specs.Prelude.{Bool, List, false, if◌then◌else◌, nat_eq, nat_lt, not, true, ℕ, ◌%◌, ◌*◌, ◌+◌, ◌-◌, ◌^◌, ◌≡◌}
-use Rattle.word36.specs.Bits.{is_minus, address_of, decrement_of, with_address, with_decrement}
-use Rattle.arith36.specs.Arith.{compared}
+use Rattle.std.proofs.Common.{refl}
+use Rattle.std.specs.Prelude.{List, false, nat_lt, ℕ, ◌-◌, ◌≡◌}
+use Rattle.word36.specs.Bits.{address_of, decrement_of, with_address, with_decrement}
 use Rattle.cpu_regs.specs.declared.regs.Regs.{Regs}
-use Rattle.cpu_regs.specs.Registers.{xr, set_xr, skip, jump, jump_if}
+use Rattle.cpu_regs.specs.Registers.{xr, set_xr, jump}
 use Rattle.opcode_table.specs.declared.op.Op.{Op}
 use Rattle.opcode_table.specs.declared.op.Op.TheVariants as op
 use Rattle.opcode_table.specs.declared.op.Instr.{Instr}
-use Rattle.machine_model.specs.Step.{Step, acc_address, acc_decrement, at, complement, entry, halt, illegal, is_greater, logic_acc, next, outside, put, went, with_ac}
+use Rattle.machine_model.specs.Step.{complement, next, put, went}
 use Rattle.machine_model.specs.Index.{index_row}
 use Rattle.cpu_step.specs.Results.{may_halt}
 use Rattle.cpu_step.proofs.Halts.{halts, at_goes, either_goes}

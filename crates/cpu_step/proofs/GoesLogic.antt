@@ -1,18 +1,17 @@
 -- No row of this group halts, but those of operations that may.
-use Rattle.std.proofs.Common.{refl, cond}
-use Rattle.std.specs.Prelude.{Bool, List, bit_and, bit_or, bit_xor, false, true, ℕ, ◌%◌, ◌*◌, ◌^◌, ◌≡◌}
+use Rattle.std.proofs.Common.{refl}
+use Rattle.std.specs.Prelude.{List, bit_and, bit_or, bit_xor, false, ℕ, ◌≡◌}
 use Rattle.word36.specs.Bits.{logical_of}
 use Rattle.arith36.specs.Arith.{logical_sum, compared_logical}
-use Rattle.shift36.specs.Shift.{acc_left, acc_right, long_left, long_right, logical_left, logical_right, turned}
 use Rattle.cpu_regs.specs.declared.regs.Regs.{Regs}
-use Rattle.cpu_regs.specs.Registers.{skip, skip_if, jump_if}
+use Rattle.cpu_regs.specs.Registers.{skip, skip_if}
 use Rattle.opcode_table.specs.declared.op.Op.{Op}
 use Rattle.opcode_table.specs.declared.op.Op.TheVariants as op
 use Rattle.opcode_table.specs.declared.op.Instr.{Instr}
-use Rattle.machine_model.specs.Step.{Step, at, entry, half_of, halt, has_ones, has_zeros, illegal, logic_acc, next, outside, past, put, went, with_ac, with_logic, with_shifted, with_sum, without}
-use Rattle.machine_model.specs.Logic.{count_of, with_si, logic_row}
+use Rattle.machine_model.specs.Step.{has_ones, has_zeros, logic_acc, next, past, put, went, with_ac, with_logic, without}
+use Rattle.machine_model.specs.Logic.{with_si, logic_row}
 use Rattle.cpu_step.specs.Results.{may_halt}
-use Rattle.cpu_step.proofs.Halts.{halts, at_goes, either_goes}
+use Rattle.cpu_step.proofs.Halts.{halts, at_goes}
 
 pub logic_goes : (o : Op) → may_halt o ≡ false → (i : Instr) (r : Regs) (core : List ℕ) (y : ℕ) → halts (logic_row o i r core y) ≡ false
 logic_goes op.Cal h i r core y = at_goes core y (λ w. next (with_ac r (logic_acc w)) core) (λ w. refl)

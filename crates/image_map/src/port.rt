@@ -61,10 +61,7 @@ impl MemoryPort for Port<'_> {
         if u32::from(address) >= BLOCK_WORDS * u32::from(self.blocks) {
             return Err(Outside);
         }
-        match Word::from_bits(self.bank.load(address)) {
-            Ok(word) => Ok(word),
-            Err(_) => unreachable!(),
-        }
+        Ok(Word::of(self.bank.load(address)))
     }
 
     fn store(&mut self, address: u16, word: Word) -> Result<(), Outside>

@@ -1,4 +1,4 @@
-use Rattle.std.proofs.Common.{◌≡◌, rules, arith, sym}
+use Rattle.std.proofs.Common.{arith}
 use Rattle.machine_model.proofs.Runs.{many_more}
 use Rattle.cpu_step.proofs.run.Goals as goal
 

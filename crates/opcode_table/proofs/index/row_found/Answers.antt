@@ -1,4 +1,4 @@
-use Rattle.std.proofs.Common.{sym, ap, ◌∙◌, ◌/◌, ◌^◌, map, slice_get}
+use Rattle.std.proofs.Common.{ap, ◌∙◌, ◌/◌, ◌^◌, map, slice_get}
 use Rattle.opcode_table.specs.Table.{row_of, ops}
 use Rattle.opcode_table.proofs.Places.{row_there, coded, grouped}
 use Rattle.opcode_table.proofs.index.row_found.Goals as goal

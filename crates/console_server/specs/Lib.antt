@@ -6,3 +6,4 @@ pub mod Stops
 pub mod History
 pub mod Writings
 pub mod Seats
+pub mod Server

@@ -1,18 +1,24 @@
 //! Consoles for new connections.
 ghost use Rattle.std.specs.Prelude.{Err, ◌≡◌, ◌<◌, ◌≤◌, IfSome, false, true, ℕ, [], List, length, get_or, Option, None, OnOk, OnErr};
 ghost use Rattle.faults.specs.Faults.{Rose};
-ghost use Rattle.console_server.specs.Given.{IsGiven};
+ghost use Rattle.console_server.specs.Given.{IsGiven, IsGivenSome};
 ghost use Rattle.console_server.specs.Readings.{DidAll};
 ghost use Rattle.console_server.specs.Turns.{Talk, free_from, put_first, talk_of, seats_with, calls_of_new, dial};
 ghost use Rattle.console_server.specs.Seats.{AreSeated, StandAll, IsNotOf, AreAccepted};
 
 use crate::book::Book;
-use crate::fault::ServeFault;
 use crate::tasks::Task;
 use console_link::{Accepted, Link};
 use console_wire::Wire;
 use ctss_types::{ConsoleNo, Event, NoMemory};
 use live_core::LiveCore;
+
+/// Why accepting ended before its end.
+#[derive(Clone, Copy, Debug, PartialEq, Eq)]
+pub(crate) enum SeatingFault {
+    Listener,
+    NoMemory,
+}
 
 /// The place of the lowest console without a connection.
 fn free_seat(seats: &[Option<Task>]) -> Option<usize>
@@ -72,13 +78,15 @@ pub(crate) fn accept_all<C: LiveCore, L: Link>(
     link: &mut L,
     seats: &mut Vec<Option<Task>>,
     tick: u64,
-) -> Result<(), ServeFault>
+) -> Result<(), SeatingFault>
     requires many { length seats.old.items ≤ 32 }
     requires seated { AreSeated (L.seen link.old).is_open seats.old.items }
     requires ready { (C.seen book.old.core).is_ended ≡ false }
     requires sound { C.Sound book.old.core }
     ensures ok { (desk : List (Option Talk)) → StandAll seats.old.items desk → OnOk result (AreAccepted C.Goes tick (C.seen book.old.core).texts desk (L.seen link.old) (L.seen link.new) book.old.core book.new.core book.old.events.items book.new.events.items seats.new.items) }
-    ensures cause { result ≡ Err ServeFault.Link → Rose (L.seen link.old).faults (L.seen link.new).faults }
+    ensures err { (desk : List (Option Talk)) → StandAll seats.old.items desk → OnErr result (IsGivenSome C.Goes book.old.core book.new.core book.old.events.items book.new.events.items) }
+    ensures listener { (L.seen link.old).faults ≤ (L.seen link.new).faults }
+    ensures cause { result ≡ Err SeatingFault.Listener → Rose (L.seen link.old).faults (L.seen link.new).faults }
     ensures seated { AreSeated (L.seen link.new).is_open seats.new.items }
     ensures many { length seats.new.items ≡ length seats.old.items }
     ensures ready { (C.seen book.new.core).is_ended ≡ false }
@@ -90,10 +98,10 @@ pub(crate) fn accept_all<C: LiveCore, L: Link>(
         match link.accept() {
             Accepted::New(id) => match seat(book, link, seats, tick, id) {
                 Ok(()) => count += 1,
-                Err(NoMemory) => return Err(ServeFault::NoMemory),
+                Err(NoMemory) => return Err(SeatingFault::NoMemory),
             },
             Accepted::NotYet => return Ok(()),
-            Accepted::Failed => return Err(ServeFault::Link),
+            Accepted::Failed => return Err(SeatingFault::Listener),
         }
     }
     Ok(())

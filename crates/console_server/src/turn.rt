@@ -1,15 +1,16 @@
 //! One turn.
-ghost use Rattle.std.specs.Prelude.{Err, ◌∷◌, ◌≡◌, ◌≤◌, ◌<◌, ◌+◌, ◌*◌, false, ℕ, [], List, length, Option, OnOk, OnErr};
+ghost use Rattle.std.specs.Prelude.{Err, ◌∷◌, ◌≡◌, ◌≤◌, ◌<◌, ◌+◌, ◌*◌, false, ℕ, [], List, length, Option, OnOk, OnErr, IfErr};
 ghost use Rattle.faults.specs.Faults.{Rose};
-ghost use Rattle.console_server.specs.Given.{IsGiven};
+ghost use Rattle.console_server.specs.Given.{IsGiven, IsGivenSome};
 ghost use Rattle.console_server.specs.Turns.{Talk, Desk, hangs};
 ghost use Rattle.console_server.specs.Seats.{AreSeated, StandAll};
 ghost use Rattle.console_server.specs.Done.{IsDone};
+ghost use Rattle.console_server.specs.Server.{IsCut, IsCause};
 
 use crate::book::Book;
 use crate::fault::ServeFault;
 use crate::hearing::hear_all;
-use crate::seating::accept_all;
+use crate::seating::{SeatingFault, accept_all};
 use crate::tasks::Task;
 use crate::writing::tell_all;
 use console_link::Link;
@@ -26,6 +27,7 @@ fn hang<C: LiveCore>(
     requires ready { (C.seen book.old.core).is_ended ≡ false }
     requires sound { C.Sound book.old.core }
     ensures ok { OnOk result (IsGiven C.Goes (hangs tick console (is_lost ∷ [])) book.old.core book.new.core book.old.events.items book.new.events.items) }
+    ensures err { OnErr result (IsGiven C.Goes [] book.old.core book.new.core book.old.events.items book.new.events.items) }
     ensures ready { (C.seen book.new.core).is_ended ≡ false }
     ensures same { C.seen book.new.core ≡ C.seen book.old.core }
     ensures sound { C.Sound book.new.core }
@@ -42,6 +44,7 @@ fn hang_all<C: LiveCore>(book: &mut Book<C>, failed: &[bool], tick: u64) -> Resu
     requires ready { (C.seen book.old.core).is_ended ≡ false }
     requires sound { C.Sound book.old.core }
     ensures ok { OnOk result (IsGiven C.Goes (hangs tick 1 failed.now) book.old.core book.new.core book.old.events.items book.new.events.items) }
+    ensures err { OnErr result (IsGivenSome C.Goes book.old.core book.new.core book.old.events.items book.new.events.items) }
     ensures ready { (C.seen book.new.core).is_ended ≡ false }
     ensures same { C.seen book.new.core ≡ C.seen book.old.core }
     ensures sound { C.Sound book.new.core }
@@ -70,6 +73,10 @@ pub(crate) fn do_turn<C: LiveCore, L: Link>(
     requires ready { (C.seen book.old.core).is_ended ≡ false }
     requires sound { C.Sound book.old.core }
     ensures done { (desk : Desk) → StandAll seats.old.items desk.seats → desk.failed ≡ failed.old.items → OnOk result (IsDone C.Goes C.seen number desk (L.seen link.old) (L.seen link.new) book.old.core book.new.core book.old.events.items book.new.events.items seats.new.items failed.new.items) }
+    ensures cut { (desk : Desk) → StandAll seats.old.items desk.seats → IfErr result (λ fault. IsCut C.Goes number fault book.old.core book.new.core book.old.events.items book.new.events.items) }
+    ensures cause { IfErr result (λ fault. IsCause fault (L.seen link.old) (L.seen link.new) (C.seen book.old.core) (C.seen book.new.core)) }
+    ensures ready { OnOk result ((C.seen book.new.core).is_ended ≡ false) }
+    ensures sound { OnOk result (C.Sound book.new.core) }
     ensures seated { AreSeated (L.seen link.new).is_open seats.new.items }
     ensures many { length seats.new.items ≡ length seats.old.items }
     ensures flags { length failed.new.items ≡ length failed.old.items }
@@ -85,7 +92,8 @@ pub(crate) fn do_turn<C: LiveCore, L: Link>(
     }
     match accept_all(book, link, seats, tick) {
         Ok(()) => {}
-        Err(fault) => return Err(fault),
+        Err(SeatingFault::Listener) => return Err(ServeFault::Link),
+        Err(SeatingFault::NoMemory) => return Err(ServeFault::NoMemory),
     }
     match hear_all(book, link, seats, tick) {
         Ok(()) => {}

@@ -37,9 +37,9 @@ pub struct LinkAt {
 
 /// Connections in memory: the peers in order, with the numbers 0, 1 and on.
 ///
-/// A read gives bytes of one piece alone. A call that is one of those that fail fails; another one that is one of those that
-/// are not ready is not; neither moves a byte or takes a peer. An open and a wait are always ready. A write takes its whole piece,
-/// and fails where there is no room for it.
+/// A read gives bytes of one piece alone. A call that is one of those that fail fails; another one that is one of those
+/// that are not ready is not; neither moves a byte or takes a peer. An open and a wait are always ready. A write takes
+/// its whole piece, and fails where there is no room for it.
 #[derive(Drop)]
 pub struct MemoryLink {
     connections: Vec<Connection>,
@@ -97,8 +97,8 @@ fn is_listed(list: &[LinkAt], call: LinkCall, number: u64) -> bool
 }
 
 impl MemoryLink {
-    /// A link to these peers, with room for so many calls and for so many bytes sent to each. Without room for calls it tells
-    /// none.
+    /// A link to these peers, with room for so many calls and for so many bytes sent to each. Without room for calls it
+    /// tells none.
     #[tactic(auto, using(crate::proofs::MemoryLaws::all_new, crate::proofs::MemoryLaws::all_peers))]
     pub fn new(
         alloc: Global,

@@ -77,7 +77,8 @@ impl<'a, C: LiveCore + Drop, L: Link> Server<'a, C, L> {
             → OnOk result (TurnIsDone C.Goes C.seen L.seen number desk (state self.old) (state self.new)) }
         ensures cut { (desk : Desk) → IsDeskOf (state self.old) desk
             → IfErr result (λ fault. TurnIsCut C.Goes number fault (state self.old) (state self.new)) }
-        ensures cause { IfErr result (λ fault. IsCause fault (L.seen (state self.old).link.now) (L.seen (state self.new).link.now)
+        ensures cause { IfErr result (λ fault. IsCause fault
+            (L.seen (state self.old).link.now) (L.seen (state self.new).link.now)
             (C.seen (state self.old).core) (C.seen (state self.new).core)) }
         ensures tables { HasTables L.seen (state self.new) }
         ensures ready { OnOk result (IsReady C.seen C.Sound (state self.new)) }
@@ -97,7 +98,8 @@ impl<'a, C: LiveCore + Drop, L: Link> Server<'a, C, L> {
         requires tables { HasTables L.seen (state self) }
         ensures core { result.0.core ≡ (state self.entry).core }
         ensures events { result.0.events ≡ (state self.entry).events }
-        ensures link { DidAll (closes (state self.entry).seats) (L.seen (state self.entry).link.now) (L.seen result.1.now) }
+        ensures link { DidAll (closes (state self.entry).seats)
+            (L.seen (state self.entry).link.now) (L.seen result.1.now) }
         ensures same { result.1.ghost_name ≡ (state self.entry).link.ghost_name }
     {
         let Server {

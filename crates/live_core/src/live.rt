@@ -6,8 +6,8 @@ use ctss_types::{ConsoleNo, NoMemory, RunFault, Timed};
 
 /// A run that is handed its events as they come, and goes on up to a limit at a time.
 ///
-/// Its calls `take` and `advance` have one meaning together, `Goes`: the run behind such calls. Reading what a console has
-/// shown changes nothing. After a fault of `advance` neither may be called again.
+/// Its calls `take` and `advance` have one meaning together, `Goes`: the run behind such calls. Reading what a console
+/// has shown changes nothing. After a fault of `advance` neither may be called again.
 pub trait LiveCore {
     /// Whether a fault ended it, what its consoles have shown, and how often its drum and disk failed.
     ghost seen: { Self → CoreSeen };

@@ -1,0 +1,3 @@
+pub mod Muted
+pub mod Cuts
+pub mod MemoryLaws

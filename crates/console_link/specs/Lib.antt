@@ -1,0 +1,4 @@
+pub mod Links
+pub mod Tallies
+pub mod Memory
+pub mod Fields

@@ -1,0 +1,4 @@
+pub mod Halves
+pub mod Cuts
+pub mod TypedLaws
+pub mod RowsComputed

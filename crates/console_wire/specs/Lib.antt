@@ -1,0 +1,5 @@
+pub mod Items
+pub mod Laws
+pub mod Rows
+pub mod Half
+pub mod Shape

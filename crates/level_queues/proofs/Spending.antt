@@ -123,9 +123,9 @@ pub row_on : (n u : ℕ) (rows now : List (List Waiting)) (i : ℕ) (d row : Lis
     → row ≡ map (less n u) (get_or now i d) → false ≡ list_any (is_user u) (get_or now i d) → (set now i row ≡ rows) × (is_in u rows ≡ is_in u (drop (i + 1) rows))
 row_on n u rows now i d row same k within is stands =
     let more : suc i ≡ i + 1 = omega arith in (
-  ap (set now i) (is ∙ spent_none n u (get_or now i d) (none_times u (get_or now i d) (sym stands))) ∙ set_same now i d within ∙ same,
-  k ∙ in_next u rows i d (subst (λ (rs : List (List Waiting)). i < length rs) same within) (subst (λ (rs : List (List Waiting)). false ≡ list_any (is_user u) (get_or rs i d)) same stands) ∙ ap (λ (m : ℕ). is_in u (drop m rows)) more,
-)
+      ap (set now i) (is ∙ spent_none n u (get_or now i d) (none_times u (get_or now i d) (sym stands))) ∙ set_same now i d within ∙ same,
+      k ∙ in_next u rows i d (subst (λ (rs : List (List Waiting)). i < length rs) same within) (subst (λ (rs : List (List Waiting)). false ≡ list_any (is_user u) (get_or rs i d)) same stands) ∙ ap (λ (m : ℕ). is_in u (drop m rows)) more,
+    )
 
 pub rows_past : (n u : ℕ) (rows now : List (List Waiting)) (i : ℕ) → now ≡ rows → is_in u rows ≡ is_in u (drop i rows) → length now ≤ i → now ≡ map (map (less n u)) rows
 rows_past n u rows now i same k past =

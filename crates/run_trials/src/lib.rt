@@ -12,6 +12,6 @@ mod modes;
 #[cfg(test)]
 mod play;
 #[cfg(test)]
-mod sessions;
-#[cfg(test)]
 mod services;
+#[cfg(test)]
+mod sessions;

@@ -5,7 +5,6 @@ ghost use Rattle.drum_slots.specs.Kept.{Serves};
 ghost use Rattle.drum_slots.specs.Slots.{slot_of};
 ghost use Rattle.drum_slots.specs.Table.{slots_of, records_of, quota_in};
 ghost use Rattle.plan_model.specs.Loads.{no_places};
-
 ghost use Rattle.image_map.specs.Image.{state, seen};
 
 use crate::cores::Cores;

@@ -10,5 +10,5 @@ returns-clause-worked g c =
     let is = c.size-blocks.ensures.value in
     let most : size s c.args.user ≤ 128 = subst (λ (n : ℕ). n ≤ 128) is c.size-blocks.ensures.most in
     let behind : drop (256 * size s c.args.user) c.turn_in.new.bank ≡ drop (256 * size s c.args.user) s.words =
-        subst (λ (n : ℕ). drop (256 * n) c.turn_in.new.bank ≡ drop (256 * n) c.bank_mut.result.now) is c.turn_in.ensures.rest ∙ ap (drop (256 * size s c.args.user)) c.bank_mut.ensures.now in
+    subst (λ (n : ℕ). drop (256 * n) c.turn_in.new.bank ≡ drop (256 * n) c.bank_mut.result.now) is c.turn_in.ensures.rest ∙ ap (drop (256 * size s c.args.user)) c.bank_mut.ensures.now in
     works_in c.args.user s c.turn_in.new.bank most c.requires.loaded c.turn_in.ensures.len behind

@@ -3,7 +3,6 @@ use Rattle.std.proofs.Common.{◌≡◌, ℕ, ◌≤◌, Bool, true, false, cond
 use Rattle.std.specs.List.{list_any, flat_map}
 use Rattle.std.proofs.lemmas.Bool.Decides.{nat_tests}
 use Rattle.faults.specs.Faults.{WhereTold}
-use Rattle.medium.specs.Medium.{CallList}
 use Rattle.ctss_io.specs.Outside.{before, after, IsAtEnd}
 use Rattle.ctss_io.specs.Whole.{ShrankBy, HasAtLeast, GrewByProperPrefix}
 use Rattle.fap_assemble.specs.declared.fault.CardFault.{CardFault}
@@ -15,6 +14,7 @@ use Rattle.text_model.specs.Words.{mode_of, fault_line, faults_text, script_refu
 use Rattle.text_model.specs.Reading.{max_bytes}
 use Rattle.ctss_top.specs.declared.outcome.Outcome.{Outcome}
 use Rattle.ctss_top.specs.Outcomes.{bare}
+use Rattle.ctss_top.specs.Devices.{DevicesSeen}
 use Rattle.ctss_top.specs.Asm.{assembled_from, IsInput, IsTooLong, IsDeckOf, AreFaultsOf, DeckIsWritten, CardsAreRefused, InputIsTooLong, IsTextOfBytes, DeckOf, FaultsOf, IsTextOfCards, OfDeck, OfFaults, OfLong, IsCutOfCards, CardsAreCutOff, statuses_by, statuses_for_cards}
 use Rattle.ctss_top.specs.Top.{OfCards, IsCutOff, statuses_of}
 
@@ -25,34 +25,34 @@ faults_joined (f ∷ fs) = ap (λ (l : List ℕ). fault_line (f.card, f.number) 
 input : (left rest : Option (List ℕ)) (bytes : List ℕ) → left ≡ before bytes rest → IsAtEnd rest → length bytes ≤ max_bytes → IsInput left rest bytes
 input left rest bytes came whole size = record { came = came; whole = whole; size = size }
 
-pub deck_written : (left rest held now : Option (List ℕ)) (o : Outcome) (bytes : List ℕ) → left ≡ before bytes rest → IsAtEnd rest → length bytes ≤ max_bytes → IsDeckOf bytes held now o → DeckIsWritten left rest held now o
-deck_written left rest held now o bytes came whole size h =
-    record { bytes = bytes; words = h.words; read = input left rest bytes came whole size; made = h.made; outcome = h.outcome; told = h.told }
+pub deck_written : (old new : DevicesSeen) (o : Outcome) (bytes : List ℕ) → old.input.left ≡ before bytes new.input.left → IsAtEnd new.input.left → length bytes ≤ max_bytes → IsDeckOf bytes old.output.held new.output.held o → DeckIsWritten old new o
+deck_written old new o bytes came whole size h =
+    record { bytes = bytes; words = h.words; read = input old.input.left new.input.left bytes came whole size; made = h.made; outcome = h.outcome; written = h.written }
 
-pub cards_refused : (left rest held now : Option (List ℕ)) (o : Outcome) (bytes : List ℕ) → left ≡ before bytes rest → IsAtEnd rest → length bytes ≤ max_bytes → AreFaultsOf bytes held now o → CardsAreRefused left rest held now o
-cards_refused left rest held now o bytes came whole size h =
-    record { bytes = bytes; faults = h.faults; read = input left rest bytes came whole size; made = h.made; outcome = h.outcome; told = h.told }
+pub cards_refused : (old new : DevicesSeen) (o : Outcome) (bytes : List ℕ) → old.input.left ≡ before bytes new.input.left → IsAtEnd new.input.left → length bytes ≤ max_bytes → AreFaultsOf bytes old.output.held new.output.held o → CardsAreRefused old new o
+cards_refused old new o bytes came whole size h =
+    record { bytes = bytes; faults = h.faults; read = input old.input.left new.input.left bytes came whole size; made = h.made; outcome = h.outcome; written = h.written }
 
 long : (left rest : Option (List ℕ)) (gone : ShrankBy 4194305 left rest) → IsTooLong left rest gone.0
 long left rest gone = record { came = gone.2; size = omega (arith, gone.1) }
 
-pub input_long : (left rest held now : Option (List ℕ)) (o : Outcome) → ShrankBy 4194305 left rest → o ≡ bare 2 0 8 → now ≡ after held (script_refused 0 8) → InputIsTooLong left rest held now o
-input_long left rest held now o gone is told = record { bytes = gone.0; read = long left rest gone; outcome = is; told = told }
+pub input_long : (old new : DevicesSeen) (o : Outcome) → ShrankBy 4194305 old.input.left new.input.left → o ≡ bare 2 0 8 → new.output.held ≡ after old.output.held (script_refused 0 8) → InputIsTooLong old new o
+input_long old new o gone is written = record { bytes = gone.0; read = long old.input.left new.input.left gone; outcome = is; written = written }
 
-pub cut_of_long : (left rest held now : Option (List ℕ)) → ShrankBy 4194305 left rest → GrewByProperPrefix held (script_refused 0 8) now → CardsAreCutOff left rest held now
-cut_of_long left rest held now gone part = record { text = script_refused 0 8; said = OfLong gone.0 (long left rest gone) refl; part = part }
+pub cut_of_long : (old new : DevicesSeen) → ShrankBy 4194305 old.input.left new.input.left → GrewByProperPrefix old.output.held (script_refused 0 8) new.output.held → CardsAreCutOff old new
+cut_of_long old new gone part = record { text = script_refused 0 8; said = OfLong gone.0 (long old.input.left new.input.left gone) refl; part = part }
 
 said_of : (left rest : Option (List ℕ)) (bytes text : List ℕ) → IsInput left rest bytes → IsTextOfBytes bytes text → IsTextOfCards left rest text
 said_of left rest bytes text read (DeckOf words made is) = OfDeck bytes words read made is
 said_of left rest bytes text read (FaultsOf faults made is) = OfFaults bytes faults read made is
 
-pub cut_of_cards : (left rest held now : Option (List ℕ)) (bytes : List ℕ) → left ≡ before bytes rest → IsAtEnd rest → length bytes ≤ max_bytes → IsCutOfCards bytes held now → CardsAreCutOff left rest held now
-cut_of_cards left rest held now bytes came whole size h =
-    record { text = h.text; said = said_of left rest bytes h.text (input left rest bytes came whole size) h.said; part = h.part }
+pub cut_of_cards : (old new : DevicesSeen) (bytes : List ℕ) → old.input.left ≡ before bytes new.input.left → IsAtEnd new.input.left → length bytes ≤ max_bytes → IsCutOfCards bytes old.output.held new.output.held → CardsAreCutOff old new
+cut_of_cards old new bytes came whole size h =
+    record { text = h.text; said = said_of old.input.left new.input.left bytes h.text (input old.input.left new.input.left bytes came whole size) h.said; part = h.part }
 
 -- for the words that ask for an assembly
-pub cut_by_words : (tells : Bool) (words : List (List ℕ)) (left rest held now : Option (List ℕ)) (was has : Option CallList) (o : Outcome) → mode_of words ≡ Some Asm → o ≡ bare 4 0 0 → CardsAreCutOff left rest held now → IsCutOff tells words left rest held now was has o
-cut_by_words tells words left rest held now was has o asked is h =
+pub cut_by_words : (words : List (List ℕ)) (old new : DevicesSeen) (o : Outcome) → mode_of words ≡ Some Asm → o ≡ bare 4 0 0 → CardsAreCutOff old new → IsCutOff words old new o
+cut_by_words words old new o asked is h =
     record {
       text = h.text;
       said = OfCards asked (ap (λ (x : Outcome). x.run) is) h.said;

@@ -145,6 +145,7 @@ played r limit old new quotas words words' places places' was now told part rose
         record {
           at = s.at;
           part = subst (λ (x : Run). AfterSteps limit x s.at) start s.part;
+          early = s.early;
           load = s.load;
           shown = λ j. record { entries = s.shown.entries j; transcripts = s.shown.transcripts j; files = []; common = []; clock = s.shown.clock j };
           counted = subst (λ (x : Run). IsCountedToLoad x.system.entries new.entries was now (calls_to_load s.load.due.user s.at)) start s.counted;
@@ -226,6 +227,7 @@ stopped_is script new rec was now is s =
     record {
       at = s.at;
       part = s.part;
+      early = s.early;
       load = s.load;
       shown = is ∙ s.shown;
       counted =

@@ -5,7 +5,6 @@ use Rattle.std.specs.declared.result.Result.{Result}
 use Rattle.std.proofs.lemmas.Bool.Decides.{nat_tests}
 use Rattle.faults.specs.Faults.{WhereTold}
 use Rattle.ctss_types.specs.declared.script.Script.{Script}
-use Rattle.medium.specs.Medium.{CallList}
 use Rattle.ctss_io.specs.Outside.{before, after, IsAtEnd}
 use Rattle.ctss_io.specs.Whole.{ShrankBy, HasAtLeast, GrewByProperPrefix}
 use Rattle.text_model.specs.declared.mode.Mode.{Mode}
@@ -21,9 +20,10 @@ use Rattle.system_model.proofs.AloneLaws.{users_are_alone}
 use Rattle.supervisor.specs.Counts.{IsCounted}
 use Rattle.ctss_top.specs.declared.outcome.Outcome.{Outcome}
 use Rattle.ctss_top.specs.Outcomes.{bare}
+use Rattle.ctss_top.specs.Devices.{DevicesSeen}
 use Rattle.ctss_top.specs.Played.{IsStopped}
 use Rattle.ctss_top.specs.Modes.{runs_script, reads_script, Comes, IsRefused, text_for}
-use Rattle.ctss_top.specs.Top.{IsRun, RunIsStopped, ScriptIsRefused, OfRefusal, OfRun, IsCutOff, statuses_for}
+use Rattle.ctss_top.specs.Top.{IsRun, RunIsStopped, ScriptIsRefused, OfRefusal, OfRun, IsCutOff, IsSilent, statuses_for}
 
 -- a list with one more behind its first
 one_more_said : (a n rest : Bool) → (a || rest) ≡ true → (a || (n || rest)) ≡ true
@@ -52,44 +52,45 @@ long_read : (left rest : Option (List ℕ)) (bytes : List ℕ) → length bytes 
 long_read left rest bytes size came =
     record { came = came; whole = λ h. absurd (omega (arith, size, h)); refused = long_is_refused bytes (omega (arith, size)) }
 
-pub refused_long : (left rest held now : Option (List ℕ)) (o : Outcome) → ShrankBy 4194305 left rest → o ≡ bare 2 0 8 → now ≡ after held (script_refused 0 8) → ScriptIsRefused left rest held now o
-refused_long left rest held now o gone is told =
-    record { bytes = gone.0; refusal = too_long; read = long_read left rest gone.0 gone.1 gone.2; outcome = is; told = told }
+pub refused_long : (old new : DevicesSeen) (o : Outcome) → ShrankBy 4194305 old.input.left new.input.left → o ≡ bare 2 0 8 → new.output.held ≡ after old.output.held (script_refused 0 8) → new.drum ≡ old.drum → ScriptIsRefused old new o
+refused_long old new o gone is written drum =
+    record { bytes = gone.0; refusal = too_long; read = long_read old.input.left new.input.left gone.0 gone.1 gone.2; outcome = is; written = written; drum = drum }
 
-pub refused_short : (left rest held now : Option (List ℕ)) (o : Outcome) (bytes : List ℕ) (refusal : ScriptRefusal) (number : ℕ) → left ≡ before bytes rest → IsAtEnd rest → script_of bytes ≡ Err refusal
-    → number ≡ cause_number refusal.cause → o ≡ bare 2 refusal.card number → now ≡ after held (script_refused refusal.card number) → ScriptIsRefused left rest held now o
-refused_short left rest held now o bytes refusal number came whole refused why is told =
+pub refused_short : (old new : DevicesSeen) (o : Outcome) (bytes : List ℕ) (refusal : ScriptRefusal) (number : ℕ) → old.input.left ≡ before bytes new.input.left → IsAtEnd new.input.left → script_of bytes ≡ Err refusal
+    → number ≡ cause_number refusal.cause → o ≡ bare 2 refusal.card number → new.output.held ≡ after old.output.held (script_refused refusal.card number) → new.drum ≡ old.drum → ScriptIsRefused old new o
+refused_short old new o bytes refusal number came whole refused why is written drum =
     record {
       bytes = bytes;
       refusal = refusal;
       read = record { came = came; whole = λ h. whole; refused = refused };
       outcome = is ∙ ap (bare 2 refusal.card) why;
-      told = told ∙ ap (λ (n : ℕ). after held (script_refused refusal.card n)) why;
+      written = written ∙ ap (λ (n : ℕ). after old.output.held (script_refused refusal.card n)) why;
+      drum = drum;
     }
 
 -- a refusal that was cut off
-cut_refusal : (tells : Bool) (words : List (List ℕ)) (mode : Mode) → mode_of words ≡ Some mode → reads_script mode ≡ true → (left rest held now : Option (List ℕ)) (was has : Option CallList) (o : Outcome) (bytes : List ℕ) (refusal : ScriptRefusal)
-    → IsRefused left rest bytes refusal → o ≡ bare 4 0 0 → GrewByProperPrefix held (script_refused refusal.card (cause_number refusal.cause)) now → IsCutOff tells words left rest held now was has o
-cut_refusal tells words mode asked reads left rest held now was has o bytes refusal read is part =
+cut_refusal : (words : List (List ℕ)) (mode : Mode) → mode_of words ≡ Some mode → reads_script mode ≡ true → (old new : DevicesSeen) (o : Outcome) (bytes : List ℕ) (refusal : ScriptRefusal)
+    → IsRefused old.input.left new.input.left bytes refusal → o ≡ bare 4 0 0 → GrewByProperPrefix old.output.held (script_refused refusal.card (cause_number refusal.cause)) new.output.held → new.drum ≡ old.drum → IsCutOff words old new o
+cut_refusal words mode asked reads old new o bytes refusal read is part drum =
     record {
       text = script_refused refusal.card (cause_number refusal.cause);
-      said = OfRefusal mode asked reads bytes refusal read (ap (λ (x : Outcome). x.run) is) refl;
+      said = OfRefusal mode asked reads bytes refusal read drum (ap (λ (x : Outcome). x.run) is) refl;
       part = part;
       card = ap (λ (x : Outcome). x.card) is;
       cause = ap (λ (x : Outcome). x.cause) is;
     }
 
-pub cut_long : (tells : Bool) (words : List (List ℕ)) (mode : Mode) → mode_of words ≡ Some mode → reads_script mode ≡ true → (left rest held now : Option (List ℕ)) (was has : Option CallList) (o : Outcome)
-    → ShrankBy 4194305 left rest → o ≡ bare 4 0 0 → GrewByProperPrefix held (script_refused 0 8) now → IsCutOff tells words left rest held now was has o
-cut_long tells words mode asked reads left rest held now was has o gone is part =
-    cut_refusal tells words mode asked reads left rest held now was has o gone.0 too_long (long_read left rest gone.0 gone.1 gone.2) is part
+pub cut_long : (words : List (List ℕ)) (mode : Mode) → mode_of words ≡ Some mode → reads_script mode ≡ true → (old new : DevicesSeen) (o : Outcome)
+    → ShrankBy 4194305 old.input.left new.input.left → o ≡ bare 4 0 0 → GrewByProperPrefix old.output.held (script_refused 0 8) new.output.held → new.drum ≡ old.drum → IsCutOff words old new o
+cut_long words mode asked reads old new o gone is part drum =
+    cut_refusal words mode asked reads old new o gone.0 too_long (long_read old.input.left new.input.left gone.0 gone.1 gone.2) is part drum
 
-pub cut_short : (tells : Bool) (words : List (List ℕ)) (mode : Mode) → mode_of words ≡ Some mode → reads_script mode ≡ true → (left rest held now : Option (List ℕ)) (was has : Option CallList) (o : Outcome) (bytes : List ℕ) (refusal : ScriptRefusal) (number : ℕ)
-    → left ≡ before bytes rest → IsAtEnd rest → script_of bytes ≡ Err refusal → number ≡ cause_number refusal.cause → o ≡ bare 4 0 0 → GrewByProperPrefix held (script_refused refusal.card number) now
-    → IsCutOff tells words left rest held now was has o
-cut_short tells words mode asked reads left rest held now was has o bytes refusal number came whole refused why is part =
-    cut_refusal tells words mode asked reads left rest held now was has o bytes refusal (record { came = came; whole = λ h. whole; refused = refused }) is
-    (subst (λ (n : ℕ). GrewByProperPrefix held (script_refused refusal.card n) now) why part)
+pub cut_short : (words : List (List ℕ)) (mode : Mode) → mode_of words ≡ Some mode → reads_script mode ≡ true → (old new : DevicesSeen) (o : Outcome) (bytes : List ℕ) (refusal : ScriptRefusal) (number : ℕ)
+    → old.input.left ≡ before bytes new.input.left → IsAtEnd new.input.left → script_of bytes ≡ Err refusal → number ≡ cause_number refusal.cause → o ≡ bare 4 0 0 → GrewByProperPrefix old.output.held (script_refused refusal.card number) new.output.held → new.drum ≡ old.drum
+    → IsCutOff words old new o
+cut_short words mode asked reads old new o bytes refusal number came whole refused why is part drum =
+    cut_refusal words mode asked reads old new o bytes refusal (record { came = came; whole = λ h. whole; refused = refused }) is
+    (subst (λ (n : ℕ). GrewByProperPrefix old.output.held (script_refused refusal.card n) new.output.held) why part) drum
 
 -- the script of bytes that came, in a mode that reads it
 pub comes_read : (mode : Mode) → reads_script mode ≡ true → (left rest : Option (List ℕ)) (bytes : List ℕ) (script : Script) → left ≡ before bytes rest → IsAtEnd rest → script_of bytes ≡ Ok script → Comes mode left rest script
@@ -105,13 +106,13 @@ reads_runs Dump reads = refl
 reads_runs (Load n) reads = refl
 reads_runs Asm reads = reads
 
-pub is_run : (mode : Mode) (tells : Bool) (left rest held now : Option (List ℕ)) (was has : Option CallList) (o : Outcome) (script : Script) → Comes mode left rest script
-    → (tells ≡ true → o.run ≡ record_of script) → IsCounted [] o.run.entries was has → (o.card ≡ 0) × (o.cause ≡ 0) → now ≡ after held (text_for mode script o.run) → IsRun mode tells left rest held now was has o
-is_run mode tells left rest held now was has o script comes run counted numbers told =
+pub is_run : (mode : Mode) (old new : DevicesSeen) (o : Outcome) (script : Script) → Comes mode old.input.left new.input.left script
+    → (old.drum.tells ≡ true → o.run ≡ record_of script) → IsCounted [] o.run.entries old.drum.calls new.drum.calls → (o.card ≡ 0) × (o.cause ≡ 0) → new.output.held ≡ after old.output.held (text_for mode script o.run) → IsRun mode old new o
+is_run mode old new o script comes run counted numbers written =
     record {
       script = script;
       comes = comes;
-      told = told;
+      written = written;
       run = run;
       alone = λ t. subst (EachIsAlone script) (sym (run t)) (users_are_alone script);
       counted = counted;
@@ -119,9 +120,9 @@ is_run mode tells left rest held now was has o script comes run counted numbers 
       cause = numbers.1;
     }
 
-pub cut_run : (tells : Bool) (words : List (List ℕ)) (mode : Mode) → mode_of words ≡ Some mode → (left rest held now : Option (List ℕ)) (was has : Option CallList) (o : Outcome) (script : Script) → Comes mode left rest script
-    → (tells ≡ true → o.run ≡ record_of script) → IsCounted [] o.run.entries was has → (o.card ≡ 0) × (o.cause ≡ 0) → GrewByProperPrefix held (text_for mode script o.run) now → IsCutOff tells words left rest held now was has o
-cut_run tells words mode asked left rest held now was has o script comes run counted numbers part =
+pub cut_run : (words : List (List ℕ)) (mode : Mode) → mode_of words ≡ Some mode → (old new : DevicesSeen) (o : Outcome) (script : Script) → Comes mode old.input.left new.input.left script
+    → (old.drum.tells ≡ true → o.run ≡ record_of script) → IsCounted [] o.run.entries old.drum.calls new.drum.calls → (o.card ≡ 0) × (o.cause ≡ 0) → GrewByProperPrefix old.output.held (text_for mode script o.run) new.output.held → IsCutOff words old new o
+cut_run words mode asked old new o script comes run counted numbers part =
     record {
       text = text_for mode script o.run;
       said = OfRun mode asked script comes run counted refl;
@@ -130,9 +131,9 @@ cut_run tells words mode asked left rest held now was has o script comes run cou
       cause = numbers.1;
     }
 
-pub is_stopped : (words : List (List ℕ)) (mode : Mode) (tells : Bool) (left rest held now : Option (List ℕ)) (was has : Option CallList) (o : Outcome) (script : Script) → mode_of words ≡ Some mode → Comes mode left rest script
-    → now ≡ held → (tells ≡ true → IsStopped script o.run was has) → (o.card ≡ 0) × (o.cause ≡ 0) → RunIsStopped words tells left rest held now was has o
-is_stopped words mode tells left rest held now was has o script asked comes silent stopped numbers =
+pub is_stopped : (words : List (List ℕ)) (mode : Mode) (old new : DevicesSeen) (o : Outcome) (script : Script) → mode_of words ≡ Some mode → Comes mode old.input.left new.input.left script
+    → new.output.held ≡ old.output.held → (old.drum.tells ≡ true → IsStopped script o.run old.drum.calls new.drum.calls) → (o.card ≡ 0) × (o.cause ≡ 0) → RunIsStopped words old new o
+is_stopped words mode old new o script asked comes silent stopped numbers =
     record {
       mode = mode;
       asked = asked;
@@ -143,6 +144,9 @@ is_stopped words mode tells left rest held now was has o script asked comes sile
       card = numbers.0;
       cause = numbers.1;
     }
+
+pub silent_by : (status n : ℕ) (old new : DevicesSeen) (o : Outcome) → status ≡ n → IsSilent n old new o → IsSilent status old new o
+silent_by status n old new o is h = subst (λ (k : ℕ). IsSilent k old new o) (sym is) h
 
 -- a script that is made of a number comes without reading
 pub comes_made : (n : ℕ) (left : Option (List ℕ)) (script : Script) → script ≡ made_script n → Comes (Load n) left left script

@@ -9,6 +9,7 @@ use Rattle.text_model.specs.Reading.{max_bytes}
 use Rattle.fap_model.specs.Decks.{Assembled, deck, faulty, assembled}
 use Rattle.ctss_top.specs.declared.outcome.Outcome.{Outcome}
 use Rattle.ctss_top.specs.Outcomes.{bare}
+use Rattle.ctss_top.specs.Devices.{DevicesSeen}
 
 -- what the cards of a text make
 abbrev pub assembled_from : List ℕ → Assembled
@@ -25,41 +26,44 @@ pub record IsTooLong (left rest : Option (List ℕ)) (bytes : List ℕ) : Type 0
   pub came : left ≡ before bytes rest
   pub size : max_bytes < length bytes
 
--- the deck of the cards that came has come to the sink, as O cards
-pub record DeckIsWritten (left rest held now : Option (List ℕ)) (result : Outcome) : Type 0 where
+-- the deck of the cards that came has come to the output, as O cards
+pub record DeckIsWritten (old new : DevicesSeen) (result : Outcome) : Type 0 where
   pub bytes : List ℕ
   pub words : List ℕ
-  pub read : IsInput left rest bytes
+  pub read : IsInput old.input.left new.input.left bytes
   pub made : assembled_from bytes ≡ deck words
   pub outcome : result ≡ bare 0 0 0
-  pub told : now ≡ after held (word_cards words)
+  pub written : new.output.held ≡ after old.output.held (word_cards words)
 
--- the cards that came are at fault, and a line for each has come to the sink
-pub record CardsAreRefused (left rest held now : Option (List ℕ)) (result : Outcome) : Type 0 where
+-- the cards that came are at fault, and a line for each has come to the output
+pub record CardsAreRefused (old new : DevicesSeen) (result : Outcome) : Type 0 where
   pub bytes : List ℕ
   pub faults : List (ℕ × ℕ)
-  pub read : IsInput left rest bytes
+  pub read : IsInput old.input.left new.input.left bytes
   pub made : assembled_from bytes ≡ faulty faults
   pub outcome : result ≡ bare 9 0 0
-  pub told : now ≡ after held (faults_text faults)
+  pub written : new.output.held ≡ after old.output.held (faults_text faults)
 
-pub record InputIsTooLong (left rest held now : Option (List ℕ)) (result : Outcome) : Type 0 where
+-- too many bytes came, and so it was written
+pub record InputIsTooLong (old new : DevicesSeen) (result : Outcome) : Type 0 where
   pub bytes : List ℕ
-  pub read : IsTooLong left rest bytes
+  pub read : IsTooLong old.input.left new.input.left bytes
   pub outcome : result ≡ bare 2 0 8
-  pub told : now ≡ after held (script_refused 0 8)
+  pub written : new.output.held ≡ after old.output.held (script_refused 0 8)
 
 -- a text that was to be written
 pub data IsTextOfCards (left rest : Option (List ℕ)) (text : List ℕ) : Type 0 where
-  OfDeck : (bytes words : List ℕ) → IsInput left rest bytes → assembled_from bytes ≡ deck words → text ≡ word_cards words → IsTextOfCards left rest text
-  OfFaults : (bytes : List ℕ) (faults : List (ℕ × ℕ)) → IsInput left rest bytes → assembled_from bytes ≡ faulty faults → text ≡ faults_text faults → IsTextOfCards left rest text
+  OfDeck : (bytes words : List ℕ) → IsInput left rest bytes → assembled_from bytes ≡ deck words → text ≡ word_cards words
+    → IsTextOfCards left rest text
+  OfFaults : (bytes : List ℕ) (faults : List (ℕ × ℕ)) → IsInput left rest bytes → assembled_from bytes ≡ faulty faults
+    → text ≡ faults_text faults → IsTextOfCards left rest text
   OfLong : (bytes : List ℕ) → IsTooLong left rest bytes → text ≡ script_refused 0 8 → IsTextOfCards left rest text
 
--- the sink failed, and holds a part of the text only
-pub record CardsAreCutOff (left rest held now : Option (List ℕ)) : Type 0 where
+-- the output failed, and holds a part of the text only
+pub record CardsAreCutOff (old new : DevicesSeen) : Type 0 where
   pub text : List ℕ
-  pub said : IsTextOfCards left rest text
-  pub part : GrewByProperPrefix held text now
+  pub said : IsTextOfCards old.input.left new.input.left text
+  pub part : GrewByProperPrefix old.output.held text new.output.held
 
 -- what is written where the bytes are known
 
@@ -67,13 +71,13 @@ pub record IsDeckOf (bytes : List ℕ) (held now : Option (List ℕ)) (result : 
   pub words : List ℕ
   pub made : assembled_from bytes ≡ deck words
   pub outcome : result ≡ bare 0 0 0
-  pub told : now ≡ after held (word_cards words)
+  pub written : now ≡ after held (word_cards words)
 
 pub record AreFaultsOf (bytes : List ℕ) (held now : Option (List ℕ)) (result : Outcome) : Type 0 where
   pub faults : List (ℕ × ℕ)
   pub made : assembled_from bytes ≡ faulty faults
   pub outcome : result ≡ bare 9 0 0
-  pub told : now ≡ after held (faults_text faults)
+  pub written : now ≡ after held (faults_text faults)
 
 pub data IsTextOfBytes (bytes text : List ℕ) : Type 0 where
   DeckOf : (words : List ℕ) → assembled_from bytes ≡ deck words → text ≡ word_cards words → IsTextOfBytes bytes text

@@ -1,4 +1,5 @@
 pub mod Outcomes
+pub mod Devices
 pub mod Played
 pub mod Modes
 pub mod Asm

@@ -1,5 +1,6 @@
 -- claim: outcomes that need no record.
-use Rattle.std.specs.Prelude.{ℕ, []}
+use Rattle.std.specs.Prelude.{◌≡◌, ℕ, true, nat_eq, List, []}
+use Rattle.std.specs.List.{list_any}
 use Rattle.ctss_types.specs.declared.history.Record.{Record}
 use Rattle.ctss_top.specs.declared.outcome.Outcome.{Outcome}
 
@@ -11,3 +12,6 @@ bare status card cause = record { status = status; card = card; cause = cause; r
 
 abbrev pub cut_off : Outcome → Outcome
 cut_off o = record { status = 4; card = 0; cause = 0; run = o.run }
+
+abbrev pub IsOneOf : ℕ → List ℕ → Type 0
+IsOneOf status statuses = list_any (nat_eq status) statuses ≡ true

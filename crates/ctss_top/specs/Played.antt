@@ -1,5 +1,5 @@
 -- claim: how the run of a script ends.
-use Rattle.std.specs.Prelude.{◌≡◌, ℕ, List, [], ◌∷◌, map, Option}
+use Rattle.std.specs.Prelude.{◌≡◌, ℕ, ◌<◌, List, [], ◌∷◌, map, Option}
 use Rattle.std.specs.List.{All}
 use Rattle.ctss_types.specs.declared.script.Script.{Script}
 use Rattle.ctss_types.specs.declared.history.Record.{Record}
@@ -16,11 +16,12 @@ use Rattle.supervisor.specs.Steps.{LoadIsNext}
 use Rattle.ctss_top.specs.declared.record.Played.{Played}
 use Rattle.ctss_top.specs.declared.record.Played.TheVariants.{Done, Stopped}
 
--- A record of some whole steps, behind which blocks of a user are to be brought into core. The drum's calls are those of the
--- loads so far and, where it tells them, a beginning of that next load's, of which the last one failed.
+-- A record of some whole steps, short of the script's end, behind which blocks of a user are to be brought into core. The drum's
+-- calls are those of the loads so far and, where it tells them, a beginning of that next load's, of which the last one failed.
 pub record IsStopped (script : Script) (rec : Record) (was now : Option CallList) : Type 0 where
   pub at : Run
   pub part : AfterSteps script.end (start_of script) at
+  pub early : at.system.clock < script.end
   pub load : LoadIsNext at
   pub shown : rec ≡ record_so_far at
   pub counted : IsCountedToLoad [] rec.entries was now (calls_to_load load.due.user at)
@@ -53,6 +54,7 @@ Reaches limit start now = (places : Places) → record_from (ended (run_with pla
 pub record Stops (limit : ℕ) (start : Run) (new : Bare) (was now : Option CallList) : Type 0 where
   pub at : Run
   pub part : AfterSteps limit start at
+  pub early : at.system.clock < limit
   pub load : LoadIsNext at
   pub shown : record_so_far (run_with no_places new) ≡ record_so_far at
   pub counted : IsCountedToLoad start.system.entries new.entries was now (calls_to_load load.due.user at)

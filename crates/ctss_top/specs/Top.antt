@@ -1,9 +1,9 @@
 -- claim: what the answers of the top call mean.
-use Rattle.std.specs.Prelude.{◌≡◌, ℕ, Bool, true, List, [], ◌∷◌, Option, Some, None, Ok, Err}
+use Rattle.std.specs.Prelude.{◌≡◌, ℕ, Bool, true, false, List, [], ◌∷◌, Option, Some, None, Ok, Err}
 use Rattle.std.specs.declared.result.Result.{Result}
 use Rattle.ctss_types.specs.declared.script.Script.{Script}
 use Rattle.ctss_types.specs.declared.history.Record.{Record}
-use Rattle.medium.specs.Medium.{CallList}
+use Rattle.faults.specs.Faults.{Rose, WhereTold}
 use Rattle.ctss_io.specs.Outside.{after}
 use Rattle.ctss_io.specs.Whole.{GrewByProperPrefix}
 use Rattle.text_model.specs.declared.mode.Mode.{Mode}
@@ -15,69 +15,100 @@ use Rattle.text_model.specs.Reading.{script_of}
 use Rattle.system_model.specs.Record.{record_of, EachIsAlone}
 use Rattle.supervisor.specs.Counts.{IsCounted}
 use Rattle.ctss_top.specs.declared.outcome.Outcome.{Outcome}
-use Rattle.ctss_top.specs.Outcomes.{empty_record, bare}
+use Rattle.ctss_top.specs.Outcomes.{empty_record, bare, IsOneOf}
+use Rattle.ctss_top.specs.Devices.{DevicesSeen}
 use Rattle.ctss_top.specs.Played.{IsStopped}
-use Rattle.ctss_top.specs.Modes.{Comes, IsRefused, text_for, reads_script}
-use Rattle.ctss_top.specs.Asm.{IsTextOfCards, statuses_for_cards}
+use Rattle.ctss_top.specs.Modes.{Comes, IsRefused, text_for, reads_script, runs_script}
+use Rattle.ctss_top.specs.Asm.{IsTextOfCards, DeckIsWritten, CardsAreRefused, InputIsTooLong, statuses_for_cards}
 
 -- The headline. The script is the one that the mode runs: that of all bytes that came, or a made one. The text of the run has come
--- to the sink. Where the drum tells its records, the run is the script's one record, and each account's transcript and files
+-- to the output. Where the drum tells its records, the run is the script's one record, and each account's transcript and files
 -- are those of the user's machine alone. Where it tells its calls, they are just those of the run's loads.
-pub record IsRun (mode : Mode) (tells : Bool) (left rest held now : Option (List ℕ)) (was has : Option CallList) (result : Outcome) : Type 0 where
+pub record IsRun (mode : Mode) (old new : DevicesSeen) (result : Outcome) : Type 0 where
   pub script : Script
-  pub comes : Comes mode left rest script
-  pub told : now ≡ after held (text_for mode script result.run)
-  pub run : tells ≡ true → result.run ≡ record_of script
-  pub alone : tells ≡ true → EachIsAlone script result.run
-  pub counted : IsCounted [] result.run.entries was has
+  pub comes : Comes mode old.input.left new.input.left script
+  pub written : new.output.held ≡ after old.output.held (text_for mode script result.run)
+  pub run : old.drum.tells ≡ true → result.run ≡ record_of script
+  pub alone : old.drum.tells ≡ true → EachIsAlone script result.run
+  pub counted : IsCounted [] result.run.entries old.drum.calls new.drum.calls
   pub card : result.card ≡ 0
   pub cause : result.cause ≡ 0
 
 -- The drum failed, and nothing was written. Where the drum tells its records, the run is the record of some whole steps, behind
 -- which a user is to be brought into core; where it tells its calls, that load was cut off by the last one.
-pub record RunIsStopped (words : List (List ℕ)) (tells : Bool) (left rest held now : Option (List ℕ)) (was has : Option CallList) (result : Outcome) : Type 0 where
+pub record RunIsStopped (words : List (List ℕ)) (old new : DevicesSeen) (result : Outcome) : Type 0 where
   pub mode : Mode
   pub asked : mode_of words ≡ Some mode
   pub script : Script
-  pub comes : Comes mode left rest script
-  pub silent : now ≡ held
-  pub stopped : tells ≡ true → IsStopped script result.run was has
+  pub comes : Comes mode old.input.left new.input.left script
+  pub silent : new.output.held ≡ old.output.held
+  pub stopped : old.drum.tells ≡ true → IsStopped script result.run old.drum.calls new.drum.calls
   pub card : result.card ≡ 0
   pub cause : result.cause ≡ 0
 
--- the script that came is refused, and so it was told
-pub record ScriptIsRefused (left rest held now : Option (List ℕ)) (result : Outcome) : Type 0 where
+-- the script that came is refused, and so it was written; no call of the drum was made
+pub record ScriptIsRefused (old new : DevicesSeen) (result : Outcome) : Type 0 where
   pub bytes : List ℕ
   pub refusal : ScriptRefusal
-  pub read : IsRefused left rest bytes refusal
+  pub read : IsRefused old.input.left new.input.left bytes refusal
   pub outcome : result ≡ bare 2 refusal.card (cause_number refusal.cause)
-  pub told : now ≡ after held (script_refused refusal.card (cause_number refusal.cause))
+  pub written : new.output.held ≡ after old.output.held (script_refused refusal.card (cause_number refusal.cause))
+  pub drum : new.drum ≡ old.drum
 
-pub record WordsAreRefused (words : List (List ℕ)) (left rest held now : Option (List ℕ)) (result : Outcome) : Type 0 where
+-- the words ask for nothing, and so it was written; nothing was read
+pub record WordsAreRefused (words : List (List ℕ)) (old new : DevicesSeen) (result : Outcome) : Type 0 where
   pub lawless : mode_of words ≡ None
-  pub unread : rest ≡ left
+  pub unread : new.input ≡ old.input
   pub outcome : result ≡ bare 1 0 0
-  pub told : now ≡ after held words_refused
+  pub written : new.output.held ≡ after old.output.held words_refused
 
 -- a text that was to be written, and the record that goes with it
-pub data IsTextOf (tells : Bool) (words : List (List ℕ)) (left rest : Option (List ℕ)) (was has : Option CallList) (run : Record) (text : List ℕ) : Type 0 where
-  OfWords : mode_of words ≡ None → rest ≡ left → run ≡ empty_record → text ≡ words_refused → IsTextOf tells words left rest was has run text
-  OfRefusal : (mode : Mode) → mode_of words ≡ Some mode → reads_script mode ≡ true → (bytes : List ℕ) (refusal : ScriptRefusal) → IsRefused left rest bytes refusal → run ≡ empty_record → text ≡ script_refused refusal.card (cause_number refusal.cause) → IsTextOf tells words left rest was has run text
-  OfRun : (mode : Mode) → mode_of words ≡ Some mode → (script : Script) → Comes mode left rest script → (tells ≡ true → run ≡ record_of script) → IsCounted [] run.entries was has → text ≡ text_for mode script run → IsTextOf tells words left rest was has run text
-  OfCards : mode_of words ≡ Some Asm → run ≡ empty_record → IsTextOfCards left rest text → IsTextOf tells words left rest was has run text
+pub data IsTextOf (words : List (List ℕ)) (old new : DevicesSeen) (run : Record) (text : List ℕ) : Type 0 where
+  OfWords : mode_of words ≡ None → new.input ≡ old.input → run ≡ empty_record → text ≡ words_refused
+    → IsTextOf words old new run text
+  OfRefusal : (mode : Mode) → mode_of words ≡ Some mode → reads_script mode ≡ true → (bytes : List ℕ) (refusal : ScriptRefusal)
+    → IsRefused old.input.left new.input.left bytes refusal → new.drum ≡ old.drum → run ≡ empty_record
+    → text ≡ script_refused refusal.card (cause_number refusal.cause) → IsTextOf words old new run text
+  OfRun : (mode : Mode) → mode_of words ≡ Some mode → (script : Script) → Comes mode old.input.left new.input.left script
+    → (old.drum.tells ≡ true → run ≡ record_of script) → IsCounted [] run.entries old.drum.calls new.drum.calls
+    → text ≡ text_for mode script run → IsTextOf words old new run text
+  OfCards : mode_of words ≡ Some Asm → run ≡ empty_record → IsTextOfCards old.input.left new.input.left text
+    → IsTextOf words old new run text
 
--- the sink failed, and holds a part of the text only
-pub record IsCutOff (tells : Bool) (words : List (List ℕ)) (left rest held now : Option (List ℕ)) (was has : Option CallList) (result : Outcome) : Type 0 where
+-- the output failed, and holds a part of the text only
+pub record IsCutOff (words : List (List ℕ)) (old new : DevicesSeen) (result : Outcome) : Type 0 where
   pub text : List ℕ
-  pub said : IsTextOf tells words left rest was has result.run text
-  pub part : GrewByProperPrefix held text now
+  pub said : IsTextOf words old new result.run text
+  pub part : GrewByProperPrefix old.output.held text new.output.held
   pub card : result.card ≡ 0
   pub cause : result.cause ≡ 0
 
--- nothing was written
-pub record IsSilent (status : ℕ) (held now : Option (List ℕ)) (result : Outcome) : Type 0 where
+-- nothing was written; where reading failed no call of the drum was made
+pub record IsSilent (status : ℕ) (old new : DevicesSeen) (result : Outcome) : Type 0 where
   pub outcome : result ≡ bare status 0 0
-  pub same : now ≡ held
+  pub same : new.output.held ≡ old.output.held
+  pub drum : status ≡ 3 → new.drum ≡ old.drum
+
+-- the refusals, each with its text
+pub record IsRefusal (words : List (List ℕ)) (old new : DevicesSeen) (result : Outcome) : Type 0 where
+  pub of_words : result.status ≡ 1 → WordsAreRefused words old new result
+  pub of_script : (mode : Mode) → mode_of words ≡ Some mode → reads_script mode ≡ true → result.status ≡ 2 → ScriptIsRefused old new result
+  pub of_input : mode_of words ≡ Some Asm → result.status ≡ 2 → InputIsTooLong old new result
+  pub of_cards : result.status ≡ 9 → CardsAreRefused old new result
+
+-- a fault is answered only where that object's count of faults rose
+pub record HasCause (old new : DevicesSeen) (result : Outcome) : Type 0 where
+  pub reading : result.status ≡ 3 → Rose old.input.faults new.input.faults
+  pub writing : result.status ≡ 4 → Rose old.output.faults new.output.faults
+  pub drum : result.status ≡ 5 → Rose old.drum.faults new.drum.faults
+
+-- where the words ask for no run of a script, the drum is as it was: none of its calls was made
+abbrev pub asks_run : Option Mode → Bool
+asks_run None = false
+asks_run (Some mode) = runs_script mode
+
+abbrev pub LeavesDrum : List (List ℕ) → DevicesSeen → DevicesSeen → Type 0
+LeavesDrum words old new = asks_run (mode_of words) ≡ false → new.drum ≡ old.drum
 
 -- which statuses there can be where the bytes spell a script, or are refused
 abbrev pub statuses_for : Result Script ScriptRefusal → List ℕ
@@ -91,3 +122,16 @@ statuses_of (Some Replay) bytes = statuses_for (script_of bytes)
 statuses_of (Some Dump) bytes = statuses_for (script_of bytes)
 statuses_of (Some (Load n)) bytes = 0 ∷ 4 ∷ 5 ∷ 8 ∷ []
 statuses_of (Some Asm) bytes = statuses_for_cards bytes
+
+-- the same for what the words ask, whatever the bytes
+abbrev pub statuses_asked : Option Mode → List ℕ
+statuses_asked None = 1 ∷ 4 ∷ 8 ∷ []
+statuses_asked (Some Replay) = 0 ∷ 2 ∷ 3 ∷ 4 ∷ 5 ∷ 8 ∷ []
+statuses_asked (Some Dump) = 0 ∷ 2 ∷ 3 ∷ 4 ∷ 5 ∷ 8 ∷ []
+statuses_asked (Some (Load n)) = 0 ∷ 4 ∷ 5 ∷ 8 ∷ []
+statuses_asked (Some Asm) = 0 ∷ 2 ∷ 3 ∷ 4 ∷ 8 ∷ 9 ∷ []
+
+-- no other status comes than those that the words allow and, where the bytes are told, these
+pub record IsAllowed (words : List (List ℕ)) (old : DevicesSeen) (result : Outcome) : Type 0 where
+  pub by_words : IsOneOf result.status (statuses_asked (mode_of words))
+  pub by_bytes : WhereTold old.input.left (λ bytes. IsOneOf result.status (statuses_of (mode_of words) bytes))

@@ -1,18 +1,19 @@
 //! Assembly: cards are read, and their deck or their faults are written.
-ghost use Rattle.std.specs.Prelude.{◌≡◌, ◌≢◌, ◌++◌, ◌∷◌, ◌≤◌, [], ℕ, List, true, nat_eq, length, map, string_bytes, IfOk, OnOk};
-ghost use Rattle.std.specs.List.{flat_map, list_any};
-ghost use Rattle.std.specs.Str.Lines.{lines};
+ghost use Rattle.std.specs.Prelude.{◌≡◌, ◌≢◌, ◌++◌, ◌∷◌, ◌≤◌, [], length, string_bytes, IfOk, OnOk};
+ghost use Rattle.std.specs.List.{flat_map};
 ghost use Rattle.faults.specs.Faults.{Rose, WhereTold};
-ghost use Rattle.ctss_io.specs.Outside.{before, after, IsAtEnd};
+ghost use Rattle.ctss_io.specs.Outside.{after};
 ghost use Rattle.ctss_io.specs.Whole.{GrewByProperPrefix};
 ghost use Rattle.fap_assemble.specs.Answers.{IsAssembled};
 ghost use Rattle.fap_assemble.specs.Follows.{numbered};
 ghost use Rattle.text_model.specs.Canonical.{word_cards};
 ghost use Rattle.text_model.specs.Words.{fault_line, faults_text};
-ghost use Rattle.fap_model.specs.Decks.{deck, faulty};
-ghost use Rattle.ctss_top.specs.Outcomes.{bare};
+ghost use Rattle.fap_model.specs.Decks.{deck};
+ghost use Rattle.ctss_top.specs.Outcomes.{bare, IsOneOf};
+ghost use Rattle.ctss_top.specs.Devices.{DrumSeen, input_seen, output_seen, devices};
 ghost use Rattle.ctss_top.specs.Top.{IsSilent};
-ghost use Rattle.ctss_top.specs.Asm.{assembled_from, IsDeckOf, AreFaultsOf, DeckIsWritten, CardsAreRefused, InputIsTooLong, IsCutOfCards, CardsAreCutOff, statuses_by, statuses_for_cards};
+ghost use Rattle.ctss_top.specs.Asm.{assembled_from, IsDeckOf, AreFaultsOf, DeckIsWritten, CardsAreRefused, InputIsTooLong};
+ghost use Rattle.ctss_top.specs.Asm.{IsCutOfCards, CardsAreCutOff, statuses_by, statuses_for_cards};
 
 use crate::outcome::Outcome;
 use crate::write::{refuse_script, write_out};
@@ -71,7 +72,7 @@ fn text_of_faults(alloc: Global, faults: &[CardFault]) -> Result<Bytes, NoMemory
 
 /// Writes a deck.
 fn write_deck<K: Sink>(alloc: Global, words: &[Word], sink: &mut K) -> Outcome
-    ensures status { list_any (nat_eq result.status) (0 ∷ 4 ∷ 8 ∷ []) ≡ true }
+    ensures status { IsOneOf result.status (0 ∷ 4 ∷ 8 ∷ []) }
     ensures done { result.status ≡ 0 → result ≡ bare 0 0 0 }
     ensures told { result.status ≡ 0 → K.held sink.new ≡ after (K.held sink.old) (word_cards words.now) }
     ensures cut { result.status ≡ 4 → result ≡ bare 4 0 0 }
@@ -88,7 +89,7 @@ fn write_deck<K: Sink>(alloc: Global, words: &[Word], sink: &mut K) -> Outcome
 
 /// Writes faults.
 fn write_faults<K: Sink>(alloc: Global, faults: &[CardFault], sink: &mut K) -> Outcome
-    ensures status { list_any (nat_eq result.status) (4 ∷ 8 ∷ 9 ∷ []) ≡ true }
+    ensures status { IsOneOf result.status (4 ∷ 8 ∷ 9 ∷ []) }
     ensures done { result.status ≡ 9 → result ≡ bare 9 0 0 }
     ensures told { result.status ≡ 9 → K.held sink.new ≡ after (K.held sink.old) (faults_text (numbered faults.now)) }
     ensures cut { result.status ≡ 4 → result ≡ bare 4 0 0 }
@@ -106,7 +107,7 @@ fn write_faults<K: Sink>(alloc: Global, faults: &[CardFault], sink: &mut K) -> O
 /// Assembles the cards of a text, and writes what they make.
 fn write_assembled<K: Sink>(alloc: Global, bytes: &[u8], sink: &mut K) -> Outcome
     requires { length bytes.now ≤ 4194304 }
-    ensures status { list_any (nat_eq result.status) (8 ∷ statuses_by (assembled_from bytes.now)) ≡ true }
+    ensures status { IsOneOf result.status (8 ∷ statuses_by (assembled_from bytes.now)) }
     ensures deck { result.status ≡ 0 → IsDeckOf bytes.now (K.held sink.old) (K.held sink.new) result }
     ensures faults { result.status ≡ 9 → AreFaultsOf bytes.now (K.held sink.old) (K.held sink.new) result }
     ensures unread { result.status ≢ 3 }
@@ -125,16 +126,26 @@ fn write_assembled<K: Sink>(alloc: Global, bytes: &[u8], sink: &mut K) -> Outcom
 
 /// Cards are read, assembled, and their deck or their faults are written.
 pub(crate) fn asm<S: Source, K: Sink>(alloc: Global, cards: &mut S, sink: &mut K) -> Outcome
-    ensures status { list_any (nat_eq result.status) (0 ∷ 2 ∷ 3 ∷ 4 ∷ 8 ∷ 9 ∷ []) ≡ true }
-    ensures deck { result.status ≡ 0 → DeckIsWritten (S.left cards.old) (S.left cards.new) (K.held sink.old) (K.held sink.new) result }
-    ensures faults { result.status ≡ 9 → CardsAreRefused (S.left cards.old) (S.left cards.new) (K.held sink.old) (K.held sink.new) result }
-    ensures long { result.status ≡ 2 → InputIsTooLong (S.left cards.old) (S.left cards.new) (K.held sink.old) (K.held sink.new) result }
+    ensures status { IsOneOf result.status (0 ∷ 2 ∷ 3 ∷ 4 ∷ 8 ∷ 9 ∷ []) }
+    ensures deck { (drum : DrumSeen) → result.status ≡ 0
+        → DeckIsWritten (devices (input_seen S.Source cards.old) (output_seen K.Sink sink.old) drum)
+        (devices (input_seen S.Source cards.new) (output_seen K.Sink sink.new) drum) result }
+    ensures faults { (drum : DrumSeen) → result.status ≡ 9
+        → CardsAreRefused (devices (input_seen S.Source cards.old) (output_seen K.Sink sink.old) drum)
+        (devices (input_seen S.Source cards.new) (output_seen K.Sink sink.new) drum) result }
+    ensures long { (drum : DrumSeen) → result.status ≡ 2
+        → InputIsTooLong (devices (input_seen S.Source cards.old) (output_seen K.Sink sink.old) drum)
+        (devices (input_seen S.Source cards.new) (output_seen K.Sink sink.new) drum) result }
     ensures unread { result.status ≡ 3 → Rose (S.faults cards.old) (S.faults cards.new) }
     ensures unwritten { result.status ≡ 4 → Rose (K.faults sink.old) (K.faults sink.new) }
     ensures cut { result.status ≡ 4 → result ≡ bare 4 0 0 }
-    ensures part { result.status ≡ 4 → CardsAreCutOff (S.left cards.old) (S.left cards.new) (K.held sink.old) (K.held sink.new) }
-    ensures silent { list_any (nat_eq result.status) (3 ∷ 8 ∷ []) ≡ true → IsSilent result.status (K.held sink.old) (K.held sink.new) result }
-    ensures told { WhereTold (S.left cards.old) (λ bytes. list_any (nat_eq result.status) (statuses_for_cards bytes) ≡ true) }
+    ensures part { (drum : DrumSeen) → result.status ≡ 4
+        → CardsAreCutOff (devices (input_seen S.Source cards.old) (output_seen K.Sink sink.old) drum)
+        (devices (input_seen S.Source cards.new) (output_seen K.Sink sink.new) drum) }
+    ensures silent { (drum : DrumSeen) → IsOneOf result.status (3 ∷ 8 ∷ [])
+        → IsSilent result.status (devices (input_seen S.Source cards.old) (output_seen K.Sink sink.old) drum)
+        (devices (input_seen S.Source cards.new) (output_seen K.Sink sink.new) drum) result }
+    ensures told { WhereTold (S.left cards.old) (λ bytes. IsOneOf result.status (statuses_for_cards bytes)) }
 {
     match read_bytes(alloc, cards) {
         Ok(bytes) => write_assembled(alloc, &bytes, sink),

@@ -1,5 +1,4 @@
-ghost use Rattle.std.specs.Prelude.{◌≡◌, ◌≢◌, ◌∷◌, [], ℕ, List, Option, Some, true, nat_eq, is_some, IfOk};
-ghost use Rattle.std.specs.List.{list_any};
+ghost use Rattle.std.specs.Prelude.{◌≡◌, ◌≢◌, ◌∷◌, [], ℕ, List, Some, true, is_some, IfOk};
 ghost use Rattle.faults.specs.Faults.{Rose, WhereTold};
 ghost use Rattle.ctss_io.specs.Outside.{after};
 ghost use Rattle.ctss_io.specs.Whole.{GrewByProperPrefix};
@@ -9,11 +8,13 @@ ghost use Rattle.text_model.specs.Made.{made_script};
 ghost use Rattle.text_model.specs.Reading.{script_of, IsInRange};
 ghost use Rattle.drum_slots.specs.Kept.{Serves};
 ghost use Rattle.supervisor.specs.Counts.{IsCounted};
-ghost use Rattle.ctss_top.specs.Outcomes.{bare};
+ghost use Rattle.ctss_top.specs.Outcomes.{bare, IsOneOf};
 ghost use Rattle.ctss_top.specs.Played.{IsStopped};
 ghost use Rattle.ctss_top.specs.Modes.{ModeAsked, runs_script, reads_script, text_for};
-ghost use Rattle.ctss_top.specs.Asm.{DeckIsWritten, CardsAreRefused, InputIsTooLong};
-ghost use Rattle.ctss_top.specs.Top.{IsRun, RunIsStopped, ScriptIsRefused, WordsAreRefused, IsCutOff, IsSilent, statuses_for, statuses_of};
+ghost use Rattle.ctss_top.specs.Asm.{DeckIsWritten};
+ghost use Rattle.ctss_top.specs.Devices.{InputSeen, output_seen, drum_seen, devices, seen};
+ghost use Rattle.ctss_top.specs.Top.{IsRun, RunIsStopped, ScriptIsRefused, IsRefusal, HasCause, LeavesDrum, IsCutOff};
+ghost use Rattle.ctss_top.specs.Top.{IsSilent, IsAllowed, statuses_for};
 
 use crate::asm::asm;
 use crate::outcome::Outcome;
@@ -51,11 +52,12 @@ fn write_run<K: Sink>(
     sink: &mut K,
 ) -> Outcome
     requires { runs_script mode ≡ true }
-    ensures status { list_any (nat_eq result.status) (0 ∷ 4 ∷ 8 ∷ []) ≡ true }
+    ensures status { IsOneOf result.status (0 ∷ 4 ∷ 8 ∷ []) }
     ensures run { result.status ≢ 8 → result.run ≡ run }
     ensures numbers { (result.card ≡ 0) × (result.cause ≡ 0) }
     ensures text { result.status ≡ 0 → K.held sink.new ≡ after (K.held sink.old) (text_for mode script.now result.run) }
-    ensures part { result.status ≡ 4 → GrewByProperPrefix (K.held sink.old) (text_for mode script.now result.run) (K.held sink.new) }
+    ensures part { result.status ≡ 4
+        → GrewByProperPrefix (K.held sink.old) (text_for mode script.now result.run) (K.held sink.new) }
     ensures cause { result.status ≡ 4 → Rose (K.faults sink.old) (K.faults sink.new) }
     ensures memory { result.status ≡ 8 → result ≡ bare 8 0 0 }
     ensures silent { result.status ≡ 8 → K.held sink.new ≡ K.held sink.old }
@@ -86,17 +88,21 @@ fn perform<K: Sink, D: Medium>(
     requires mode { runs_script mode ≡ true }
     requires range { IsInRange script.now }
     requires serves { Serves (D.rows drum.old) (D.record_count drum.old) (D.words_each drum.old) 3840 }
-    ensures status { list_any (nat_eq result.status) (0 ∷ 4 ∷ 5 ∷ 8 ∷ []) ≡ true }
-    ensures run { is_some (D.rows drum.old) ≡ true → list_any (nat_eq result.status) (0 ∷ 4 ∷ []) ≡ true → result.run ≡ record_of script.now }
-    ensures counted { list_any (nat_eq result.status) (0 ∷ 4 ∷ []) ≡ true → IsCounted [] result.run.entries (D.calls drum.old) (D.calls drum.new) }
+    ensures status { IsOneOf result.status (0 ∷ 4 ∷ 5 ∷ 8 ∷ []) }
+    ensures run { is_some (D.rows drum.old) ≡ true → IsOneOf result.status (0 ∷ 4 ∷ [])
+        → result.run ≡ record_of script.now }
+    ensures counted { IsOneOf result.status (0 ∷ 4 ∷ [])
+        → IsCounted [] result.run.entries (D.calls drum.old) (D.calls drum.new) }
     ensures numbers { (result.card ≡ 0) × (result.cause ≡ 0) }
     ensures text { result.status ≡ 0 → K.held sink.new ≡ after (K.held sink.old) (text_for mode script.now result.run) }
-    ensures part { result.status ≡ 4 → GrewByProperPrefix (K.held sink.old) (text_for mode script.now result.run) (K.held sink.new) }
+    ensures part { result.status ≡ 4
+        → GrewByProperPrefix (K.held sink.old) (text_for mode script.now result.run) (K.held sink.new) }
     ensures cause { result.status ≡ 4 → Rose (K.faults sink.old) (K.faults sink.new) }
-    ensures stopped { is_some (D.rows drum.old) ≡ true → result.status ≡ 5 → IsStopped script.now result.run (D.calls drum.old) (D.calls drum.new) }
+    ensures stopped { is_some (D.rows drum.old) ≡ true → result.status ≡ 5
+        → IsStopped script.now result.run (D.calls drum.old) (D.calls drum.new) }
     ensures drum_cause { result.status ≡ 5 → Rose (D.faults drum.old) (D.faults drum.new) }
     ensures memory { result.status ≡ 8 → result ≡ bare 8 0 0 }
-    ensures silent { list_any (nat_eq result.status) (5 ∷ 8 ∷ []) ≡ true → K.held sink.new ≡ K.held sink.old }
+    ensures silent { IsOneOf result.status (5 ∷ 8 ∷ []) → K.held sink.new ≡ K.held sink.old }
 {
     match record_script(alloc, script, drum) {
         Ok(Played::Done(run)) => write_run(alloc, mode, script, run, sink),
@@ -120,16 +126,23 @@ fn replay<S: Source, K: Sink, D: Medium>(
 ) -> Outcome
     requires mode { reads_script mode ≡ true }
     requires serves { Serves (D.rows drum.old) (D.record_count drum.old) (D.words_each drum.old) 3840 }
-    ensures status { list_any (nat_eq result.status) (0 ∷ 2 ∷ 3 ∷ 4 ∷ 5 ∷ 8 ∷ []) ≡ true }
-    ensures done { result.status ≡ 0 → IsRun mode (is_some (D.rows drum.old)) (S.left script.old) (S.left script.new) (K.held sink.old) (K.held sink.new) (D.calls drum.old) (D.calls drum.new) result }
-    ensures refused { result.status ≡ 2 → ScriptIsRefused (S.left script.old) (S.left script.new) (K.held sink.old) (K.held sink.new) result }
-    ensures unread { result.status ≡ 3 → Rose (S.faults script.old) (S.faults script.new) }
-    ensures unwritten { result.status ≡ 4 → Rose (K.faults sink.old) (K.faults sink.new) }
-    ensures stopped { (words : List (List ℕ)) → mode_of words ≡ Some mode → result.status ≡ 5 → RunIsStopped words (is_some (D.rows drum.old)) (S.left script.old) (S.left script.new) (K.held sink.old) (K.held sink.new) (D.calls drum.old) (D.calls drum.new) result }
-    ensures drum_cause { result.status ≡ 5 → Rose (D.faults drum.old) (D.faults drum.new) }
-    ensures part { (words : List (List ℕ)) → mode_of words ≡ Some mode → result.status ≡ 4 → IsCutOff (is_some (D.rows drum.old)) words (S.left script.old) (S.left script.new) (K.held sink.old) (K.held sink.new) (D.calls drum.old) (D.calls drum.new) result }
-    ensures silent { list_any (nat_eq result.status) (3 ∷ 8 ∷ []) ≡ true → IsSilent result.status (K.held sink.old) (K.held sink.new) result }
-    ensures told { WhereTold (S.left script.old) (λ bytes. list_any (nat_eq result.status) (statuses_for (script_of bytes)) ≡ true) }
+    ensures status { IsOneOf result.status (0 ∷ 2 ∷ 3 ∷ 4 ∷ 5 ∷ 8 ∷ []) }
+    ensures done { result.status ≡ 0 → IsRun mode (seen S.Source K.Sink D.Medium script.old sink.old drum.old)
+        (seen S.Source K.Sink D.Medium script.new sink.new drum.new) result }
+    ensures refused { result.status ≡ 2 → ScriptIsRefused (seen S.Source K.Sink D.Medium script.old sink.old drum.old)
+        (seen S.Source K.Sink D.Medium script.new sink.new drum.new) result }
+    ensures cause { HasCause (seen S.Source K.Sink D.Medium script.old sink.old drum.old)
+        (seen S.Source K.Sink D.Medium script.new sink.new drum.new) result }
+    ensures stopped { (words : List (List ℕ)) → mode_of words ≡ Some mode → result.status ≡ 5
+        → RunIsStopped words (seen S.Source K.Sink D.Medium script.old sink.old drum.old)
+        (seen S.Source K.Sink D.Medium script.new sink.new drum.new) result }
+    ensures part { (words : List (List ℕ)) → mode_of words ≡ Some mode → result.status ≡ 4
+        → IsCutOff words (seen S.Source K.Sink D.Medium script.old sink.old drum.old)
+        (seen S.Source K.Sink D.Medium script.new sink.new drum.new) result }
+    ensures silent { IsOneOf result.status (3 ∷ 8 ∷ []) → IsSilent result.status
+        (seen S.Source K.Sink D.Medium script.old sink.old drum.old)
+        (seen S.Source K.Sink D.Medium script.new sink.new drum.new) result }
+    ensures told { WhereTold (S.left script.old) (λ bytes. IsOneOf result.status (statuses_for (script_of bytes))) }
 {
     let bytes = match read_bytes(alloc, script) {
         Ok(bytes) => bytes,
@@ -149,49 +162,26 @@ fn replay<S: Source, K: Sink, D: Medium>(
 /// The script that is made of a number is run, and a summary written. Nothing is read.
 fn load<K: Sink, D: Medium>(alloc: Global, n: u32, sink: &mut K, drum: &mut D) -> Outcome
     requires serves { Serves (D.rows drum.old) (D.record_count drum.old) (D.words_each drum.old) 3840 }
-    ensures status { list_any (nat_eq result.status) (0 ∷ 4 ∷ 5 ∷ 8 ∷ []) ≡ true }
-    ensures done { (left : Option (List ℕ)) → result.status ≡ 0 → IsRun (Mode.Load n) (is_some (D.rows drum.old)) left left (K.held sink.old) (K.held sink.new) (D.calls drum.old) (D.calls drum.new) result }
-    ensures unwritten { result.status ≡ 4 → Rose (K.faults sink.old) (K.faults sink.new) }
-    ensures stopped { (words : List (List ℕ)) (left : Option (List ℕ)) → mode_of words ≡ Some (Mode.Load n) → result.status ≡ 5 → RunIsStopped words (is_some (D.rows drum.old)) left left (K.held sink.old) (K.held sink.new) (D.calls drum.old) (D.calls drum.new) result }
-    ensures drum_cause { result.status ≡ 5 → Rose (D.faults drum.old) (D.faults drum.new) }
-    ensures part { (words : List (List ℕ)) (left : Option (List ℕ)) → mode_of words ≡ Some (Mode.Load n) → result.status ≡ 4 → IsCutOff (is_some (D.rows drum.old)) words left left (K.held sink.old) (K.held sink.new) (D.calls drum.old) (D.calls drum.new) result }
-    ensures silent { result.status ≡ 8 → IsSilent 8 (K.held sink.old) (K.held sink.new) result }
+    ensures status { IsOneOf result.status (0 ∷ 4 ∷ 5 ∷ 8 ∷ []) }
+    ensures done { (input : InputSeen) → result.status ≡ 0
+        → IsRun (Mode.Load n) (devices input (output_seen K.Sink sink.old) (drum_seen D.Medium drum.old))
+        (devices input (output_seen K.Sink sink.new) (drum_seen D.Medium drum.new)) result }
+    ensures cause { (input : InputSeen)
+        → HasCause (devices input (output_seen K.Sink sink.old) (drum_seen D.Medium drum.old))
+        (devices input (output_seen K.Sink sink.new) (drum_seen D.Medium drum.new)) result }
+    ensures stopped { (words : List (List ℕ)) (input : InputSeen) → mode_of words ≡ Some (Mode.Load n)
+        → result.status ≡ 5 → RunIsStopped words (devices input (output_seen K.Sink sink.old) (drum_seen D.Medium drum.old))
+        (devices input (output_seen K.Sink sink.new) (drum_seen D.Medium drum.new)) result }
+    ensures part { (words : List (List ℕ)) (input : InputSeen) → mode_of words ≡ Some (Mode.Load n)
+        → result.status ≡ 4 → IsCutOff words (devices input (output_seen K.Sink sink.old) (drum_seen D.Medium drum.old))
+        (devices input (output_seen K.Sink sink.new) (drum_seen D.Medium drum.new)) result }
+    ensures silent { (input : InputSeen) → result.status ≡ 8
+        → IsSilent 8 (devices input (output_seen K.Sink sink.old) (drum_seen D.Medium drum.old))
+        (devices input (output_seen K.Sink sink.new) (drum_seen D.Medium drum.new)) result }
 {
     match make_script(alloc, n) {
         Ok(script) => perform(alloc, Mode::Load(n), &script, sink, drum),
         Err(_) => Outcome::bare(alloc, 8, 0, 0),
-    }
-}
-
-/// What a mode asks for, done.
-fn do_mode<S: Source, K: Sink, D: Medium>(
-    alloc: Global,
-    mode: Mode,
-    input: &mut S,
-    output: &mut K,
-    drum: &mut D,
-) -> Outcome
-    requires drum { Serves (D.rows drum.old) (D.record_count drum.old) (D.words_each drum.old) 3840 }
-    ensures headline { runs_script mode ≡ true → result.status ≡ 0 → IsRun mode (is_some (D.rows drum.old)) (S.left input.old) (S.left input.new) (K.held output.old) (K.held output.new) (D.calls drum.old) (D.calls drum.new) result }
-    ensures deck { mode ≡ Mode.Asm → result.status ≡ 0 → DeckIsWritten (S.left input.old) (S.left input.new) (K.held output.old) (K.held output.new) result }
-    ensures refused_script { reads_script mode ≡ true → result.status ≡ 2 → ScriptIsRefused (S.left input.old) (S.left input.new) (K.held output.old) (K.held output.new) result }
-    ensures too_long { mode ≡ Mode.Asm → result.status ≡ 2 → InputIsTooLong (S.left input.old) (S.left input.new) (K.held output.old) (K.held output.new) result }
-    ensures refused_cards { result.status ≡ 9 → CardsAreRefused (S.left input.old) (S.left input.new) (K.held output.old) (K.held output.new) result }
-    ensures cards { result.status ≡ 9 → mode ≡ Mode.Asm }
-    ensures read_fault { result.status ≡ 3 → Rose (S.faults input.old) (S.faults input.new) }
-    ensures write_fault { result.status ≡ 4 → Rose (K.faults output.old) (K.faults output.new) }
-    ensures drum_fault { result.status ≡ 5 → Rose (D.faults drum.old) (D.faults drum.new) }
-    ensures cut_off { (words : List (List ℕ)) → mode_of words ≡ Some mode → result.status ≡ 4 → IsCutOff (is_some (D.rows drum.old)) words (S.left input.old) (S.left input.new) (K.held output.old) (K.held output.new) (D.calls drum.old) (D.calls drum.new) result }
-    ensures stopped { (words : List (List ℕ)) → mode_of words ≡ Some mode → result.status ≡ 5 → RunIsStopped words (is_some (D.rows drum.old)) (S.left input.old) (S.left input.new) (K.held output.old) (K.held output.new) (D.calls drum.old) (D.calls drum.new) result }
-    ensures silent { list_any (nat_eq result.status) (3 ∷ 8 ∷ []) ≡ true → IsSilent result.status (K.held output.old) (K.held output.new) result }
-    ensures known { list_any (nat_eq result.status) (0 ∷ 2 ∷ 3 ∷ 4 ∷ 5 ∷ 8 ∷ 9 ∷ []) ≡ true }
-    ensures told { WhereTold (S.left input.old) (λ bytes. list_any (nat_eq result.status) (statuses_of (Some mode) bytes) ≡ true) }
-{
-    match mode {
-        Mode::Replay => replay(alloc, Mode::Replay, input, output, drum),
-        Mode::Dump => replay(alloc, Mode::Dump, input, output, drum),
-        Mode::Load(n) => load(alloc, n, output, drum),
-        Mode::Asm => asm(alloc, input, output),
     }
 }
 
@@ -209,36 +199,39 @@ pub fn run_ctss<S: Source, K: Sink, D: Medium>(
     drum: &mut D,
 ) -> Outcome
     requires drum { Serves (D.rows drum.old) (D.record_count drum.old) (D.words_each drum.old) 3840 }
-    ensures headline { (mode : ModeAsked) → mode_of words.now ≡ Some mode → runs_script mode ≡ true → result.status ≡ 0
-        → IsRun mode (is_some (D.rows drum.old)) (S.left input.old) (S.left input.new) (K.held output.old) (K.held output.new) (D.calls drum.old) (D.calls drum.new) result }
-    ensures deck { mode_of words.now ≡ Some Mode.Asm → result.status ≡ 0 → DeckIsWritten (S.left input.old) (S.left input.new) (K.held output.old) (K.held output.new) result }
-
-    // The refusals, each with its text.
-    ensures refused_words { result.status ≡ 1 → WordsAreRefused words.now (S.left input.old) (S.left input.new) (K.held output.old) (K.held output.new) result }
-    ensures refused_script { (mode : ModeAsked) → mode_of words.now ≡ Some mode → reads_script mode ≡ true → result.status ≡ 2
-        → ScriptIsRefused (S.left input.old) (S.left input.new) (K.held output.old) (K.held output.new) result }
-    ensures too_long { mode_of words.now ≡ Some Mode.Asm → result.status ≡ 2 → InputIsTooLong (S.left input.old) (S.left input.new) (K.held output.old) (K.held output.new) result }
-    ensures refused_cards { result.status ≡ 9 → CardsAreRefused (S.left input.old) (S.left input.new) (K.held output.old) (K.held output.new) result }
-    ensures cards { result.status ≡ 9 → mode_of words.now ≡ Some Mode.Asm }
+    ensures headline { (mode : ModeAsked) → mode_of words.now ≡ Some mode → runs_script mode ≡ true
+        → result.status ≡ 0 → IsRun mode (seen S.Source K.Sink D.Medium input.old output.old drum.old)
+        (seen S.Source K.Sink D.Medium input.new output.new drum.new) result }
+    ensures deck { mode_of words.now ≡ Some Mode.Asm → result.status ≡ 0
+        → DeckIsWritten (seen S.Source K.Sink D.Medium input.old output.old drum.old)
+        (seen S.Source K.Sink D.Medium input.new output.new drum.new) result }
+    ensures refusals { IsRefusal words.now (seen S.Source K.Sink D.Medium input.old output.old drum.old)
+        (seen S.Source K.Sink D.Medium input.new output.new drum.new) result }
 
     // The faults: only where the object's count rose.
-    ensures read_fault { result.status ≡ 3 → Rose (S.faults input.old) (S.faults input.new) }
-    ensures write_fault { result.status ≡ 4 → Rose (K.faults output.old) (K.faults output.new) }
-    ensures drum_fault { result.status ≡ 5 → Rose (D.faults drum.old) (D.faults drum.new) }
-    ensures cut_off { result.status ≡ 4 → IsCutOff (is_some (D.rows drum.old)) words.now (S.left input.old) (S.left input.new) (K.held output.old) (K.held output.new) (D.calls drum.old) (D.calls drum.new) result }
+    ensures causes { HasCause (seen S.Source K.Sink D.Medium input.old output.old drum.old)
+        (seen S.Source K.Sink D.Medium input.new output.new drum.new) result }
+    ensures cut_off { result.status ≡ 4 → IsCutOff words.now
+        (seen S.Source K.Sink D.Medium input.old output.old drum.old)
+        (seen S.Source K.Sink D.Medium input.new output.new drum.new) result }
 
-    // With a drum that failed nothing is written, and the run is that of whole steps.
-    ensures stopped { result.status ≡ 5 → RunIsStopped words.now (is_some (D.rows drum.old)) (S.left input.old) (S.left input.new) (K.held output.old) (K.held output.new) (D.calls drum.old) (D.calls drum.new) result }
-
-    // With a read that failed and with want of memory nothing is written.
-    ensures silent { list_any (nat_eq result.status) (3 ∷ 8 ∷ []) ≡ true → IsSilent result.status (K.held output.old) (K.held output.new) result }
-
-    // No other status, and of these only those that the words and the bytes left allow.
-    ensures known { list_any (nat_eq result.status) (0 ∷ 1 ∷ 2 ∷ 3 ∷ 4 ∷ 5 ∷ 8 ∷ 9 ∷ []) ≡ true }
-    ensures told { WhereTold (S.left input.old) (λ bytes. list_any (nat_eq result.status) (statuses_of (mode_of words.now) bytes) ≡ true) }
+    // With a drum that failed nothing is written, and the run is that of whole steps; with a read that failed and where
+    // memory lacked nothing is written.
+    ensures stopped { result.status ≡ 5 → RunIsStopped words.now
+        (seen S.Source K.Sink D.Medium input.old output.old drum.old)
+        (seen S.Source K.Sink D.Medium input.new output.new drum.new) result }
+    ensures silent { IsOneOf result.status (3 ∷ 8 ∷ []) → IsSilent result.status
+        (seen S.Source K.Sink D.Medium input.old output.old drum.old)
+        (seen S.Source K.Sink D.Medium input.new output.new drum.new) result }
+    ensures apart { LeavesDrum words.now (seen S.Source K.Sink D.Medium input.old output.old drum.old)
+        (seen S.Source K.Sink D.Medium input.new output.new drum.new) }
+    ensures allowed { IsAllowed words.now (seen S.Source K.Sink D.Medium input.old output.old drum.old) result }
 {
     match words.mode() {
-        Ok(Some(mode)) => do_mode(alloc, mode, input, output, drum),
+        Ok(Some(Mode::Replay)) => replay(alloc, Mode::Replay, input, output, drum),
+        Ok(Some(Mode::Dump)) => replay(alloc, Mode::Dump, input, output, drum),
+        Ok(Some(Mode::Load(n))) => load(alloc, n, output, drum),
+        Ok(Some(Mode::Asm)) => asm(alloc, input, output),
         Ok(None) => refuse_words(alloc, output),
         Err(_) => Outcome::bare(alloc, 8, 0, 0),
     }

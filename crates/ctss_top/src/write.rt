@@ -1,11 +1,10 @@
 //! Texts that are written at the end of a call, and the refusals.
-ghost use Rattle.std.specs.Prelude.{◌≡◌, ◌≢◌, ◌∷◌, [], true, nat_eq, IfOk};
-ghost use Rattle.std.specs.List.{list_any};
+ghost use Rattle.std.specs.Prelude.{◌≡◌, ◌≢◌, ◌∷◌, [], IfOk};
 ghost use Rattle.faults.specs.Faults.{Rose};
 ghost use Rattle.ctss_io.specs.Outside.{after};
 ghost use Rattle.ctss_io.specs.Whole.{GrewByProperPrefix};
 ghost use Rattle.text_model.specs.Words.{words_refused, script_refused};
-ghost use Rattle.ctss_top.specs.Outcomes.{bare, cut_off};
+ghost use Rattle.ctss_top.specs.Outcomes.{bare, cut_off, IsOneOf};
 
 use crate::outcome::Outcome;
 use ctss_io::{Sink, write_all};
@@ -44,7 +43,7 @@ fn refusal(alloc: Global, card: u32, cause: u8) -> Result<Bytes, NoMemory>
 
 /// The words are refused.
 pub(crate) fn refuse_words<K: Sink>(alloc: Global, sink: &mut K) -> Outcome
-    ensures status { list_any (nat_eq result.status) (1 ∷ 4 ∷ []) ≡ true }
+    ensures status { IsOneOf result.status (1 ∷ 4 ∷ []) }
     ensures refused { result.status ≡ 1 → result ≡ bare 1 0 0 }
     ensures told { result.status ≡ 1 → K.held sink.new ≡ after (K.held sink.old) words_refused }
     ensures cut { result.status ≡ 4 → result ≡ bare 4 0 0 }
@@ -56,7 +55,7 @@ pub(crate) fn refuse_words<K: Sink>(alloc: Global, sink: &mut K) -> Outcome
 
 /// The script is refused.
 pub(crate) fn refuse_script<K: Sink>(alloc: Global, sink: &mut K, card: u32, cause: u8) -> Outcome
-    ensures status { list_any (nat_eq result.status) (2 ∷ 4 ∷ 8 ∷ []) ≡ true }
+    ensures status { IsOneOf result.status (2 ∷ 4 ∷ 8 ∷ []) }
     ensures refused { result.status ≡ 2 → result ≡ bare 2 card cause }
     ensures told { result.status ≡ 2 → K.held sink.new ≡ after (K.held sink.old) (script_refused card cause) }
     ensures cut { result.status ≡ 4 → result ≡ bare 4 0 0 }

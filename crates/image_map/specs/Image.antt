@@ -27,6 +27,10 @@ module _ {D : Type 0} {g : Ghosts D} where
     drum = seen g it.tables.kept.drum;
   }
 
+  -- the drum's own value
+  abbrev pub drum_of : Image D g → D
+  drum_of it = it.tables.kept.drum.now
+
   -- with other words in core
   abbrev pub with_words : Image D g → List ℕ → Image D g
   with_words it words = record it { bank = words }

@@ -56,7 +56,7 @@ struct Tables<'a, D: Medium> {
 
 impl<'a, D: Medium> Image<'a, D> {
     ghost use Rattle.image_map.specs.State.{size, quota, places_in, first_state, IsFirst};
-    ghost use Rattle.image_map.specs.Image.{state, seen};
+    ghost use Rattle.image_map.specs.Image.{state, seen, drum_of};
 
     /// Images of users 1, 2, 3 and on with these quotas, in blocks, over the first `records` records
     /// of a drum. All sizes are 0, and no call of the drum is made.
@@ -74,7 +74,8 @@ impl<'a, D: Medium> Image<'a, D> {
         requires fits { sum quotas.now ≤ records }
         requires serves { Serves (D.rows drum.old) (D.record_count drum.old)
             (D.words_each drum.old) records }
-        ensures { IfOk result (λ i. IsFirst (seen D.Medium drum.entry) quotas.now (state i)) }
+        ensures first { IfOk result (λ i. IsFirst (seen D.Medium drum.entry) quotas.now (state i)) }
+        ensures drum { IfOk result (λ i. drum_of i ≡ drum.old) }
     {
         let sizes = no_sizes(alloc, quotas.len())?;
         let bank = Bank::new(alloc)?;
@@ -88,7 +89,8 @@ impl<'a, D: Medium> Image<'a, D> {
         requires few { length slots.quotas.items ≤ 31 }
         requires limit { (u : ℕ) → quota_in slots u ≤ 128 }
         requires sizes { sizes.items ≡ replicate (length slots.quotas.items) 0 }
-        ensures { state result ≡ first_state (seen D.Medium drum.entry) slots bank sizes.items }
+        ensures first { state result ≡ first_state (seen D.Medium drum.entry) slots bank sizes.items }
+        ensures drum { drum_of result ≡ drum.old }
     {
         let tables = Tables {
             kept: SlotTable::over(drum, slots),
@@ -104,7 +106,8 @@ impl<'a, D: Medium> Image<'a, D> {
 
     /// Ends the images and gives the drum back.
     pub fn back(self) -> &'a mut D
-        ensures { seen D.Medium result ≡ (state self.entry).drum }
+        ensures seen { seen D.Medium result ≡ (state self.entry).drum }
+        ensures drum { result.now ≡ drum_of self.entry }
     {
         let Image {
             tables,
@@ -194,7 +197,7 @@ impl<'a, D: Medium> Image<'a, D> {
 
 impl<'a, D: Medium> Image<'a, D> {
     ghost use Rattle.image_map.specs.State.{quota, IsWorking, Resizes, Replaces, Loads};
-    ghost use Rattle.image_map.specs.Image.{state};
+    ghost use Rattle.image_map.specs.Image.{state, drum_of};
 
     /// Writes a block to the drum, which its owner has no more in core then.
     fn dump_block(&mut self, owner: UserNo, block: u8) -> Result<(), DrumFault>
@@ -454,7 +457,8 @@ impl<'a, D: Medium> Image<'a, D> {
         requires works { (state self.old).failed ≡ false }
         requires user { user < length (state self.old).sizes }
         requires quota { blocks ≤ quota (state self.old) user }
-        ensures { Resizes user blocks (state self.old) (state self.new) }
+        ensures resizes { Resizes user blocks (state self.old) (state self.new) }
+        ensures drum { drum_of self.new ≡ drum_of self.old }
     {
         let tables = &mut self.tables;
         tables.owners.give_up(user, blocks);
@@ -468,7 +472,8 @@ impl<'a, D: Medium> Image<'a, D> {
         requires works { (state self.old).failed ≡ false }
         requires user { user < length (state self.old).sizes }
         requires quota { blocks ≤ quota (state self.old) user }
-        ensures { Replaces user blocks (state self.old) (state self.new) }
+        ensures replaces { Replaces user blocks (state self.old) (state self.new) }
+        ensures drum { drum_of self.new ≡ drum_of self.old }
     {
         self.resize_user(user, 0);
         self.resize_user(user, blocks);

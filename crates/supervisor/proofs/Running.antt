@@ -76,16 +76,17 @@ unfolding joined
 calls_joined f u r who = ap (λ (n : ℕ). count_below n (is_dumped r.system.plan.places u) + count_below n (is_read r.system.plan.places u)) (blocks_same f u r who)
 
 -- a run that stopped at a load
-pub stops_at_load : (limit : ℕ) (start old new : Run) (first had : Memory) (was mid now : Option CallList) → HasRunPart limit start old first had → Sound old
+pub stops_at_load : (limit : ℕ) (start old new : Run) (first had : Memory) (was mid now : Option CallList) → HasRunPart limit start old first had → old.system.clock < limit → Sound old
     → IsCounted start.system.entries old.system.entries was mid → NextLoadFails old mid now
     → new.system.entries ≡ old.system.entries → new.system.users ≡ old.system.users → new.system.clock ≡ old.system.clock → HasRunToLoad limit start new first was now
 unfolding joined
-stops_at_load limit start old new first had was mid now part sound counted fails entries users clock = λ told.
+stops_at_load limit start old new first had was mid now part early sound counted fails entries users clock = λ told.
     let due = fails.next.due in
     let who : IsUser due.user old = due_user old due sound in
     record {
       at = joined had.words old;
       part = part told;
+      early = early;
       load = record {
         quiet = fails.next.quiet;
         due = record {

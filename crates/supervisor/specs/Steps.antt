@@ -112,11 +112,12 @@ HasRun limit old new had has = had.tells ≡ true → joined has.words new ≡ r
 abbrev pub HasRunPart : ℕ → (old new : Run) → (had has : Memory) → Type 0
 HasRunPart limit old new had has = had.tells ≡ true → AfterSteps limit (joined had.words old) (joined has.words new)
 
--- A part of the run, behind which a load is next, is shown. The drum's calls are those of the loads so far and, where it tells
+-- A part of the run, short of the limit and behind which a load is next, is shown. The drum's calls are those of the loads so far and, where it tells
 -- them, a beginning of that next load's, of which the last one failed.
 pub record StopsAtLoad (limit : ℕ) (old new : Run) (was now : Option CallList) : Type 0 where
   pub at : Run
   pub part : AfterSteps limit old at
+  pub early : at.system.clock < limit
   pub load : LoadIsNext at
   pub shown : Shows at new
   pub counted : IsCountedToLoad old.system.entries new.system.entries was now (calls_to_load load.due.user at)

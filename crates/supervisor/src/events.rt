@@ -1,14 +1,14 @@
 //! Events: what each of them does at each console.
-ghost use Rattle.std.specs.Prelude.{◌≡◌, ◌<◌, ◌≤◌, ◌-◌, ◌∷◌, [], length, option_to_list, get_or, IfOk, OnOk, OnErr};
+ghost use Rattle.std.specs.Prelude.{◌≡◌, ◌<◌, ◌≤◌, ◌-◌, ◌∷◌, [], length, option_to_list, get_or, IfOk};
 ghost use Rattle.time_sharing.specs.System.{Off, On, Password, Session as Inside, Types, LineTaken, Refused};
 ghost use Rattle.plan_model.specs.Levels.{woken};
-ghost use Rattle.plan_model.specs.Loads.{Places, no_places, given_up};
+ghost use Rattle.plan_model.specs.Loads.{no_places};
 ghost use Rattle.system_model.specs.Round.{line_blocks};
 ghost use Rattle.system_model.specs.Joined.{cut_user};
 ghost use Rattle.system_model.specs.Run.{taken, at_console};
 ghost use Rattle.system_model.specs.Cases.{quit_taken, hang_taken, spent_taken, line_taken, heard, login_taken, dial_taken, user_at};
 ghost use Rattle.system_model.specs.Sound.{Sound, HasSeat};
-ghost use Rattle.supervisor.specs.Seen.{seen, number_of, left_places};
+ghost use Rattle.supervisor.specs.Seen.{seen, number_of, BecomesIf, StaysIf, LeavesIf, CutsIf};
 
 use crate::login::{asked, mark_on, password_in};
 use crate::notes::{idle_note, leave_consoles, note, note_some, service_left, stop_note};
@@ -54,8 +54,8 @@ impl State {
     ) -> Result<(), NoMemory>
         requires seat { 0 < console }
         requires here { console ≤ length self.old.consoles.items }
-        ensures ok { (places : Places) → OnOk result (seen places self.new ≡ heard console kind now (option_to_list more) (seen places self.old)) }
-        ensures err { (places : Places) → OnErr result (seen places self.new ≡ seen places self.old) }
+        ensures ok { BecomesIf result (heard console kind now (option_to_list more)) self.old self.new }
+        ensures err { StaysIf result self.old self.new }
     {
         self.entries.reserve(3)?;
         let _ = self.events.pop_front();
@@ -80,9 +80,9 @@ impl State {
     fn take_refusal(&mut self, console: u8, cause: u8) -> Result<(), NoMemory>
         requires seat { 0 < console }
         requires here { console ≤ length self.old.consoles.items }
-        ensures ok { (places : Places) → OnOk result (seen places self.new
-            ≡ heard console LineTaken On (Refused self.old.clock console cause ∷ []) (seen places self.old)) }
-        ensures err { (places : Places) → OnErr result (seen places self.new ≡ seen places self.old) }
+        ensures ok { BecomesIf result (heard console LineTaken On (Refused self.old.clock console cause ∷ []))
+            self.old self.new }
+        ensures err { StaysIf result self.old self.new }
     {
         let entry = Entry::Refused {
             tick: self.clock,
@@ -99,8 +99,8 @@ impl State {
         requires within { user ≤ length self.old.sessions.items }
         requires seat { 0 < console }
         requires here { console ≤ length self.old.consoles.items }
-        ensures ok { (places : Places) → OnOk result (seen places self.new ≡ login_taken console user (seen places self.old)) }
-        ensures err { (places : Places) → OnErr result (seen places self.new ≡ seen places self.old) }
+        ensures ok { BecomesIf result (login_taken console user) self.old self.new }
+        ensures err { StaysIf result self.old self.new }
     {
         self.entries.reserve(3)?;
         let session = &mut self.sessions[user as usize - 1];
@@ -135,8 +135,8 @@ impl State {
     fn take_dial(&mut self, console: u8, user: u8) -> Result<(), NoMemory>
         requires some { 0 < user }
         requires within { user ≤ length self.old.sessions.items }
-        ensures ok { (places : Places) → OnOk result (seen places self.new ≡ dial_taken console user (seen places self.old)) }
-        ensures err { (places : Places) → OnErr result (seen places self.new ≡ seen places self.old) }
+        ensures ok { BecomesIf result (dial_taken console user) self.old self.new }
+        ensures err { StaysIf result self.old self.new }
     {
         self.entries.reserve(2)?;
         let session = &self.sessions[user as usize - 1];
@@ -164,8 +164,8 @@ impl State {
         requires within { user ≤ length self.old.sessions.items }
         requires few { length self.old.sessions.items ≤ 30 }
         requires room { (user_at user self.old.sessions.items).lines < 2048 }
-        ensures ok { (places : Places) → OnOk result (seen places self.new ≡ line_taken console user text (seen places self.old)) }
-        ensures err { (places : Places) → OnErr result (seen places self.new ≡ seen places self.old) }
+        ensures ok { BecomesIf result (line_taken console user text) self.old self.new }
+        ensures err { StaysIf result self.old self.new }
     {
         self.entries.reserve(2)?;
         let session = &mut self.sessions[user as usize - 1];
@@ -195,8 +195,8 @@ impl State {
         requires some { 0 < user }
         requires within { user ≤ length self.old.sessions.items }
         requires few { length self.old.sessions.items ≤ 30 }
-        ensures ok { (places : Places) → OnOk result (seen places self.new ≡ quit_taken console user (seen places self.old)) }
-        ensures err { (places : Places) → OnErr result (seen places self.new ≡ seen places self.old) }
+        ensures ok { BecomesIf result (quit_taken console user) self.old self.new }
+        ensures err { StaysIf result self.old self.new }
     {
         self.entries.reserve(3)?;
         let session = &mut self.sessions[user as usize - 1];
@@ -229,8 +229,8 @@ impl State {
         requires few { length self.old.sessions.items ≤ 30 }
         requires seat { 0 < console }
         requires here { console ≤ length self.old.consoles.items }
-        ensures ok { (places : Places) → OnOk result (seen (given_up places user 0) self.new ≡ hang_taken console user (seen places self.old)) }
-        ensures err { (places : Places) → OnErr result (seen places self.new ≡ seen places self.old) }
+        ensures ok { LeavesIf result user (hang_taken console user) self.old self.new }
+        ensures err { StaysIf result self.old self.new }
     {
         self.entries.reserve(3)?;
         let session = &mut self.sessions[user as usize - 1];
@@ -263,8 +263,8 @@ impl State {
         requires some { 0 < user }
         requires within { user ≤ length self.old.sessions.items }
         requires few { length self.old.sessions.items ≤ 30 }
-        ensures ok { (places : Places) → OnOk result (seen (given_up places user 0) self.new ≡ spent_taken console user (seen places self.old)) }
-        ensures err { (places : Places) → OnErr result (seen places self.new ≡ seen places self.old) }
+        ensures ok { LeavesIf result user (spent_taken console user) self.old self.new }
+        ensures err { StaysIf result self.old self.new }
     {
         self.entries.reserve(3)?;
         let session = &mut self.sessions[user as usize - 1];
@@ -294,8 +294,8 @@ impl State {
     fn at_off(&mut self, console: u8, event: Event) -> Result<(), NoMemory>
         requires seat { 0 < console }
         requires here { console ≤ length self.old.consoles.items }
-        ensures ok { (places : Places) → OnOk result (seen places self.new ≡ at_console console Off event (seen places self.old)) }
-        ensures err { (places : Places) → OnErr result (seen places self.new ≡ seen places self.old) }
+        ensures ok { BecomesIf result (at_console console Off event) self.old self.new }
+        ensures err { StaysIf result self.old self.new }
     {
         match event {
             Event::Dial => self.take_heard(console, EventKind::Dial, Console::On, None),
@@ -310,8 +310,8 @@ impl State {
     fn at_name(&mut self, console: u8, line: LineText) -> Result<(), NoMemory>
         requires seat { 0 < console }
         requires here { console ≤ length self.old.consoles.items }
-        ensures ok { (places : Places) → OnOk result (seen places self.new ≡ at_console console On (Types line) (seen places self.old)) }
-        ensures err { (places : Places) → OnErr result (seen places self.new ≡ seen places self.old) }
+        ensures ok { BecomesIf result (at_console console On (Types line)) self.old self.new }
+        ensures err { StaysIf result self.old self.new }
     {
         match asked(&line) {
             None => self.take_refusal(console, 1),
@@ -323,8 +323,8 @@ impl State {
     fn at_on(&mut self, console: u8, event: Event) -> Result<(), NoMemory>
         requires seat { 0 < console }
         requires here { console ≤ length self.old.consoles.items }
-        ensures ok { (places : Places) → OnOk result (seen places self.new ≡ at_console console On event (seen places self.old)) }
-        ensures err { (places : Places) → OnErr result (seen places self.new ≡ seen places self.old) }
+        ensures ok { BecomesIf result (at_console console On event) self.old self.new }
+        ensures err { StaysIf result self.old self.new }
     {
         match event {
             Event::Dial => self.take_heard(console, EventKind::Dial, Console::On, None),
@@ -340,8 +340,8 @@ impl State {
         requires accounts { length self.old.accounts.list ≤ length self.old.sessions.items }
         requires seat { 0 < console }
         requires here { console ≤ length self.old.consoles.items }
-        ensures ok { (places : Places) → OnOk result (seen places self.new ≡ at_console console (Password name) (Types line) (seen places self.old)) }
-        ensures err { (places : Places) → OnErr result (seen places self.new ≡ seen places self.old) }
+        ensures ok { BecomesIf result (at_console console (Password name) (Types line)) self.old self.new }
+        ensures err { StaysIf result self.old self.new }
     {
         let Some(password) = password_in(&line) else {
             return self.take_refusal(console, 1);
@@ -360,8 +360,8 @@ impl State {
         requires accounts { length self.old.accounts.list ≤ length self.old.sessions.items }
         requires seat { 0 < console }
         requires here { console ≤ length self.old.consoles.items }
-        ensures ok { (places : Places) → OnOk result (seen places self.new ≡ at_console console (Password name) event (seen places self.old)) }
-        ensures err { (places : Places) → OnErr result (seen places self.new ≡ seen places self.old) }
+        ensures ok { BecomesIf result (at_console console (Password name) event) self.old self.new }
+        ensures err { StaysIf result self.old self.new }
     {
         match event {
             Event::Dial => self.take_heard(console, EventKind::Dial, Console::Password(name), None),
@@ -384,9 +384,9 @@ impl State {
         requires few { length self.old.sessions.items ≤ 30 }
         requires seat { 0 < console }
         requires here { console ≤ length self.old.consoles.items }
-        ensures ok { (places : Places) → IfOk result (λ cut. seen (left_places cut places) self.new ≡ at_console console (Inside user) event (seen places self.old)) }
+        ensures ok { CutsIf result (at_console console (Inside user) event) self.old self.new }
         ensures cut { IfOk result (λ cut. number_of cut ≡ cut_user (Inside user) event self.old.sessions.items) }
-        ensures err { (places : Places) → OnErr result (seen places self.new ≡ seen places self.old) }
+        ensures err { StaysIf result self.old self.new }
     {
         match event {
             Event::Dial => {
@@ -410,9 +410,10 @@ impl State {
         requires some { 0 < user }
         requires within { user ≤ length self.old.sessions.items }
         requires few { length self.old.sessions.items ≤ 30 }
-        ensures ok { (places : Places) → IfOk result (λ cut. seen (left_places cut places) self.new ≡ at_console console (Inside user) (Types text) (seen places self.old)) }
-        ensures cut { IfOk result (λ cut. number_of cut ≡ cut_user (Inside user) (Types text) self.old.sessions.items) }
-        ensures err { (places : Places) → OnErr result (seen places self.new ≡ seen places self.old) }
+        ensures ok { CutsIf result (at_console console (Inside user) (Types text)) self.old self.new }
+        ensures cut { IfOk result (λ cut. number_of cut
+            ≡ cut_user (Inside user) (Types text) self.old.sessions.items) }
+        ensures err { StaysIf result self.old self.new }
     {
         let session = &self.sessions[user as usize - 1];
         if session.line_count() < 2048 {
@@ -429,10 +430,10 @@ impl State {
     pub(crate) fn take_event(&mut self, e: Timed) -> Result<Option<UserNo>, NoMemory>
         requires sound { Sound (seen no_places self.old) }
         requires seat { HasSeat e (seen no_places self.old) }
-        ensures ok { (places : Places) → IfOk result (λ cut. seen (left_places cut places) self.new ≡ taken e (seen places self.old)) }
+        ensures ok { CutsIf result (taken e) self.old self.new }
         ensures cut { IfOk result (λ cut. number_of cut
             ≡ cut_user (get_or self.old.consoles.items (e.console - 1) Off) e.event self.old.sessions.items) }
-        ensures err { (places : Places) → OnErr result (seen places self.new ≡ seen places self.old) }
+        ensures err { StaysIf result self.old self.new }
     {
         let console = e.console.number();
         match self.consoles[console as usize - 1] {

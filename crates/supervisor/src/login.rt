@@ -52,7 +52,8 @@ pub(crate) fn mark_on(accounts: &mut Accounts, sessions: &[Session])
     requires few { length accounts.old.list ≤ 30 }
     requires all { length accounts.old.list ≤ length sessions.now }
     ensures list { accounts.new.list ≡ accounts.old.list }
-    ensures on { (u : ℕ) → 0 < u → u ≤ length accounts.old.list → at false accounts.new.on u ≡ (user_at u sessions.now).on }
+    ensures on { (u : ℕ) → 0 < u → u ≤ length accounts.old.list
+        → at false accounts.new.on u ≡ (user_at u sessions.now).on }
 {
     let count = accounts.list().len();
     'users: for i in 0..count {

@@ -1,10 +1,9 @@
 //! Whom the queues serve, and how a service ends.
-ghost use Rattle.std.specs.Prelude.{◌≡◌, ◌<◌, ◌≤◌, ◌+◌, ◌-◌, ◌^◌, length, vec_len, vec_capacity, OnOk, OnErr};
-ghost use Rattle.plan_model.specs.Loads.{Places};
+ghost use Rattle.std.specs.Prelude.{◌≡◌, ◌<◌, ◌≤◌, ◌+◌, ◌-◌, length, vec_len, vec_capacity};
 ghost use Rattle.system_model.specs.Cases.{idled, served, waited};
 ghost use Rattle.system_model.specs.Joined.{counted, moved};
 ghost use Rattle.system_model.specs.Runs.{elapsed};
-ghost use Rattle.supervisor.specs.Seen.{seen, left_queues};
+ghost use Rattle.supervisor.specs.Seen.{left_queues, Becomes, BecomesIf, StaysIf};
 
 use crate::notes::{
     cause_of, idle_from, leave_consoles, note, note_clock, note_service, service_after,
@@ -41,7 +40,7 @@ impl State {
     /// Nobody waits: the clock goes on.
     #[tactic(auto, unfolding(system_model::specs::Cases::idled))]
     pub(crate) fn idle(&mut self, limit: u64)
-        ensures { (places : Places) → seen places self.new ≡ idled limit (seen places self.old) }
+        ensures { Becomes (idled limit) self.old self.new }
     {
         self.idling = Some(idle_from(self.idling, self.clock));
         self.clock = match self.events.front() {
@@ -53,8 +52,8 @@ impl State {
     /// A service ends with no step.
     #[tactic(auto, unfolding(system_model::specs::Cases::served))]
     pub(crate) fn end_service(&mut self, cause: Cause, v: Service) -> Result<(), NoMemory>
-        ensures ok { (places : Places) → OnOk result (seen places self.new ≡ served cause v (seen places self.old)) }
-        ensures err { (places : Places) → OnErr result (seen places self.new ≡ seen places self.old) }
+        ensures ok { BecomesIf result (served cause v) self.old self.new }
+        ensures err { StaysIf result self.old self.new }
     {
         self.entries.reserve(1)?;
         note(
@@ -76,7 +75,7 @@ impl State {
     pub(crate) fn bring(&mut self, user: UserNo, plan: Plan)
         requires room { vec_len self.old.entries < vec_capacity self.old.entries }
         requires before { self.old.clock ≤ 100000000 }
-        ensures { (places : Places) → seen places self.new ≡ moved user plan.dumped plan.read plan.fresh (seen places self.old) }
+        ensures { Becomes (moved user plan.dumped plan.read plan.fresh) self.old self.new }
     {
         note(
             &mut self.entries,
@@ -101,7 +100,7 @@ impl State {
         requires few { length self.old.sessions.items ≤ 30 }
         requires ran { v.ran ≤ self.old.clock }
         requires before { self.old.clock ≤ 100000000 }
-        ensures { (places : Places) → seen places self.new ≡ counted v step.ending step.clock (seen places self.old) }
+        ensures { Becomes (counted v step.ending step.clock) self.old self.new }
     {
         let session = &self.sessions[v.user as usize - 1];
         let unread = session.has_line();
@@ -128,7 +127,7 @@ impl State {
         requires few { v.user ≤ 30 }
         requires ran { v.ran ≤ self.old.clock }
         requires before { self.old.clock + ticks ≤ 100000000 }
-        ensures { (places : Places) → seen places self.new ≡ elapsed ticks v (seen places self.old) }
+        ensures { Becomes (elapsed ticks v) self.old self.new }
     {
         self.queues.spend(UserNo::of(v.user), ticks);
         self.clock += ticks;
@@ -149,7 +148,7 @@ impl State {
         requires few { length self.old.sessions.items ≤ 30 }
         requires ran { v.ran ≤ self.old.clock }
         requires before { self.old.clock ≤ 100000000 }
-        ensures { (places : Places) → seen places self.new ≡ waited v (seen places self.old) }
+        ensures { Becomes (waited v) self.old self.new }
     {
         let _ = self.queues.charge(UserNo::of(v.user));
         self.queues.drop_user(UserNo::of(v.user));

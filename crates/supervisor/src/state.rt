@@ -1,11 +1,11 @@
 //! The state of a run but for users' cores.
-ghost use Rattle.std.specs.Prelude.{◌≡◌, OnOk, OnErr};
+ghost use Rattle.std.specs.Prelude.{◌≡◌, OnErr};
 ghost use Rattle.std.specs.Option.{is_some};
-ghost use Rattle.plan_model.specs.Loads.{Places, no_places};
+ghost use Rattle.plan_model.specs.Loads.{no_places};
 ghost use Rattle.system_model.specs.Sound.{Sound, HasSeat};
 ghost use Rattle.system_model.specs.Run.{given, due_of};
 ghost use Rattle.system_model.specs.Cases.{closed};
-ghost use Rattle.supervisor.specs.Seen.{seen, bare_of};
+ghost use Rattle.supervisor.specs.Seen.{seen, bare_of, BecomesIf, StaysIf};
 
 use crate::notes::{end_note, idle_note, note_some};
 use accounts::Accounts;
@@ -73,7 +73,7 @@ impl State {
     pub(crate) fn take(&mut self, e: Timed) -> Result<(), NoMemory>
         requires sound { Sound (seen no_places self.old) }
         requires seat { HasSeat e (seen no_places self.old) }
-        ensures ok { (places : Places) → OnOk result (seen places self.new ≡ given e (seen places self.old)) }
+        ensures ok { BecomesIf result (given e) self.old self.new }
         ensures err { OnErr result (bare_of self.new ≡ bare_of self.old) }
         ensures consoles { self.new.consoles.items ≡ self.old.consoles.items }
         ensures sessions { self.new.sessions.items ≡ self.old.sessions.items }
@@ -92,8 +92,8 @@ impl State {
     /// An open service and open idling end.
     #[tactic(auto, unfolding(system_model::specs::Cases::closed))]
     pub(crate) fn close(&mut self) -> Result<(), NoMemory>
-        ensures ok { (places : Places) → OnOk result (seen places self.new ≡ closed (seen places self.old)) }
-        ensures err { (places : Places) → OnErr result (seen places self.new ≡ seen places self.old) }
+        ensures ok { BecomesIf result closed self.old self.new }
+        ensures err { StaysIf result self.old self.new }
     {
         self.entries.reserve(2)?;
         note_some(&mut self.entries, end_note(self.service));

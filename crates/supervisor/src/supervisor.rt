@@ -1,14 +1,12 @@
-ghost use Rattle.std.specs.Prelude.{◌≡◌, ◌≤◌, ◌-◌, ◌^◌, ◌++◌, [], min, length, take, drop, replicate, true, false, ⊤};
-ghost use Rattle.faults.specs.Faults.{Rose};
+ghost use Rattle.std.specs.Prelude.{◌≡◌, ◌≤◌, ◌-◌, ◌^◌, ◌++◌, [], min, length, take, drop, replicate, false};
 ghost use Rattle.time_sharing.specs.System.{at};
 ghost use Rattle.system_model.specs.Run.{given, ended};
 ghost use Rattle.plan_model.specs.Loads.{Places, no_places};
 ghost use Rattle.system_model.specs.Record.{start_of, record_from};
 ghost use Rattle.system_model.specs.Sound.{HasSeat};
-ghost use Rattle.supervisor.specs.Counts.{IsCounted};
 ghost use Rattle.supervisor.specs.Seen.{AreFit, record_so_far, run_with};
-ghost use Rattle.supervisor.specs.Shows.{HasTexts, HasTextsPart, HasTextsToLoad};
-ghost use Rattle.supervisor.specs.Steps.{IsTied, HasRun, HasRunPart, HasRunToLoad, Ends, Lasts};
+ghost use Rattle.supervisor.specs.Steps.{Lasts};
+ghost use Rattle.supervisor.specs.Whole.{whole_of, Agrees, Advances};
 ghost use Rattle.std.specs.Prelude.{IfOk, OnOk, OnErr};
 
 use crate::finish::{parts_of, transcripts_of};
@@ -39,7 +37,10 @@ impl Model for Supervisor {
 
     ghost Value = { Bare };
 
-    ghost view = { λ s. record (bare_of s.watch.state) { texts = texts_of s.watch.state.sessions.items s.watch.texts; ended = s.ended } };
+    ghost view = { λ s. record (bare_of s.watch.state) {
+        texts = texts_of s.watch.state.sessions.items s.watch.texts;
+        ended = s.ended;
+    } };
 
     ghost invariant = { λ s. Sound (seen no_places s.watch.state)
         × IsTold s.watch.state.consoles.items s.watch.state.sessions.items s.watch.texts };
@@ -68,7 +69,8 @@ impl Supervisor {
     /// An event more, behind those that are left. Its tick is at least that of each earlier event.
     pub fn take(&mut self, e: Timed) -> Result<(), NoMemory>
         requires seat { HasSeat e (run_with no_places self.old) }
-        ensures ok { (places : Places) → OnOk result (run_with places self.new ≡ given e (run_with places self.old)) }
+        ensures ok { (places : Places)
+            → OnOk result (run_with places self.new ≡ given e (run_with places self.old)) }
         ensures err { OnErr result (self.new ≡ self.old) }
         ensures texts { self.new.texts ≡ self.old.texts }
         ensures same { self.new.ended ≡ self.old.ended }
@@ -80,27 +82,12 @@ impl Supervisor {
     /// After a fault of the drum the run may only be stopped.
     pub fn advance<C: Cores>(&mut self, cores: &mut C, limit: u64) -> Result<(), RunFault>
         requires works { C.Works cores.old }
-        requires tied { IsTied self.old.users (C.state cores.old).memory }
+        requires agrees { Agrees (whole_of self.old (C.state cores.old)) }
         requires limit { limit ≤ 100000000 }
-        ensures ended { Ends result (HasRun limit (run_with (C.state cores.old).memory.places self.old)
-            (run_with (C.state cores.new).memory.places self.new) (C.state cores.old).memory (C.state cores.new).memory)
-            (HasRunPart limit (run_with (C.state cores.old).memory.places self.old)
-            (run_with (C.state cores.new).memory.places self.new) (C.state cores.old).memory (C.state cores.new).memory)
-            (HasRunToLoad limit (run_with (C.state cores.old).memory.places self.old) (run_with no_places self.new) (C.state cores.old).memory
-            (C.state cores.old).calls (C.state cores.new).calls × Rose (C.state cores.old).faults (C.state cores.new).faults) }
-        ensures counted { Ends result (IsCounted self.old.entries self.new.entries (C.state cores.old).calls (C.state cores.new).calls)
-            (IsCounted self.old.entries self.new.entries (C.state cores.old).calls (C.state cores.new).calls) ⊤ }
-        ensures texts { Ends result (HasTexts limit (run_with (C.state cores.old).memory.places self.old) (C.state cores.old).memory self.old.texts self.new.texts)
-            (HasTextsPart limit (run_with (C.state cores.old).memory.places self.old)
-            (run_with (C.state cores.new).memory.places self.new) (C.state cores.old).memory (C.state cores.new).memory self.old.texts self.new.texts)
-            (HasTextsToLoad limit (run_with (C.state cores.old).memory.places self.old) (run_with no_places self.new) (C.state cores.old).memory
-            self.old.texts self.new.texts) }
-        ensures cut { Ends result (self.new.ended ≡ self.old.ended) (self.new.ended ≡ true) (self.new.ended ≡ true) }
-        ensures tells { Lasts result ((C.state cores.new).memory.tells ≡ (C.state cores.old).memory.tells) }
-        ensures tied { Lasts result (IsTied self.new.users (C.state cores.new).memory) }
+        ensures advances { Advances limit result
+            (whole_of self.old (C.state cores.old)) (whole_of self.new (C.state cores.new)) }
         ensures works { Lasts result (C.Works cores.new) }
         ensures keeps { C.Keeps cores.old cores.new }
-        ensures kept { (C.state cores.old).faults ≤ (C.state cores.new).faults }
     {
         let done = self.watch.advance(cores, limit);
         if done.is_err() {

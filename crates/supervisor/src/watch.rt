@@ -1,16 +1,15 @@
 //! Steps of the state, with what the consoles show of them.
-ghost use Rattle.std.specs.Prelude.{◌≡◌, ◌<◌, ◌≤◌, length, map, true, Some, None, ⊤};
+ghost use Rattle.std.specs.Prelude.{◌≡◌, ◌<◌, ◌≤◌, length, map, true, Some, None};
 ghost use Rattle.std.specs.Option.{is_some};
-ghost use Rattle.faults.specs.Faults.{Rose};
 ghost use Rattle.plan_model.specs.Loads.{no_places};
 ghost use Rattle.user_model.specs.User.{User};
 ghost use Rattle.system_model.specs.Run.{next, due_of};
 ghost use Rattle.system_model.specs.Sound.{Sound};
 ghost use Rattle.console_texts.specs.Watching.{refused_by, refusal_in as console_of};
-ghost use Rattle.supervisor.specs.Counts.{IsCounted};
 ghost use Rattle.supervisor.specs.Seen.{seen};
-ghost use Rattle.supervisor.specs.Shows.{texts_of, IsTold, GoesOn, HasTexts, HasTextsPart, HasTextsToLoad};
-ghost use Rattle.supervisor.specs.Steps.{Does, Stays, IsHeld, IsTied, NextLoadFails, HasRun, HasRunPart, HasRunToLoad, Ends, Lasts};
+ghost use Rattle.supervisor.specs.Shows.{IsTold};
+ghost use Rattle.supervisor.specs.Steps.{Lasts};
+ghost use Rattle.supervisor.specs.Whole.{watched, Holds, Agrees, AreCountedBy, NextIsCut, Steps, TextsFollow, RunsTo, TextsRunTo};
 
 use crate::state::State;
 use arrayvec::ArrayVec;
@@ -69,27 +68,21 @@ impl Watch {
     /// One step, at which an event is due.
     fn hear<C: Cores>(&mut self, cores: &mut C, limit: u64) -> Result<(), RunFault>
         requires works { C.Works cores.old }
-        requires held { IsHeld (seen (C.state cores.old).memory.places self.old.state) (C.state cores.old).memory }
+        requires held { Holds (watched self.old (C.state cores.old)) }
         requires told { IsTold self.old.state.consoles.items self.old.state.sessions.items self.old.texts }
         requires due { is_some (due_of self.old.state.events.items self.old.state.clock) ≡ true }
         requires before { self.old.state.clock < limit }
         requires limit { limit ≤ 100000000 }
-        ensures ended { Ends result (Does (next limit) (seen (C.state cores.old).memory.places self.old.state)
-            (seen (C.state cores.new).memory.places self.new.state) (C.state cores.old).memory (C.state cores.new).memory)
-            (Stays (seen (C.state cores.old).memory.places self.old.state)
-            (seen (C.state cores.new).memory.places self.new.state) (C.state cores.old).memory (C.state cores.new).memory)
-            ((seen no_places self.new.state ≡ seen no_places self.old.state) × Rose (C.state cores.old).faults (C.state cores.new).faults
-            × NextLoadFails (seen (C.state cores.old).memory.places self.old.state) (C.state cores.old).calls (C.state cores.new).calls) }
-        ensures counted { Ends result (IsCounted self.old.state.entries.items self.new.state.entries.items (C.state cores.old).calls (C.state cores.new).calls)
-            (IsCounted self.old.state.entries.items self.new.state.entries.items (C.state cores.old).calls (C.state cores.new).calls) ⊤ }
-        ensures tied { Lasts result (IsTied self.new.state.sessions.items (C.state cores.new).memory) }
+        ensures ended { Steps (next limit) NextIsCut result
+            (watched self.old (C.state cores.old)) (watched self.new (C.state cores.new)) }
+        ensures counted { AreCountedBy result
+            (watched self.old (C.state cores.old)) (watched self.new (C.state cores.new)) }
+        ensures tied { Lasts result (Agrees (watched self.new (C.state cores.new))) }
         ensures works { Lasts result (C.Works cores.new) }
         ensures keeps { C.Keeps cores.old cores.new }
         ensures kept { (C.state cores.old).faults ≤ (C.state cores.new).faults }
-        ensures texts { Ends result (GoesOn limit (seen (C.state cores.old).memory.places self.old.state) (seen (C.state cores.new).memory.places self.new.state)
-            (texts_of self.old.state.sessions.items self.old.texts) (texts_of self.new.state.sessions.items self.new.texts))
-            (texts_of self.new.state.sessions.items self.new.texts ≡ texts_of self.old.state.sessions.items self.old.texts)
-            (texts_of self.new.state.sessions.items self.new.texts ≡ texts_of self.old.state.sessions.items self.old.texts) }
+        ensures texts { TextsFollow limit result
+            (watched self.old (C.state cores.old)) (watched self.new (C.state cores.new)) }
         ensures told { IsTold self.new.state.consoles.items self.new.state.sessions.items self.new.texts }
     {
         if self.texts.reserve().is_err() {
@@ -113,27 +106,21 @@ impl Watch {
     /// One step, at which no event is due.
     fn go<C: Cores>(&mut self, cores: &mut C, limit: u64) -> Result<(), RunFault>
         requires works { C.Works cores.old }
-        requires held { IsHeld (seen (C.state cores.old).memory.places self.old.state) (C.state cores.old).memory }
+        requires held { Holds (watched self.old (C.state cores.old)) }
         requires told { IsTold self.old.state.consoles.items self.old.state.sessions.items self.old.texts }
         requires quiet { due_of self.old.state.events.items self.old.state.clock ≡ None }
         requires before { self.old.state.clock < limit }
         requires limit { limit ≤ 100000000 }
-        ensures ended { Ends result (Does (next limit) (seen (C.state cores.old).memory.places self.old.state)
-            (seen (C.state cores.new).memory.places self.new.state) (C.state cores.old).memory (C.state cores.new).memory)
-            (Stays (seen (C.state cores.old).memory.places self.old.state)
-            (seen (C.state cores.new).memory.places self.new.state) (C.state cores.old).memory (C.state cores.new).memory)
-            ((seen no_places self.new.state ≡ seen no_places self.old.state) × Rose (C.state cores.old).faults (C.state cores.new).faults
-            × NextLoadFails (seen (C.state cores.old).memory.places self.old.state) (C.state cores.old).calls (C.state cores.new).calls) }
-        ensures counted { Ends result (IsCounted self.old.state.entries.items self.new.state.entries.items (C.state cores.old).calls (C.state cores.new).calls)
-            (IsCounted self.old.state.entries.items self.new.state.entries.items (C.state cores.old).calls (C.state cores.new).calls) ⊤ }
-        ensures tied { Lasts result (IsTied self.new.state.sessions.items (C.state cores.new).memory) }
+        ensures ended { Steps (next limit) NextIsCut result
+            (watched self.old (C.state cores.old)) (watched self.new (C.state cores.new)) }
+        ensures counted { AreCountedBy result
+            (watched self.old (C.state cores.old)) (watched self.new (C.state cores.new)) }
+        ensures tied { Lasts result (Agrees (watched self.new (C.state cores.new))) }
         ensures works { Lasts result (C.Works cores.new) }
         ensures keeps { C.Keeps cores.old cores.new }
         ensures kept { (C.state cores.old).faults ≤ (C.state cores.new).faults }
-        ensures texts { Ends result (GoesOn limit (seen (C.state cores.old).memory.places self.old.state) (seen (C.state cores.new).memory.places self.new.state)
-            (texts_of self.old.state.sessions.items self.old.texts) (texts_of self.new.state.sessions.items self.new.texts))
-            (texts_of self.new.state.sessions.items self.new.texts ≡ texts_of self.old.state.sessions.items self.old.texts)
-            (texts_of self.new.state.sessions.items self.new.texts ≡ texts_of self.old.state.sessions.items self.old.texts) }
+        ensures texts { TextsFollow limit result
+            (watched self.old (C.state cores.old)) (watched self.new (C.state cores.new)) }
         ensures told { IsTold self.new.state.consoles.items self.new.state.sessions.items self.new.texts }
     {
         match self.state.step_on(cores, limit) {
@@ -153,26 +140,20 @@ impl Watch {
     /// One step.
     fn step<C: Cores>(&mut self, cores: &mut C, limit: u64) -> Result<(), RunFault>
         requires works { C.Works cores.old }
-        requires held { IsHeld (seen (C.state cores.old).memory.places self.old.state) (C.state cores.old).memory }
+        requires held { Holds (watched self.old (C.state cores.old)) }
         requires told { IsTold self.old.state.consoles.items self.old.state.sessions.items self.old.texts }
         requires before { self.old.state.clock < limit }
         requires limit { limit ≤ 100000000 }
-        ensures ended { Ends result (Does (next limit) (seen (C.state cores.old).memory.places self.old.state)
-            (seen (C.state cores.new).memory.places self.new.state) (C.state cores.old).memory (C.state cores.new).memory)
-            (Stays (seen (C.state cores.old).memory.places self.old.state)
-            (seen (C.state cores.new).memory.places self.new.state) (C.state cores.old).memory (C.state cores.new).memory)
-            ((seen no_places self.new.state ≡ seen no_places self.old.state) × Rose (C.state cores.old).faults (C.state cores.new).faults
-            × NextLoadFails (seen (C.state cores.old).memory.places self.old.state) (C.state cores.old).calls (C.state cores.new).calls) }
-        ensures counted { Ends result (IsCounted self.old.state.entries.items self.new.state.entries.items (C.state cores.old).calls (C.state cores.new).calls)
-            (IsCounted self.old.state.entries.items self.new.state.entries.items (C.state cores.old).calls (C.state cores.new).calls) ⊤ }
-        ensures tied { Lasts result (IsTied self.new.state.sessions.items (C.state cores.new).memory) }
+        ensures ended { Steps (next limit) NextIsCut result
+            (watched self.old (C.state cores.old)) (watched self.new (C.state cores.new)) }
+        ensures counted { AreCountedBy result
+            (watched self.old (C.state cores.old)) (watched self.new (C.state cores.new)) }
+        ensures tied { Lasts result (Agrees (watched self.new (C.state cores.new))) }
         ensures works { Lasts result (C.Works cores.new) }
         ensures keeps { C.Keeps cores.old cores.new }
         ensures kept { (C.state cores.old).faults ≤ (C.state cores.new).faults }
-        ensures texts { Ends result (GoesOn limit (seen (C.state cores.old).memory.places self.old.state) (seen (C.state cores.new).memory.places self.new.state)
-            (texts_of self.old.state.sessions.items self.old.texts) (texts_of self.new.state.sessions.items self.new.texts))
-            (texts_of self.new.state.sessions.items self.new.texts ≡ texts_of self.old.state.sessions.items self.old.texts)
-            (texts_of self.new.state.sessions.items self.new.texts ≡ texts_of self.old.state.sessions.items self.old.texts) }
+        ensures texts { TextsFollow limit result
+            (watched self.old (C.state cores.old)) (watched self.new (C.state cores.new)) }
         ensures told { IsTold self.new.state.consoles.items self.new.state.sessions.items self.new.texts }
     {
         if self.state.is_due() {
@@ -184,26 +165,17 @@ impl Watch {
     /// Whole steps, up to the limit.
     pub(crate) fn advance<C: Cores>(&mut self, cores: &mut C, limit: u64) -> Result<(), RunFault>
         requires works { C.Works cores.old }
-        requires held { IsHeld (seen (C.state cores.old).memory.places self.old.state) (C.state cores.old).memory }
+        requires held { Holds (watched self.old (C.state cores.old)) }
         requires told { IsTold self.old.state.consoles.items self.old.state.sessions.items self.old.texts }
         requires limit { limit ≤ 100000000 }
-        ensures ended { Ends result (HasRun limit (seen (C.state cores.old).memory.places self.old.state)
-            (seen (C.state cores.new).memory.places self.new.state) (C.state cores.old).memory (C.state cores.new).memory)
-            (HasRunPart limit (seen (C.state cores.old).memory.places self.old.state)
-            (seen (C.state cores.new).memory.places self.new.state) (C.state cores.old).memory (C.state cores.new).memory)
-            (HasRunToLoad limit (seen (C.state cores.old).memory.places self.old.state) (seen no_places self.new.state) (C.state cores.old).memory
-            (C.state cores.old).calls (C.state cores.new).calls × Rose (C.state cores.old).faults (C.state cores.new).faults) }
-        ensures texts { Ends result (HasTexts limit (seen (C.state cores.old).memory.places self.old.state) (C.state cores.old).memory
-            (texts_of self.old.state.sessions.items self.old.texts) (texts_of self.new.state.sessions.items self.new.texts))
-            (HasTextsPart limit (seen (C.state cores.old).memory.places self.old.state)
-            (seen (C.state cores.new).memory.places self.new.state) (C.state cores.old).memory (C.state cores.new).memory
-            (texts_of self.old.state.sessions.items self.old.texts) (texts_of self.new.state.sessions.items self.new.texts))
-            (HasTextsToLoad limit (seen (C.state cores.old).memory.places self.old.state) (seen no_places self.new.state) (C.state cores.old).memory
-            (texts_of self.old.state.sessions.items self.old.texts) (texts_of self.new.state.sessions.items self.new.texts)) }
-        ensures counted { Ends result (IsCounted self.old.state.entries.items self.new.state.entries.items (C.state cores.old).calls (C.state cores.new).calls)
-            (IsCounted self.old.state.entries.items self.new.state.entries.items (C.state cores.old).calls (C.state cores.new).calls) ⊤ }
+        ensures ended { RunsTo limit result
+            (watched self.old (C.state cores.old)) (watched self.new (C.state cores.new)) }
+        ensures texts { TextsRunTo limit result
+            (watched self.old (C.state cores.old)) (watched self.new (C.state cores.new)) }
+        ensures counted { AreCountedBy result
+            (watched self.old (C.state cores.old)) (watched self.new (C.state cores.new)) }
         ensures tells { Lasts result ((C.state cores.new).memory.tells ≡ (C.state cores.old).memory.tells) }
-        ensures held { Lasts result (IsHeld (seen (C.state cores.new).memory.places self.new.state) (C.state cores.new).memory) }
+        ensures held { Lasts result (Holds (watched self.new (C.state cores.new))) }
         ensures works { Lasts result (C.Works cores.new) }
         ensures sound { Sound (seen no_places self.new.state) }
         ensures told { IsTold self.new.state.consoles.items self.new.state.sessions.items self.new.texts }

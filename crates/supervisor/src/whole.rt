@@ -1,21 +1,18 @@
 //! Steps of the state together with users' cores, one after another.
-ghost use Rattle.std.specs.Prelude.{◌≡◌, ◌<◌, ◌≤◌, ◌+◌, ◌-◌, ◌^◌, length, true, false, Some, None, OnOk, OnErr, IfOk, ⊤};
+ghost use Rattle.std.specs.Prelude.{◌≡◌, ◌<◌, ◌≤◌, ◌+◌, ◌-◌, length, true, false, Some, None, OnOk, OnErr};
 ghost use Rattle.std.specs.Option.{is_some};
-ghost use Rattle.faults.specs.Faults.{Rose};
 ghost use Rattle.drum_slots.specs.Keys.{quota_of};
 ghost use Rattle.image_map.specs.Images.{size_of};
 ghost use Rattle.plan_model.specs.Levels.{chosen, user_of};
-ghost use Rattle.plan_model.specs.Loads.{Places, is_loaded, no_places};
+ghost use Rattle.plan_model.specs.Loads.{is_loaded};
 ghost use Rattle.system_model.specs.Run.{next, taken, otherwise, attended, due_of};
 ghost use Rattle.system_model.specs.Cases.{served, idled};
-ghost use Rattle.system_model.specs.Sound.{HasSeat, IsUser, Sound};
+ghost use Rattle.system_model.specs.Sound.{HasSeat, IsUser};
 ghost use Rattle.time_sharing.specs.Machine.{Went};
 ghost use Rattle.time_sharing.specs.System.{Preempt, next_tick};
-ghost use Rattle.user_cores.specs.Swaps.{IsCutOff};
-ghost use Rattle.supervisor.specs.Counts.{IsCounted, calls_to_load};
-ghost use Rattle.supervisor.specs.Runs.{DoesMany};
-ghost use Rattle.supervisor.specs.Seen.{seen, number_of};
-ghost use Rattle.supervisor.specs.Steps.{Does, Stays, IsHeld, IsTied, IsLeft, IsSettled, LoadFails, NextLoadFails, HasRun, HasRunPart, HasRunToLoad, Ends, Lasts};
+ghost use Rattle.supervisor.specs.Seen.{number_of};
+ghost use Rattle.supervisor.specs.Steps.{IsLeft, IsSettled, Lasts};
+ghost use Rattle.supervisor.specs.Whole.{whole, run_of, Holds, HasBlocks, StepsBy, IsSame, StepsOn, Agrees, AreCounted, AreCountedBy, LoadIsCut, AbsentIsCut, ServedIsCut, NextIsCut, Steps};
 
 use crate::state::State;
 use ctss_types::{Cause, Ending, NoMemory, RunFault, Service, Timed, UserNo};
@@ -61,14 +58,13 @@ impl State {
     /// The event that is due.
     fn hear<C: Cores>(&mut self, cores: &mut C, e: Timed) -> Result<(), NoMemory>
         requires works { C.Works cores.old }
-        requires held { IsHeld (seen (C.state cores.old).memory.places self.old) (C.state cores.old).memory }
-        requires seat { HasSeat e (seen (C.state cores.old).memory.places self.old) }
-        ensures ok { OnOk result (Does (taken e) (seen (C.state cores.old).memory.places self.old)
-            (seen (C.state cores.new).memory.places self.new) (C.state cores.old).memory (C.state cores.new).memory) }
-        ensures err { OnErr result (Stays (seen (C.state cores.old).memory.places self.old)
-            (seen (C.state cores.new).memory.places self.new) (C.state cores.old).memory (C.state cores.new).memory) }
-        ensures counted { IsCounted self.old.entries.items self.new.entries.items (C.state cores.old).calls (C.state cores.new).calls }
-        ensures tied { IsTied self.new.sessions.items (C.state cores.new).memory }
+        requires held { Holds (whole self.old (C.state cores.old)) }
+        requires seat { HasSeat e (run_of (whole self.old (C.state cores.old))) }
+        ensures ok { OnOk result (StepsBy (taken e)
+            (whole self.old (C.state cores.old)) (whole self.new (C.state cores.new))) }
+        ensures err { OnErr result (IsSame (whole self.old (C.state cores.old)) (whole self.new (C.state cores.new))) }
+        ensures counted { AreCounted (whole self.old (C.state cores.old)) (whole self.new (C.state cores.new)) }
+        ensures tied { Agrees (whole self.new (C.state cores.new)) }
         ensures works { C.Works cores.new }
         ensures keeps { C.Keeps cores.old cores.new }
         ensures faults { (C.state cores.new).faults ≡ (C.state cores.old).faults }
@@ -81,19 +77,15 @@ impl State {
     /// The blocks of the user that is served are brought into core.
     fn fetch<C: Cores>(&mut self, cores: &mut C, v: Service) -> Result<(), RunFault>
         requires works { C.Works cores.old }
-        requires held { IsHeld (seen (C.state cores.old).memory.places self.old) (C.state cores.old).memory }
-        requires user { IsUser v.user (seen (C.state cores.old).memory.places self.old) }
-        requires absent { is_loaded (C.state cores.old).memory.places v.user (size_of (C.state cores.old).memory.sizes v.user) ≡ false }
+        requires held { Holds (whole self.old (C.state cores.old)) }
+        requires user { IsUser v.user (run_of (whole self.old (C.state cores.old))) }
+        requires absent { HasBlocks v.user false (whole self.old (C.state cores.old)) }
         requires before { self.old.clock ≤ 100000000 }
-        ensures ended { Ends result (Does (attended v) (seen (C.state cores.old).memory.places self.old)
-            (seen (C.state cores.new).memory.places self.new) (C.state cores.old).memory (C.state cores.new).memory)
-            (Stays (seen (C.state cores.old).memory.places self.old)
-            (seen (C.state cores.new).memory.places self.new) (C.state cores.old).memory (C.state cores.new).memory)
-            ((seen no_places self.new ≡ seen no_places self.old) × Rose (C.state cores.old).faults (C.state cores.new).faults
-            × IsCutOff (C.state cores.old).calls (C.state cores.new).calls (calls_to_load v.user (seen (C.state cores.old).memory.places self.old))) }
-        ensures counted { Ends result (IsCounted self.old.entries.items self.new.entries.items (C.state cores.old).calls (C.state cores.new).calls)
-            (IsCounted self.old.entries.items self.new.entries.items (C.state cores.old).calls (C.state cores.new).calls) ⊤ }
-        ensures tied { Lasts result (IsTied self.new.sessions.items (C.state cores.new).memory) }
+        ensures ended { Steps (attended v) (LoadIsCut v.user) result
+            (whole self.old (C.state cores.old)) (whole self.new (C.state cores.new)) }
+        ensures counted { AreCountedBy result
+            (whole self.old (C.state cores.old)) (whole self.new (C.state cores.new)) }
+        ensures tied { Lasts result (Agrees (whole self.new (C.state cores.new))) }
         ensures works { Lasts result (C.Works cores.new) }
         ensures keeps { C.Keeps cores.old cores.new }
         ensures kept { (C.state cores.old).faults ≤ (C.state cores.new).faults }
@@ -114,17 +106,16 @@ impl State {
     /// A step of the user that is served, whose blocks are in core; where it can't step, it waits.
     fn serve<C: Cores>(&mut self, cores: &mut C, v: Service) -> Result<(), NoMemory>
         requires works { C.Works cores.old }
-        requires held { IsHeld (seen (C.state cores.old).memory.places self.old) (C.state cores.old).memory }
-        requires user { IsUser v.user (seen (C.state cores.old).memory.places self.old) }
-        requires loaded { is_loaded (C.state cores.old).memory.places v.user (size_of (C.state cores.old).memory.sizes v.user) ≡ true }
+        requires held { Holds (whole self.old (C.state cores.old)) }
+        requires user { IsUser v.user (run_of (whole self.old (C.state cores.old))) }
+        requires loaded { HasBlocks v.user true (whole self.old (C.state cores.old)) }
         requires ran { v.ran ≤ self.old.clock }
         requires before { self.old.clock ≤ 100000000 }
-        ensures ok { OnOk result (Does (attended v) (seen (C.state cores.old).memory.places self.old)
-            (seen (C.state cores.new).memory.places self.new) (C.state cores.old).memory (C.state cores.new).memory) }
-        ensures err { OnErr result (Stays (seen (C.state cores.old).memory.places self.old)
-            (seen (C.state cores.new).memory.places self.new) (C.state cores.old).memory (C.state cores.new).memory) }
-        ensures counted { IsCounted self.old.entries.items self.new.entries.items (C.state cores.old).calls (C.state cores.new).calls }
-        ensures tied { IsTied self.new.sessions.items (C.state cores.new).memory }
+        ensures ok { OnOk result (StepsBy (attended v)
+            (whole self.old (C.state cores.old)) (whole self.new (C.state cores.new))) }
+        ensures err { OnErr result (IsSame (whole self.old (C.state cores.old)) (whole self.new (C.state cores.new))) }
+        ensures counted { AreCounted (whole self.old (C.state cores.old)) (whole self.new (C.state cores.new)) }
+        ensures tied { Agrees (whole self.new (C.state cores.new)) }
         ensures works { C.Works cores.new }
         ensures keeps { C.Keeps cores.old cores.new }
         ensures faults { (C.state cores.new).faults ≡ (C.state cores.old).faults }
@@ -146,20 +137,15 @@ impl State {
     /// The user that is served: its blocks are brought in, or it steps.
     fn attend<C: Cores>(&mut self, cores: &mut C, v: Service) -> Result<(), RunFault>
         requires works { C.Works cores.old }
-        requires held { IsHeld (seen (C.state cores.old).memory.places self.old) (C.state cores.old).memory }
-        requires user { IsUser v.user (seen (C.state cores.old).memory.places self.old) }
+        requires held { Holds (whole self.old (C.state cores.old)) }
+        requires user { IsUser v.user (run_of (whole self.old (C.state cores.old))) }
         requires ran { v.ran ≤ self.old.clock }
         requires before { self.old.clock ≤ 100000000 }
-        ensures ended { Ends result (Does (attended v) (seen (C.state cores.old).memory.places self.old)
-            (seen (C.state cores.new).memory.places self.new) (C.state cores.old).memory (C.state cores.new).memory)
-            (Stays (seen (C.state cores.old).memory.places self.old)
-            (seen (C.state cores.new).memory.places self.new) (C.state cores.old).memory (C.state cores.new).memory)
-            ((seen no_places self.new ≡ seen no_places self.old) × Rose (C.state cores.old).faults (C.state cores.new).faults
-            × (is_loaded (C.state cores.old).memory.places v.user (size_of (C.state cores.old).memory.sizes v.user) ≡ false)
-            × IsCutOff (C.state cores.old).calls (C.state cores.new).calls (calls_to_load v.user (seen (C.state cores.old).memory.places self.old))) }
-        ensures counted { Ends result (IsCounted self.old.entries.items self.new.entries.items (C.state cores.old).calls (C.state cores.new).calls)
-            (IsCounted self.old.entries.items self.new.entries.items (C.state cores.old).calls (C.state cores.new).calls) ⊤ }
-        ensures tied { Lasts result (IsTied self.new.sessions.items (C.state cores.new).memory) }
+        ensures ended { Steps (attended v) (AbsentIsCut v.user) result
+            (whole self.old (C.state cores.old)) (whole self.new (C.state cores.new)) }
+        ensures counted { AreCountedBy result
+            (whole self.old (C.state cores.old)) (whole self.new (C.state cores.new)) }
+        ensures tied { Lasts result (Agrees (whole self.new (C.state cores.new))) }
         ensures works { Lasts result (C.Works cores.new) }
         ensures keeps { C.Keeps cores.old cores.new }
         ensures kept { (C.state cores.old).faults ≤ (C.state cores.new).faults }
@@ -176,13 +162,12 @@ impl State {
     /// A service ends, since its user isn't the head of the lowest level.
     fn preempt<C: Cores>(&mut self, cores: &mut C, v: Service) -> Result<(), NoMemory>
         requires works { C.Works cores.old }
-        requires held { IsHeld (seen (C.state cores.old).memory.places self.old) (C.state cores.old).memory }
-        ensures ok { OnOk result (Does (served Preempt v) (seen (C.state cores.old).memory.places self.old)
-            (seen (C.state cores.new).memory.places self.new) (C.state cores.old).memory (C.state cores.new).memory) }
-        ensures err { OnErr result (Stays (seen (C.state cores.old).memory.places self.old)
-            (seen (C.state cores.new).memory.places self.new) (C.state cores.old).memory (C.state cores.new).memory) }
-        ensures counted { IsCounted self.old.entries.items self.new.entries.items (C.state cores.old).calls (C.state cores.new).calls }
-        ensures tied { IsTied self.new.sessions.items (C.state cores.new).memory }
+        requires held { Holds (whole self.old (C.state cores.old)) }
+        ensures ok { OnOk result (StepsBy (served Preempt v)
+            (whole self.old (C.state cores.old)) (whole self.new (C.state cores.new))) }
+        ensures err { OnErr result (IsSame (whole self.old (C.state cores.old)) (whole self.new (C.state cores.new))) }
+        ensures counted { AreCounted (whole self.old (C.state cores.old)) (whole self.new (C.state cores.new)) }
+        ensures tied { Agrees (whole self.new (C.state cores.new)) }
         ensures works { C.Works cores.new }
         ensures keeps { C.Keeps cores.old cores.new }
         ensures faults { (C.state cores.new).faults ≡ (C.state cores.old).faults }
@@ -194,11 +179,10 @@ impl State {
     /// Nobody waits: the clock goes on.
     fn rest<C: Cores>(&mut self, cores: &mut C, limit: u64)
         requires works { C.Works cores.old }
-        requires held { IsHeld (seen (C.state cores.old).memory.places self.old) (C.state cores.old).memory }
-        ensures does { Does (idled limit) (seen (C.state cores.old).memory.places self.old)
-            (seen (C.state cores.new).memory.places self.new) (C.state cores.old).memory (C.state cores.new).memory }
-        ensures counted { IsCounted self.old.entries.items self.new.entries.items (C.state cores.old).calls (C.state cores.new).calls }
-        ensures tied { IsTied self.new.sessions.items (C.state cores.new).memory }
+        requires held { Holds (whole self.old (C.state cores.old)) }
+        ensures does { StepsBy (idled limit) (whole self.old (C.state cores.old)) (whole self.new (C.state cores.new)) }
+        ensures counted { AreCounted (whole self.old (C.state cores.old)) (whole self.new (C.state cores.new)) }
+        ensures tied { Agrees (whole self.new (C.state cores.new)) }
         ensures works { C.Works cores.new }
         ensures keeps { C.Keeps cores.old cores.new }
         ensures faults { (C.state cores.new).faults ≡ (C.state cores.old).faults }
@@ -210,19 +194,14 @@ impl State {
     #[tactic(auto, using(crate::proofs::Doing::go_idle, crate::proofs::Doing::go_end_none, crate::proofs::Doing::go_end))]
     fn go_on<C: Cores>(&mut self, cores: &mut C, limit: u64) -> Result<(), RunFault>
         requires works { C.Works cores.old }
-        requires held { IsHeld (seen (C.state cores.old).memory.places self.old) (C.state cores.old).memory }
+        requires held { Holds (whole self.old (C.state cores.old)) }
         requires before { self.old.clock < limit }
         requires limit { limit ≤ 100000000 }
-        ensures ended { Ends result (Does (otherwise limit (user_of (chosen self.old.queues)) self.old.service)
-            (seen (C.state cores.old).memory.places self.old)
-            (seen (C.state cores.new).memory.places self.new) (C.state cores.old).memory (C.state cores.new).memory)
-            (Stays (seen (C.state cores.old).memory.places self.old)
-            (seen (C.state cores.new).memory.places self.new) (C.state cores.old).memory (C.state cores.new).memory)
-            ((seen no_places self.new ≡ seen no_places self.old) × Rose (C.state cores.old).faults (C.state cores.new).faults
-            × LoadFails (seen (C.state cores.old).memory.places self.old) (C.state cores.old).calls (C.state cores.new).calls) }
-        ensures counted { Ends result (IsCounted self.old.entries.items self.new.entries.items (C.state cores.old).calls (C.state cores.new).calls)
-            (IsCounted self.old.entries.items self.new.entries.items (C.state cores.old).calls (C.state cores.new).calls) ⊤ }
-        ensures tied { Lasts result (IsTied self.new.sessions.items (C.state cores.new).memory) }
+        ensures ended { Steps (otherwise limit (user_of (chosen self.old.queues)) self.old.service) ServedIsCut result
+            (whole self.old (C.state cores.old)) (whole self.new (C.state cores.new)) }
+        ensures counted { AreCountedBy result
+            (whole self.old (C.state cores.old)) (whole self.new (C.state cores.new)) }
+        ensures tied { Lasts result (Agrees (whole self.new (C.state cores.new))) }
         ensures works { Lasts result (C.Works cores.new) }
         ensures keeps { C.Keeps cores.old cores.new }
         ensures kept { (C.state cores.old).faults ≤ (C.state cores.new).faults }
@@ -263,18 +242,14 @@ impl State {
     pub(crate) fn step_at<C: Cores>(&mut self, cores: &mut C, limit: u64) -> Result<(), RunFault>
         requires due { is_some (due_of self.old.events.items self.old.clock) ≡ true }
         requires works { C.Works cores.old }
-        requires held { IsHeld (seen (C.state cores.old).memory.places self.old) (C.state cores.old).memory }
+        requires held { Holds (whole self.old (C.state cores.old)) }
         requires before { self.old.clock < limit }
         requires limit { limit ≤ 100000000 }
-        ensures ended { Ends result (Does (next limit) (seen (C.state cores.old).memory.places self.old)
-            (seen (C.state cores.new).memory.places self.new) (C.state cores.old).memory (C.state cores.new).memory)
-            (Stays (seen (C.state cores.old).memory.places self.old)
-            (seen (C.state cores.new).memory.places self.new) (C.state cores.old).memory (C.state cores.new).memory)
-            ((seen no_places self.new ≡ seen no_places self.old) × Rose (C.state cores.old).faults (C.state cores.new).faults
-            × NextLoadFails (seen (C.state cores.old).memory.places self.old) (C.state cores.old).calls (C.state cores.new).calls) }
-        ensures counted { Ends result (IsCounted self.old.entries.items self.new.entries.items (C.state cores.old).calls (C.state cores.new).calls)
-            (IsCounted self.old.entries.items self.new.entries.items (C.state cores.old).calls (C.state cores.new).calls) ⊤ }
-        ensures tied { Lasts result (IsTied self.new.sessions.items (C.state cores.new).memory) }
+        ensures ended { Steps (next limit) NextIsCut result
+            (whole self.old (C.state cores.old)) (whole self.new (C.state cores.new)) }
+        ensures counted { AreCountedBy result
+            (whole self.old (C.state cores.old)) (whole self.new (C.state cores.new)) }
+        ensures tied { Lasts result (Agrees (whole self.new (C.state cores.new))) }
         ensures works { Lasts result (C.Works cores.new) }
         ensures keeps { C.Keeps cores.old cores.new }
         ensures kept { (C.state cores.old).faults ≤ (C.state cores.new).faults }
@@ -292,18 +267,14 @@ impl State {
     pub(crate) fn step_on<C: Cores>(&mut self, cores: &mut C, limit: u64) -> Result<(), RunFault>
         requires quiet { due_of self.old.events.items self.old.clock ≡ None }
         requires works { C.Works cores.old }
-        requires held { IsHeld (seen (C.state cores.old).memory.places self.old) (C.state cores.old).memory }
+        requires held { Holds (whole self.old (C.state cores.old)) }
         requires before { self.old.clock < limit }
         requires limit { limit ≤ 100000000 }
-        ensures ended { Ends result (Does (next limit) (seen (C.state cores.old).memory.places self.old)
-            (seen (C.state cores.new).memory.places self.new) (C.state cores.old).memory (C.state cores.new).memory)
-            (Stays (seen (C.state cores.old).memory.places self.old)
-            (seen (C.state cores.new).memory.places self.new) (C.state cores.old).memory (C.state cores.new).memory)
-            ((seen no_places self.new ≡ seen no_places self.old) × Rose (C.state cores.old).faults (C.state cores.new).faults
-            × NextLoadFails (seen (C.state cores.old).memory.places self.old) (C.state cores.old).calls (C.state cores.new).calls) }
-        ensures counted { Ends result (IsCounted self.old.entries.items self.new.entries.items (C.state cores.old).calls (C.state cores.new).calls)
-            (IsCounted self.old.entries.items self.new.entries.items (C.state cores.old).calls (C.state cores.new).calls) ⊤ }
-        ensures tied { Lasts result (IsTied self.new.sessions.items (C.state cores.new).memory) }
+        ensures ended { Steps (next limit) NextIsCut result
+            (whole self.old (C.state cores.old)) (whole self.new (C.state cores.new)) }
+        ensures counted { AreCountedBy result
+            (whole self.old (C.state cores.old)) (whole self.new (C.state cores.new)) }
+        ensures tied { Lasts result (Agrees (whole self.new (C.state cores.new))) }
         ensures works { Lasts result (C.Works cores.new) }
         ensures keeps { C.Keeps cores.old cores.new }
         ensures kept { (C.state cores.old).faults ≤ (C.state cores.new).faults }
@@ -328,9 +299,9 @@ impl State {
     /// Instructions of the user of the service, one after another: as many as go on, at most so many.
     fn work<C: Cores>(&mut self, cores: &mut C, v: Service, next: Chosen, most: u64, limit: u64)
         requires works { C.Works cores.old }
-        requires held { IsHeld (seen (C.state cores.old).memory.places self.old) (C.state cores.old).memory }
-        requires user { IsUser v.user (seen (C.state cores.old).memory.places self.old) }
-        requires loaded { is_loaded (C.state cores.old).memory.places v.user (size_of (C.state cores.old).memory.sizes v.user) ≡ true }
+        requires held { Holds (whole self.old (C.state cores.old)) }
+        requires user { IsUser v.user (run_of (whole self.old (C.state cores.old))) }
+        requires loaded { HasBlocks v.user true (whole self.old (C.state cores.old)) }
         requires serves { self.old.service ≡ Some v }
         requires first { chosen self.old.queues ≡ Some (next.level, record { user = next.user; left = next.left }) }
         requires mine { next.user ≡ v.user }
@@ -338,10 +309,9 @@ impl State {
         requires up { self.old.clock + most ≤ limit }
         requires quiet { self.old.clock + most ≤ next_tick limit self.old.events.items }
         requires limit { limit ≤ 100000000 }
-        ensures many { DoesMany limit (seen (C.state cores.old).memory.places self.old)
-            (seen (C.state cores.new).memory.places self.new) (C.state cores.old).memory (C.state cores.new).memory }
+        ensures many { StepsOn limit (whole self.old (C.state cores.old)) (whole self.new (C.state cores.new)) }
         ensures entries { self.new.entries.items ≡ self.old.entries.items }
-        ensures tied { IsTied self.new.sessions.items (C.state cores.new).memory }
+        ensures tied { Agrees (whole self.new (C.state cores.new)) }
         ensures works { C.Works cores.new }
         ensures keeps { C.Keeps cores.old cores.new }
         ensures calls { (C.state cores.new).calls ≡ (C.state cores.old).calls }
@@ -358,16 +328,15 @@ impl State {
     #[tactic(auto, using(crate::proofs::Passing::stands_still))]
     fn work_on<C: Cores>(&mut self, cores: &mut C, v: Service, next: Chosen, limit: u64)
         requires works { C.Works cores.old }
-        requires held { IsHeld (seen (C.state cores.old).memory.places self.old) (C.state cores.old).memory }
-        requires user { IsUser v.user (seen (C.state cores.old).memory.places self.old) }
+        requires held { Holds (whole self.old (C.state cores.old)) }
+        requires user { IsUser v.user (run_of (whole self.old (C.state cores.old))) }
         requires serves { self.old.service ≡ Some v }
         requires first { chosen self.old.queues ≡ Some (next.level, record { user = next.user; left = next.left }) }
         requires mine { next.user ≡ v.user }
         requires limit { limit ≤ 100000000 }
-        ensures many { DoesMany limit (seen (C.state cores.old).memory.places self.old)
-            (seen (C.state cores.new).memory.places self.new) (C.state cores.old).memory (C.state cores.new).memory }
+        ensures many { StepsOn limit (whole self.old (C.state cores.old)) (whole self.new (C.state cores.new)) }
         ensures entries { self.new.entries.items ≡ self.old.entries.items }
-        ensures tied { IsTied self.new.sessions.items (C.state cores.new).memory }
+        ensures tied { Agrees (whole self.new (C.state cores.new)) }
         ensures works { C.Works cores.new }
         ensures keeps { C.Keeps cores.old cores.new }
         ensures calls { (C.state cores.new).calls ≡ (C.state cores.old).calls }
@@ -388,12 +357,11 @@ impl State {
     #[tactic(auto, using(crate::proofs::Passing::stands_still))]
     pub(crate) fn run<C: Cores>(&mut self, cores: &mut C, limit: u64)
         requires works { C.Works cores.old }
-        requires held { IsHeld (seen (C.state cores.old).memory.places self.old) (C.state cores.old).memory }
+        requires held { Holds (whole self.old (C.state cores.old)) }
         requires limit { limit ≤ 100000000 }
-        ensures many { DoesMany limit (seen (C.state cores.old).memory.places self.old)
-            (seen (C.state cores.new).memory.places self.new) (C.state cores.old).memory (C.state cores.new).memory }
+        ensures many { StepsOn limit (whole self.old (C.state cores.old)) (whole self.new (C.state cores.new)) }
         ensures entries { self.new.entries.items ≡ self.old.entries.items }
-        ensures tied { IsTied self.new.sessions.items (C.state cores.new).memory }
+        ensures tied { Agrees (whole self.new (C.state cores.new)) }
         ensures works { C.Works cores.new }
         ensures keeps { C.Keeps cores.old cores.new }
         ensures calls { (C.state cores.new).calls ≡ (C.state cores.old).calls }

@@ -5,7 +5,7 @@ ghost use Rattle.drum_slots.specs.Kept.{Serves};
 ghost use Rattle.drum_slots.specs.Slots.{slot_of};
 ghost use Rattle.drum_slots.specs.Table.{slots_of, records_of, quota_in};
 ghost use Rattle.plan_model.specs.Loads.{no_places};
-ghost use Rattle.image_map.specs.Image.{state, seen};
+ghost use Rattle.image_map.specs.Image.{state, seen, drum_of};
 
 use crate::cores::Cores;
 use core_bank::Bank;
@@ -27,7 +27,8 @@ pub fn first_cores<'a, D: Medium>(
     requires sizes { sizes.items ≡ replicate (length slots.quotas.items) 0 }
     requires words { AreWords bank }
     requires serves { Serves (D.rows drum.old) (D.record_count drum.old) (D.words_each drum.old) (records_of slots) }
-    ensures drum { (state result).drum ≡ seen D.Medium drum.entry }
+    ensures seen { (state result).drum ≡ seen D.Medium drum.entry }
+    ensures drum { drum_of result ≡ drum.old }
     ensures works { ⟦<Image<'a, D> as Cores>⟧.Works result }
     ensures words { (u : ℕ) → 1 ≤ u → (⟦<Image<'a, D> as Cores>⟧.state result).memory.words u ≡ [] }
     ensures places { (⟦<Image<'a, D> as Cores>⟧.state result).memory.places ≡ no_places }

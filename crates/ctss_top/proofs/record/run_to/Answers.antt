@@ -3,23 +3,23 @@ use Rattle.image_map.specs.State.{DrumState}
 use Rattle.ctss_top.proofs.Playing.{tied_first, played, texts_played, counted_from, stops_from}
 use Rattle.ctss_top.proofs.record.run_to.Goals as goal
 
-pub advance-ended-requires-clause-tied : goal.advance-ended-requires-clause-tied
-advance-ended-requires-clause-tied g c =
+pub advance-ended-requires-clause-agrees : goal.advance-ended-requires-clause-agrees
+advance-ended-requires-clause-agrees g c =
     tied_first c.args.supervisor.now c.args.slots.quotas.items _ c.requires.cores c.first_cores-cores.ensures.sizes c.first_cores-cores.ensures.quotas
 
 pub returns-clause-ended : goal.returns-clause-ended
 returns-clause-ended g c = λ told.
     stops_from c.advance-ended.result c.args.limit _ c.advance-ended.new.self _ _ _ _
-    (ap (λ (d : DrumState). d.calls) c.first_cores-cores.ensures.drum) (search rules)
+    (ap (λ (d : DrumState). d.calls) c.first_cores-cores.ensures.seen) (search rules)
     (played c.advance-ended.result c.args.limit c.args.supervisor.now c.advance-ended.new.self c.args.slots.quotas.items _ _ _ _ _ _ _ _ _ c.requires.cores
-    c.first_cores-cores.ensures.words c.first_cores-cores.ensures.places (c.first_cores-cores.ensures.tells ∙ told) c.advance-ended.ensures.ended)
+    c.first_cores-cores.ensures.words c.first_cores-cores.ensures.places (c.first_cores-cores.ensures.tells ∙ told) c.advance-ended.ensures.advances.ended)
 
 pub returns-clause-counted : goal.returns-clause-counted
 returns-clause-counted g c =
     counted_from c.advance-ended.result c.args.supervisor.now.entries c.advance-ended.new.self.entries _ _ _ _ _
-    (ap (λ (d : DrumState). d.calls) c.first_cores-cores.ensures.drum) (search rules) c.advance-ended.ensures.counted
+    (ap (λ (d : DrumState). d.calls) c.first_cores-cores.ensures.seen) (search rules) c.advance-ended.ensures.advances.counted
 
 pub returns-clause-texts : goal.returns-clause-texts
 returns-clause-texts g c = λ told.
     texts_played c.advance-ended.result c.args.limit c.args.supervisor.now c.advance-ended.new.self.texts c.args.slots.quotas.items _ _ _ _ _ c.requires.cores
-    c.first_cores-cores.ensures.words c.first_cores-cores.ensures.places (c.first_cores-cores.ensures.tells ∙ told) c.advance-ended.ensures.texts
+    c.first_cores-cores.ensures.words c.first_cores-cores.ensures.places (c.first_cores-cores.ensures.tells ∙ told) c.advance-ended.ensures.advances.texts

@@ -1,4 +1,4 @@
-use Rattle.std.proofs.Common.{◌≡◌, sym, ◌∙◌, Err, Ok, ap, subst, arith}
+use Rattle.std.proofs.Common.{◌≡◌, refl, sym, ◌∙◌, Err, Ok, ap, subst, arith}
 use Rattle.std.proofs.lemmas.Bool.Decides.{nat_tests}
 use Rattle.ctss_io.specs.Outside.{after}
 use Rattle.ctss_io.specs.Whole.{GrewByProperPrefix}
@@ -14,10 +14,10 @@ use Rattle.ctss_top.proofs.Says.{refused_long, refused_short, cut_long, cut_shor
 use Rattle.ctss_top.proofs.run.replay.Goals as goal
 
 pub returns-in-Err-TooLong-clause-refused : goal.returns-in-Err-TooLong-clause-refused
-returns-in-Err-TooLong-clause-refused g c h = refused_long _ _ _ _ _ (c.in-Err-TooLong.ensures.stopped (ap Err c.in-Err-TooLong.field-0-is)) (c.refuse_script.ensures.refused h) (c.refuse_script.ensures.told h)
+returns-in-Err-TooLong-clause-refused g c h = refused_long _ _ _ (c.in-Err-TooLong.ensures.stopped (ap Err c.in-Err-TooLong.field-0-is)) (c.refuse_script.ensures.refused h) (c.refuse_script.ensures.told h) refl
 
 pub returns-in-Err-TooLong-clause-part : goal.returns-in-Err-TooLong-clause-part
-returns-in-Err-TooLong-clause-part g c words asked h = cut_long _ words c.args.mode asked c.requires.mode _ _ _ _ _ _ _ (c.in-Err-TooLong.ensures.stopped (ap Err c.in-Err-TooLong.field-0-is)) (c.refuse_script.ensures.cut h) (c.refuse_script.ensures.part h)
+returns-in-Err-TooLong-clause-part g c words asked h = cut_long words c.args.mode asked c.requires.mode _ _ _ (c.in-Err-TooLong.ensures.stopped (ap Err c.in-Err-TooLong.field-0-is)) (c.refuse_script.ensures.cut h) (c.refuse_script.ensures.part h) refl
 
 pub returns-in-Err-TooLong-clause-told : goal.returns-in-Err-TooLong-clause-told
 returns-in-Err-TooLong-clause-told g c = told_long _ _ (c.in-Err-TooLong.ensures.too_long (ap Err c.in-Err-TooLong.field-0-is)) c.refuse_script.ensures.status
@@ -31,39 +31,41 @@ perform-requires-clause-range g c = scripts_are_in_range _ _ c.in-Ok-read_script
 pub returns-in-Ok-read_script-clause-done : goal.returns-in-Ok-read_script-clause-done
 returns-in-Ok-read_script-clause-done g c h =
     let spelled : script_of c.in-Ok.bytes.items ≡ Ok c.in-Ok-read_script.script = ap script_of (sym c.deref.ensures.value) ∙ c.in-Ok-read_script.ensures in
-    is_run c.args.mode _ _ _ _ _ _ _ _ c.in-Ok-read_script.script
+    is_run c.args.mode _ _ _ c.in-Ok-read_script.script
     (comes_read c.args.mode c.requires.mode _ _ c.in-Ok.bytes.items c.in-Ok-read_script.script c.in-Ok.ensures.bytes c.in-Ok.ensures.end spelled)
     (λ told. c.perform.ensures.run told (grind (arith, h, nat_tests))) (c.perform.ensures.counted (grind (arith, h, nat_tests))) c.perform.ensures.numbers (c.perform.ensures.text h)
 
 pub returns-in-Ok-read_script-clause-part : goal.returns-in-Ok-read_script-clause-part
 returns-in-Ok-read_script-clause-part g c words asked h =
     let spelled : script_of c.in-Ok.bytes.items ≡ Ok c.in-Ok-read_script.script = ap script_of (sym c.deref.ensures.value) ∙ c.in-Ok-read_script.ensures in
-    cut_run _ words c.args.mode asked _ _ _ _ _ _ _ c.in-Ok-read_script.script
+    cut_run words c.args.mode asked _ _ _ c.in-Ok-read_script.script
     (comes_read c.args.mode c.requires.mode _ _ c.in-Ok.bytes.items c.in-Ok-read_script.script c.in-Ok.ensures.bytes c.in-Ok.ensures.end spelled)
     (λ told. c.perform.ensures.run told (grind (arith, h, nat_tests))) (c.perform.ensures.counted (grind (arith, h, nat_tests))) c.perform.ensures.numbers (c.perform.ensures.part h)
 
 pub returns-in-Ok-read_script-clause-stopped : goal.returns-in-Ok-read_script-clause-stopped
 returns-in-Ok-read_script-clause-stopped g c words asked h =
     let spelled : script_of c.in-Ok.bytes.items ≡ Ok c.in-Ok-read_script.script = ap script_of (sym c.deref.ensures.value) ∙ c.in-Ok-read_script.ensures in
-    is_stopped words c.args.mode _ _ _ _ _ _ _ _ c.in-Ok-read_script.script asked
+    is_stopped words c.args.mode _ _ _ c.in-Ok-read_script.script asked
     (comes_read c.args.mode c.requires.mode _ _ c.in-Ok.bytes.items c.in-Ok-read_script.script c.in-Ok.ensures.bytes c.in-Ok.ensures.end spelled)
     (c.perform.ensures.silent (grind (arith, h, nat_tests))) (λ told. c.perform.ensures.stopped told h) c.perform.ensures.numbers
 
 pub returns-in-Err-Refused-clause-refused : goal.returns-in-Err-Refused-clause-refused
 returns-in-Err-Refused-clause-refused g c h =
     let read : script_of c.deref.result.now ≡ Err c.in-Err-Refused.refusal = subst (λ (f : ScriptFault). Reads (Err f) (script_of c.deref.result.now)) c.in-Err-Refused.field-0-is c.in-Err-Refused.ensures in
-    refused_short _ _ _ _ c.refuse_script-in-Err-Refused.result c.in-Ok.bytes.items c.in-Err-Refused.refusal c.number.result c.in-Ok.ensures.bytes c.in-Ok.ensures.end
+    refused_short _ _ c.refuse_script-in-Err-Refused.result c.in-Ok.bytes.items c.in-Err-Refused.refusal c.number.result c.in-Ok.ensures.bytes c.in-Ok.ensures.end
     (ap script_of (sym c.deref.ensures.value) ∙ read)
     (c.number.ensures ∙ ap (λ (r : ScriptRefusal). cause_number r.cause) c.in-Err-Refused.refusal-is)
     (c.refuse_script-in-Err-Refused.ensures.refused h ∙ ap (λ (r : ScriptRefusal). bare 2 r.card c.number.result) c.in-Err-Refused.refusal-is)
     (c.refuse_script-in-Err-Refused.ensures.told h ∙ ap (λ (r : ScriptRefusal). after (g.K.Sink.held c.args.sink.now) (script_refused r.card c.number.result)) c.in-Err-Refused.refusal-is)
+    refl
 
 pub returns-in-Err-Refused-clause-part : goal.returns-in-Err-Refused-clause-part
 returns-in-Err-Refused-clause-part g c words asked h =
     let read : script_of c.deref.result.now ≡ Err c.in-Err-Refused.refusal = subst (λ (f : ScriptFault). Reads (Err f) (script_of c.deref.result.now)) c.in-Err-Refused.field-0-is c.in-Err-Refused.ensures in
-    cut_short _ words c.args.mode asked c.requires.mode _ _ _ _ _ _ c.refuse_script-in-Err-Refused.result c.in-Ok.bytes.items c.in-Err-Refused.refusal c.number.result c.in-Ok.ensures.bytes c.in-Ok.ensures.end
+    cut_short words c.args.mode asked c.requires.mode _ _ c.refuse_script-in-Err-Refused.result c.in-Ok.bytes.items c.in-Err-Refused.refusal c.number.result c.in-Ok.ensures.bytes c.in-Ok.ensures.end
     (ap script_of (sym c.deref.ensures.value) ∙ read)
     (c.number.ensures ∙ ap (λ (r : ScriptRefusal). cause_number r.cause) c.in-Err-Refused.refusal-is)
     (c.refuse_script-in-Err-Refused.ensures.cut h)
     (subst (λ (r : ScriptRefusal). GrewByProperPrefix (g.K.Sink.held c.args.sink.now) (script_refused r.card c.number.result) (g.K.Sink.held c.refuse_script-in-Err-Refused.new.sink)) c.in-Err-Refused.refusal-is
     (c.refuse_script-in-Err-Refused.ensures.part h))
+    refl

@@ -4,8 +4,8 @@ use Rattle.image_map.proofs.Resize.{GivesUp, core_resized, core_stays}
 use Rattle.image_map.proofs.Loaded.{places_given_up}
 use Rattle.image_map.proofs.image.Image.resize_user.Goals as goal
 
-pub returns : goal.returns
-returns g c =
+pub returns-clause-resizes : goal.returns-clause-resizes
+returns-clause-resizes g c =
     let s = c.args.self.now.tables in
     let up : GivesUp s.owners c.give_up.new.self s.kept.slots.slots.items c.free_from.new.self.slots.slots.items s.kept.slots.quotas.items c.args.user c.args.blocks = record {
       len = c.give_up.ensures.len;

@@ -37,8 +37,8 @@ returns-in-Some-None-clause-ended g c =
       f.1,
       load_fails c.in-Some-None.next.level x old had (g.C.Cores.state c.args.cores.now).calls (g.C.Cores.state c.attend.new.cores).calls c.in-Some-None.ensures.some (λ w h. let both = sym none ∙ h in cc) c.requires.held.tied
           (first_user old c.in-Some-None.next.level x c.requires.held.sound c.in-Some-None.ensures.some)
-          (subst (λ (k : ℕ). is_loaded had.places k (size_of had.sizes k) ≡ false) c.number.ensures.value f.2)
-          (subst (λ (k : ℕ). IsCutOff (g.C.Cores.state c.args.cores.now).calls (g.C.Cores.state c.attend.new.cores).calls (calls_to_load k old)) c.number.ensures.value f.3),
+          (subst (λ (k : ℕ). is_loaded had.places k (size_of had.sizes k) ≡ false) c.number.ensures.value f.2.0)
+          (subst (λ (k : ℕ). IsCutOff (g.C.Cores.state c.args.cores.now).calls (g.C.Cores.state c.attend.new.cores).calls (calls_to_load k old)) c.number.ensures.value f.2.1),
     ))
     c.attend.ensures.ended
 
@@ -60,7 +60,7 @@ returns-then-v-number-clause-ended g c =
       load_fails c.in-Some-Some.next.level x old had (g.C.Cores.state c.args.cores.now).calls (g.C.Cores.state c.attend-then-v-number.new.cores).calls c.in-Some-Some.ensures.some
           (λ w h. let both = sym h ∙ some in let e : w ≡ v = cc in ap (λ (s : Service). s.user) e ∙ same)
           c.requires.held.tied (first_user old c.in-Some-Some.next.level x c.requires.held.sound c.in-Some-Some.ensures.some)
-          (subst (λ (k : ℕ). is_loaded had.places k (size_of had.sizes k) ≡ false) same f.2)
-          (subst (λ (k : ℕ). IsCutOff (g.C.Cores.state c.args.cores.now).calls (g.C.Cores.state c.attend-then-v-number.new.cores).calls (calls_to_load k old)) same f.3),
+          (subst (λ (k : ℕ). is_loaded had.places k (size_of had.sizes k) ≡ false) same f.2.0)
+          (subst (λ (k : ℕ). IsCutOff (g.C.Cores.state c.args.cores.now).calls (g.C.Cores.state c.attend-then-v-number.new.cores).calls (calls_to_load k old)) same f.2.1),
     ))
     c.attend-then-v-number.ensures.ended

@@ -92,7 +92,7 @@ returns-in-Err-clause-ended g c =
     let inv = c.steps.invariant in
     fails_map c.in-Err.fault _ _ _ _
     (λ s. part_still c.args.limit start old new first had has inv.tells s inv.part)
-    (λ f. (stops_at_load c.args.limit start old (seen no_places c.step.new.self.state) first had _ _ _ inv.part inv.held.sound inv.counted f.2 (ap (λ (r : Run). r.system.entries) f.0) (ap (λ (r : Run). r.system.users) f.0) (ap (λ (r : Run). r.system.clock) f.0), search rules))
+    (λ f. (stops_at_load c.args.limit start old (seen no_places c.step.new.self.state) first had _ _ _ inv.part c.steps-test.true inv.held.sound inv.counted f.2 (ap (λ (r : Run). r.system.entries) f.0) (ap (λ (r : Run). r.system.users) f.0) (ap (λ (r : Run). r.system.clock) f.0), search rules))
     c.in-Err.ensures.ended
 
 pub returns-clause-ended : goal.returns-clause-ended

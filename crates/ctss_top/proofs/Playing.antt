@@ -1,11 +1,11 @@
 -- From the run of the supervisor over users' cores to the record of a script.
-use Rattle.std.proofs.Common.{◌≡◌, ℕ, zero, suc, ◌-◌, ◌<◌, ◌≤◌, List, [], ◌∷◌, ◌++◌, map, length, replicate, get_or, Option, Some, None, Ok, Err, refl, sym, ap, subst, ◌∙◌, arith}
+use Rattle.std.proofs.Common.{◌≡◌, true, ℕ, zero, suc, ◌-◌, ◌<◌, ◌≤◌, List, [], ◌∷◌, ◌++◌, map, length, replicate, get_or, Option, Some, None, Ok, Err, refl, sym, ap, subst, ◌∙◌, arith}
 use Rattle.std.specs.Prelude.{⊤, slice_index_or}
 use Rattle.std.specs.List.{All}
 use Rattle.std.specs.declared.result.Result.{Result}
 use Rattle.std.proofs.lemmas.List.{length-map}
 use Rattle.ctss_types.specs.declared.fault.RunFault.{RunFault}
-use Rattle.ctss_types.specs.declared.fault.RunFault.TheVariants.{Drum}
+use Rattle.ctss_types.specs.declared.fault.RunFault.TheVariants.{Drum, Disk, NoMemory}
 use Rattle.ctss_types.specs.declared.script.Script.{Script}
 use Rattle.ctss_types.specs.declared.script.Account.{Account}
 use Rattle.ctss_types.specs.declared.file.FileBody.{FileBody}
@@ -29,15 +29,16 @@ use Rattle.medium.specs.Medium.{CallList}
 use Rattle.time_sharing.specs.System.{Entry, Service}
 use Rattle.schedule_model.specs.Sums.{dumped_in, read_in}
 use Rattle.system_model.proofs.SwapLaws.{dumped-append, read-append}
-use Rattle.console_texts.specs.Watching.{texts_to}
+use Rattle.console_texts.specs.Watching.{texts_to, AfterShown}
+use Rattle.supervisor.specs.Shows.{HasTexts, HasTextsPart, HasTextsToLoad}
 use Rattle.supervisor.specs.Seen.{Bare, run_with, record_so_far}
 use Rattle.supervisor.specs.Counts.{IsCounted, IsCountedToLoad, calls_to_load}
-use Rattle.supervisor.specs.Steps.{IsTied, StopsAtLoad, Ends, Fails}
+use Rattle.supervisor.specs.Steps.{IsTied, Shows, StopsAtLoad, HasRun, HasRunPart, HasRunToLoad, Ends, Fails}
 use Rattle.supervisor.proofs.Running.{transcripts_same}
 use Rattle.supervisor.proofs.Serving.{ends_map}
 use Rattle.file_model.specs.Owned.{files_of}
 use Rattle.std.proofs.lemmas.List.Elements.{All-nil, All-cons}
-use Rattle.ctss_top.specs.Played.{IsStopped, HasCores, Reaches, Stops}
+use Rattle.ctss_top.specs.Played.{IsStopped, HasCores, Reaches, IsPart, Stops}
 
 -- the start
 
@@ -125,23 +126,45 @@ closed_apart f p q b = λ j. record (record_from (closed (run_with p b))) { tran
 record_apart : (f : ℕ → List ℕ) (p q : Places) (b : Bare) → record_from (ended (run_with p b)) ≡ record_from (ended (joined f (run_with q b)))
 record_apart f p q b = ap record_from (closes (run_with p b)) ∙ closed_apart f p q b ∙ ap record_from (sym (closes (joined f (run_with q b))))
 
+-- what holds by how a run ended, of two things that are known of it
+ends_both : {T : Type 0} (r : Result T RunFault) (A B C A' B' C' X Y Z : Type 0) → (A → A' → X) → (B → B' → Y) → (C → C' → Z) → Ends r A B C → Ends r A' B' C' → Ends r X Y Z
+ends_both (Ok x) A B C A' B' C' X Y Z f g h one two = f one two
+ends_both (Err NoMemory) A B C A' B' C' X Y Z f g h one two = g one two
+ends_both (Err Drum) A B C A' B' C' X Y Z f g h one two = h one two
+ends_both (Err Disk) A B C A' B' C' X Y Z f g h one two = one
+
+so_far : (f : ℕ → List ℕ) (p q : Places) (b : Bare) → record_so_far (run_with p b) ≡ record_so_far (joined f (run_with q b))
+unfolding joined
+so_far f p q b = λ j. record (record_so_far (run_with p b)) { transcripts = transcripts_same 1 f b.users j }
+
 -- the run as it is seen from the start
-pub played : {T : Type 0} (r : Result T RunFault) (limit : ℕ) (old new : Bare) (quotas : List ℕ) (words words' : ℕ → List ℕ) (places places' : Places) (was now : Option CallList) (told part rose : Type 0) → HasCores old quotas
-    → ((u : ℕ) → 1 ≤ u → words u ≡ []) → places ≡ no_places → told
-    → Ends r (told → joined words' (run_with places' new) ≡ run_to limit (joined words (run_with places old))) part
-    ((told → StopsAtLoad limit (joined words (run_with places old)) (run_with no_places new) was now) × rose)
-    → Ends r (Reaches limit (run_with no_places old) new) ⊤ (Stops limit (run_with no_places old) new was now)
-played r limit old new quotas words words' places places' was now told part rose cores none nowhere is_told h =
-    ends_map r _ _ _ (Reaches limit (run_with no_places old) new) ⊤ (Stops limit (run_with no_places old) new was now) (λ run. reaches (run is_told)) (λ some. tt) (λ f. stops (f.0 is_told)) h
+pub played : {T : Type 0} (r : Result T RunFault) (limit : ℕ) (old new : Bare) (quotas : List ℕ) (had has : Memory) (was now : Option CallList) (rose : Type 0) → HasCores old quotas
+    → ((u : ℕ) → 1 ≤ u → had.words u ≡ []) → had.places ≡ no_places → had.tells ≡ true
+    → Ends r (HasRun limit (run_with had.places old) (run_with has.places new) had has) (HasRunPart limit (run_with had.places old) (run_with has.places new) had has)
+    (HasRunToLoad limit (run_with had.places old) (run_with no_places new) had was now × rose)
+    → Ends r (HasTexts limit (run_with had.places old) had old.texts new.texts) (HasTextsPart limit (run_with had.places old) (run_with has.places new) had has old.texts new.texts)
+    (HasTextsToLoad limit (run_with had.places old) (run_with no_places new) had old.texts new.texts)
+    → Ends r (Reaches limit (run_with no_places old) old.texts new) (IsPart limit (run_with no_places old) old.texts new) (Stops limit (run_with no_places old) old.texts new was now)
+played r limit old new quotas had has was now rose cores none nowhere told ran shown =
+    ends_both r _ _ _ _ _ _ _ _ _ (λ run texts. reaches (run told) (texts told)) (λ run texts. part (texts told)) (λ run texts. stops (run.0 told) (texts told)) ran shown
   where
-    start : joined words (run_with places old) ≡ run_with no_places old
-    start = ap (λ (p : Places). joined words (run_with p old)) nowhere ∙ joined_same words (λ u. []) (run_with no_places old) none ∙ cores.words
+    start : joined had.words (run_with had.places old) ≡ run_with no_places old
+    start = ap (λ (p : Places). joined had.words (run_with p old)) nowhere ∙ joined_same had.words (λ u. []) (run_with no_places old) none ∙ cores.words
 
-    reaches : joined words' (run_with places' new) ≡ run_to limit (joined words (run_with places old)) → Reaches limit (run_with no_places old) new
-    reaches run = λ p. record_apart words' p places' new ∙ ap (λ (x : Run). record_from (ended x)) (run ∙ ap (run_to limit) start)
+    reaches : joined has.words (run_with has.places new) ≡ run_to limit (joined had.words (run_with had.places old)) → new.texts ≡ texts_to limit (joined had.words (run_with had.places old)) old.texts → Reaches limit (run_with no_places old) old.texts new
+    reaches run texts = record { words = has.words; places = has.places; run = run ∙ ap (run_to limit) start; texts = texts ∙ ap (λ (x : Run). texts_to limit x old.texts) start }
 
-    stops : StopsAtLoad limit (joined words (run_with places old)) (run_with no_places new) was now → Stops limit (run_with no_places old) new was now
-    stops s =
+    part : AfterShown limit (joined had.words (run_with had.places old)) (joined has.words (run_with has.places new)) old.texts new.texts → IsPart limit (run_with no_places old) old.texts new
+    part some =
+        record {
+          at = joined has.words (run_with has.places new);
+          part = subst (λ (x : Run). AfterShown limit x (joined has.words (run_with has.places new)) old.texts new.texts) start some;
+          shown = so_far has.words no_places has.places new;
+        }
+
+    stops : StopsAtLoad limit (joined had.words (run_with had.places old)) (run_with no_places new) was now
+        → (at : Run) × AfterShown limit (joined had.words (run_with had.places old)) at old.texts new.texts × Shows at (run_with no_places new) → Stops limit (run_with no_places old) old.texts new was now
+    stops s t =
         record {
           at = s.at;
           part = subst (λ (x : Run). AfterSteps limit x s.at) start s.part;
@@ -149,31 +172,31 @@ played r limit old new quotas words words' places places' was now told part rose
           load = s.load;
           shown = λ j. record { entries = s.shown.entries j; transcripts = s.shown.transcripts j; files = []; common = []; clock = s.shown.clock j };
           counted = subst (λ (x : Run). IsCountedToLoad x.system.entries new.entries was now (calls_to_load s.load.due.user s.at)) start s.counted;
+          texts = record {
+            at = t.0;
+            part = subst (λ (x : Run). AfterShown limit x t.0 old.texts new.texts) start t.1;
+            shown = λ j. record { entries = t.2.entries j; transcripts = t.2.transcripts j; files = []; common = []; clock = t.2.clock j };
+          };
         }
 
--- what the consoles show of it
-pub texts_played : {T : Type 0} (r : Result T RunFault) (limit : ℕ) (old : Bare) (texts : List (List ℕ)) (quotas : List ℕ) (words : ℕ → List ℕ) (places : Places) (told part stopped : Type 0) → HasCores old quotas
-    → ((u : ℕ) → 1 ≤ u → words u ≡ []) → places ≡ no_places → told
-    → Ends r (told → texts ≡ texts_to limit (joined words (run_with places old)) old.texts) part stopped
-    → Ends r (texts ≡ texts_to limit (run_with no_places old) old.texts) ⊤ ⊤
-texts_played r limit old texts quotas words places told part stopped cores none nowhere is_told h =
-    ends_map r _ _ _ (texts ≡ texts_to limit (run_with no_places old) old.texts) ⊤ ⊤
-    (λ shown. shown is_told ∙ ap (λ (x : Run). texts_to limit x old.texts)
-    (ap (λ (p : Places). joined words (run_with p old)) nowhere ∙ joined_same words (λ u. []) (run_with no_places old) none ∙ cores.words))
-    (λ some. tt) (λ f. tt) h
+-- the record of a run that reached its limit
+pub reached : (limit : ℕ) (start : Run) (first : List (List ℕ)) (new : Bare) → Reaches limit start first new → (p : Places) → record_from (ended (run_with p new)) ≡ record_from (ended (run_to limit start))
+reached limit start first new h p = record_apart h.words p h.places new ∙ ap (λ (x : Run). record_from (ended x)) h.run
 
 -- the drum's calls, seen from two moments that are known by other words
-pub counted_from : {T : Type 0} (r : Result T RunFault) (had has : List Entry) (was now was' now' : Option CallList) (rest : Type 0) → was ≡ was' → now ≡ now' → Ends r (IsCounted had has was now) (IsCounted had has was now) rest → Ends r (IsCounted had has was' now') ⊤ ⊤
+pub counted_from : {T : Type 0} (r : Result T RunFault) (had has : List Entry) (was now was' now' : Option CallList) (rest : Type 0) → was ≡ was' → now ≡ now' → Ends r (IsCounted had has was now) (IsCounted had has was now) rest → Ends r (IsCounted had has was' now') (IsCounted had has was' now') ⊤
 counted_from r had has was now was' now' rest before after h =
-    ends_map r (IsCounted had has was now) (IsCounted had has was now) rest (IsCounted had has was' now') ⊤ ⊤
-    (λ counted. subst (λ (x : Option CallList). IsCounted had has x now') before (subst (λ (x : Option CallList). IsCounted had has was x) after counted)) (λ some. tt) (λ f. tt) h
+    ends_map r (IsCounted had has was now) (IsCounted had has was now) rest (IsCounted had has was' now') (IsCounted had has was' now') ⊤ by by (λ f. tt) h
+  where
+    by : IsCounted had has was now → IsCounted had has was' now'
+    by counted = subst (λ (x : Option CallList). IsCounted had has x now') before (subst (λ (x : Option CallList). IsCounted had has was x) after counted)
 
 -- a run that stopped, seen so too
-pub stops_from : {T : Type 0} (r : Result T RunFault) (limit : ℕ) (start : Run) (new : Bare) (was now was' now' : Option CallList) → was ≡ was' → now ≡ now'
-    → Ends r (Reaches limit start new) ⊤ (Stops limit start new was now) → Ends r (Reaches limit start new) ⊤ (Stops limit start new was' now')
-stops_from r limit start new was now was' now' before after h =
-    ends_map r (Reaches limit start new) ⊤ (Stops limit start new was now) (Reaches limit start new) ⊤ (Stops limit start new was' now') (λ run. run) (λ some. tt)
-    (λ s. subst (λ (x : Option CallList). Stops limit start new x now') before (subst (λ (x : Option CallList). Stops limit start new was x) after s)) h
+pub stops_from : {T : Type 0} (r : Result T RunFault) (limit : ℕ) (start : Run) (first : List (List ℕ)) (new : Bare) (was now was' now' : Option CallList) → was ≡ was' → now ≡ now'
+    → Ends r (Reaches limit start first new) (IsPart limit start first new) (Stops limit start first new was now) → Ends r (Reaches limit start first new) (IsPart limit start first new) (Stops limit start first new was' now')
+stops_from r limit start first new was now was' now' before after h =
+    ends_map r (Reaches limit start first new) (IsPart limit start first new) (Stops limit start first new was now) (Reaches limit start first new) (IsPart limit start first new) (Stops limit start first new was' now') (λ run. run) (λ some. some)
+    (λ s. subst (λ (x : Option CallList). Stops limit start first new x now') before (subst (λ (x : Option CallList). Stops limit start first new was x) after s)) h
 
 -- no entry stands at the start
 pub none_at_start : (script : Script) → (start_of script).system.entries ≡ []
@@ -222,8 +245,8 @@ pub counted_done : (new : Bare) (rec : Record) (was now : Option CallList) → r
 counted_done new rec was now is h = subst (λ (r : Record). IsCounted [] r.entries was now) (sym is) (counted_at_end [] new was now h)
 
 -- a run that stopped
-pub stopped_is : (script : Script) (new : Bare) (rec : Record) (was now : Option CallList) → rec ≡ record_so_far (run_with no_places new) → Stops script.end (start_of script) new was now → IsStopped script rec was now
-stopped_is script new rec was now is s =
+pub stopped_is : (script : Script) (first : List (List ℕ)) (new : Bare) (rec : Record) (was now : Option CallList) → rec ≡ record_so_far (run_with no_places new) → Stops script.end (start_of script) first new was now → IsStopped script rec was now
+stopped_is script first new rec was now is s =
     record {
       at = s.at;
       part = s.part;

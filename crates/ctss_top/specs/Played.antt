@@ -9,6 +9,7 @@ use Rattle.system_model.specs.Run.{Run, run_to, AfterSteps, ended}
 use Rattle.system_model.specs.Joined.{joined}
 use Rattle.system_model.specs.Record.{start_of, record_of, record_from}
 use Rattle.plan_model.specs.Loads.{Places, no_places}
+use Rattle.console_texts.specs.Watching.{texts_to, AfterShown}
 use Rattle.supervisor.specs.Seen.{Bare, run_with, record_so_far}
 use Rattle.medium.specs.Medium.{CallList}
 use Rattle.supervisor.specs.Counts.{IsCounted, IsCountedToLoad, calls_to_load}
@@ -46,15 +47,26 @@ pub record HasCores (b : Bare) (quotas : List ℕ) : Type 0 where
   pub quotas_are : quotas ≡ 0 ∷ map (λ (p : User). p.inner.account.blocks) b.users
   pub empty : All (λ (p : User). blocks_of p.inner ≡ 0) b.users
 
--- the run to the limit has the record of this state
-abbrev pub Reaches : ℕ → Run → Bare → Type 0
-Reaches limit start now = (places : Places) → record_from (ended (run_with places now)) ≡ record_from (ended (run_to limit start))
+-- The run to the limit, of consoles that had shown these texts: with these words and places of users' blocks the supervisor
+-- stands for it, and it has the texts that its consoles have shown.
+pub record Reaches (limit : ℕ) (start : Run) (first : List (List ℕ)) (new : Bare) : Type 0 where
+  pub words : ℕ → List ℕ
+  pub places : Places
+  pub run : joined words (run_with places new) ≡ run_to limit start
+  pub texts : new.texts ≡ texts_to limit start first
 
--- some whole steps of it have the record of this state, and the next brings blocks into core
-pub record Stops (limit : ℕ) (start : Run) (new : Bare) (was now : Option CallList) : Type 0 where
+-- some whole steps of it have the record of this state so far, and the texts
+pub record IsPart (limit : ℕ) (start : Run) (first : List (List ℕ)) (new : Bare) : Type 0 where
+  pub at : Run
+  pub part : AfterShown limit start at first new.texts
+  pub shown : record_so_far (run_with no_places new) ≡ record_so_far at
+
+-- so it is, short of the limit, and the next step brings blocks into core; that load was cut off by a call of the drum that failed
+pub record Stops (limit : ℕ) (start : Run) (first : List (List ℕ)) (new : Bare) (was now : Option CallList) : Type 0 where
   pub at : Run
   pub part : AfterSteps limit start at
   pub early : at.system.clock < limit
   pub load : LoadIsNext at
   pub shown : record_so_far (run_with no_places new) ≡ record_so_far at
   pub counted : IsCountedToLoad start.system.entries new.entries was now (calls_to_load load.due.user at)
+  pub texts : IsPart limit start first new

@@ -1,5 +1,5 @@
 //! The record of a script, over a drum.
-ghost use Rattle.std.specs.Prelude.{◌≡◌, ◌≤◌, ℕ, [], ◌∷◌, length, map, true, is_some, None, replicate, IfOk, ⊤};
+ghost use Rattle.std.specs.Prelude.{◌≡◌, ◌≤◌, ℕ, [], length, map, true, is_some, None, replicate, IfOk, ⊤};
 ghost use Rattle.faults.specs.Faults.{Rose};
 ghost use Rattle.core_bank.specs.Bank.{AreWords};
 ghost use Rattle.drum_slots.specs.Kept.{Serves};
@@ -8,11 +8,10 @@ ghost use Rattle.drum_slots.specs.Table.{slots_of, records_of, quota_in};
 ghost use Rattle.plan_model.specs.Loads.{no_places};
 ghost use Rattle.text_model.specs.Reading.{IsInRange};
 ghost use Rattle.system_model.specs.Record.{start_of};
-ghost use Rattle.console_texts.specs.Watching.{texts_to};
 ghost use Rattle.supervisor.specs.Seen.{run_with};
 ghost use Rattle.supervisor.specs.Steps.{Ends};
 ghost use Rattle.supervisor.specs.Counts.{IsCounted};
-ghost use Rattle.ctss_top.specs.Played.{IsPlayed, Counts, Faulted, HasCores, Reaches, Stops};
+ghost use Rattle.ctss_top.specs.Played.{IsPlayed, Counts, Faulted, HasCores, Reaches, IsPart, Stops};
 
 use core_bank::Bank;
 use ctss_types::{Account, NoMemory, Record, RunFault, Script};
@@ -74,11 +73,13 @@ fn run_to<D: Medium>(
     requires serves { Serves (D.rows drum.old) (D.record_count drum.old) (D.words_each drum.old) (records_of slots) }
     requires cores { HasCores supervisor.old slots.quotas.items }
     ensures ended { is_some (D.rows drum.old) ≡ true → Ends result
-        (Reaches limit (run_with no_places supervisor.old) supervisor.new) ⊤
-        (Stops limit (run_with no_places supervisor.old) supervisor.new (D.calls drum.old) (D.calls drum.new)) }
-    ensures texts { is_some (D.rows drum.old) ≡ true → Ends result
-        (supervisor.new.texts ≡ texts_to limit (run_with no_places supervisor.old) supervisor.old.texts) ⊤ ⊤ }
-    ensures counted { Ends result (IsCounted supervisor.old.entries supervisor.new.entries (D.calls drum.old) (D.calls drum.new)) ⊤ ⊤ }
+        (Reaches limit (run_with no_places supervisor.old) supervisor.old.texts supervisor.new)
+        (IsPart limit (run_with no_places supervisor.old) supervisor.old.texts supervisor.new)
+        (Stops limit (run_with no_places supervisor.old) supervisor.old.texts supervisor.new
+            (D.calls drum.old) (D.calls drum.new)) }
+    ensures counted { Ends result
+        (IsCounted supervisor.old.entries supervisor.new.entries (D.calls drum.old) (D.calls drum.new))
+        (IsCounted supervisor.old.entries supervisor.new.entries (D.calls drum.old) (D.calls drum.new)) ⊤ }
     ensures cause { Ends result ⊤ ⊤ (Rose (D.faults drum.old) (D.faults drum.new)) }
 {
     let mut cores = first_cores(drum, slots, bank, sizes);
@@ -103,11 +104,12 @@ pub fn run_script<D: Medium>(
     requires range { IsInRange script.now }
     requires serves { Serves (D.rows drum.old) (D.record_count drum.old) (D.words_each drum.old) 3840 }
     ensures ended { is_some (D.rows drum.old) ≡ true → IfOk result (λ p. Ends p.ended
-        (Reaches script.now.end (start_of script.now) p.supervisor) ⊤
-        (Stops script.now.end (start_of script.now) p.supervisor (D.calls drum.old) (D.calls drum.new))) }
-    ensures texts { is_some (D.rows drum.old) ≡ true → IfOk result (λ p. Ends p.ended
-        (p.supervisor.texts ≡ texts_to script.now.end (start_of script.now) (replicate 32 [])) ⊤ ⊤) }
-    ensures counted { IfOk result (λ p. Ends p.ended (IsCounted [] p.supervisor.entries (D.calls drum.old) (D.calls drum.new)) ⊤ ⊤) }
+        (Reaches script.now.end (start_of script.now) (replicate 32 []) p.supervisor)
+        (IsPart script.now.end (start_of script.now) (replicate 32 []) p.supervisor)
+        (Stops script.now.end (start_of script.now) (replicate 32 []) p.supervisor (D.calls drum.old) (D.calls drum.new))) }
+    ensures counted { IfOk result (λ p. Ends p.ended
+        (IsCounted [] p.supervisor.entries (D.calls drum.old) (D.calls drum.new))
+        (IsCounted [] p.supervisor.entries (D.calls drum.old) (D.calls drum.new)) ⊤) }
     ensures cause { IfOk result (λ p. Ends p.ended ⊤ ⊤ (Rose (D.faults drum.old) (D.faults drum.new))) }
 {
     let mut supervisor = opened(alloc, script)?;
@@ -128,7 +130,8 @@ pub fn record_script<D: Medium>(
 ) -> Result<Played, NoMemory>
     requires range { IsInRange script.now }
     requires serves { Serves (D.rows drum.old) (D.record_count drum.old) (D.words_each drum.old) 3840 }
-    ensures played { is_some (D.rows drum.old) ≡ true → IfOk result (λ p. IsPlayed script.now (D.calls drum.old) (D.calls drum.new) p) }
+    ensures played { is_some (D.rows drum.old) ≡ true
+        → IfOk result (λ p. IsPlayed script.now (D.calls drum.old) (D.calls drum.new) p) }
     ensures counted { IfOk result (λ p. Counts (D.calls drum.old) (D.calls drum.new) p) }
     ensures cause { IfOk result (λ p. Faulted p (Rose (D.faults drum.old) (D.faults drum.new))) }
 {

@@ -6,11 +6,9 @@ use Rattle.drum_slots.specs.Keys.{quota_of}
 use Rattle.system_model.specs.Run.{Run}
 use Rattle.supervisor.specs.Counts.{IsCounted}
 use Rattle.supervisor.specs.Steps.{Ends}
-use Rattle.ctss_top.specs.Played.{Reaches, Stops}
+use Rattle.ctss_top.specs.Played.{Reaches, IsPart, Stops}
 use Rattle.ctss_top.proofs.Playing.{has_cores, quota_most, no_entry}
 use Rattle.system_model.specs.Record.{start_of}
-use Rattle.console_texts.specs.Watching.{texts_to}
-use Rattle.supervisor.proofs.Serving.{ends_map}
 use Rattle.ctss_top.proofs.record.run_script.Goals as goal
 
 pub run_to-ended-requires-clause-most : goal.run_to-ended-requires-clause-most
@@ -27,17 +25,19 @@ run_to-ended-requires-clause-cores g c =
 
 pub returns-clause-ended : goal.returns-clause-ended
 returns-clause-ended g c = λ told.
-    subst (λ (r : Run). Ends c.run_to-ended.result (Reaches c.args.script.now.end r c.run_to-ended.new.supervisor) ⊤ (Stops c.args.script.now.end r c.run_to-ended.new.supervisor (g.D.Medium.calls c.args.drum.now) (g.D.Medium.calls c.run_to-ended.new.drum)))
-    c.in_ok-supervisor.ensures.run (c.run_to-ended.ensures.ended told)
+    let new = c.run_to-ended.new.supervisor in
+    let had = g.D.Medium.calls c.args.drum.now in
+    let has = g.D.Medium.calls c.run_to-ended.new.drum in
+    let end = c.args.script.now.end in
+    subst (λ (texts : List (List ℕ)). Ends c.run_to-ended.result (Reaches end (start_of c.args.script.now) texts new) (IsPart end (start_of c.args.script.now) texts new) (Stops end (start_of c.args.script.now) texts new had has))
+    c.in_ok-supervisor.ensures.texts
+    (subst (λ (r : Run). Ends c.run_to-ended.result (Reaches end r c.in_ok-supervisor.supervisor.texts new) (IsPart end r c.in_ok-supervisor.supervisor.texts new) (Stops end r c.in_ok-supervisor.supervisor.texts new had has))
+    c.in_ok-supervisor.ensures.run (c.run_to-ended.ensures.ended told))
 
 pub returns-clause-counted : goal.returns-clause-counted
 returns-clause-counted g c =
-    subst (λ (es : List Entry). Ends c.run_to-ended.result (IsCounted es c.run_to-ended.new.supervisor.entries (g.D.Medium.calls c.args.drum.now) (g.D.Medium.calls c.run_to-ended.new.drum)) ⊤ ⊤)
+    let new = c.run_to-ended.new.supervisor in
+    let had = g.D.Medium.calls c.args.drum.now in
+    let has = g.D.Medium.calls c.run_to-ended.new.drum in
+    subst (λ (es : List Entry). Ends c.run_to-ended.result (IsCounted es new.entries had has) (IsCounted es new.entries had has) ⊤)
     (no_entry c.args.script.now c.in_ok-supervisor.supervisor c.in_ok-supervisor.ensures.run) c.run_to-ended.ensures.counted
-
-pub returns-clause-texts : goal.returns-clause-texts
-returns-clause-texts g c = λ told.
-    ends_map c.run_to-ended.result _ ⊤ ⊤ _ ⊤ ⊤
-    (λ e. e ∙ ap (λ (r : Run). texts_to c.args.script.now.end r c.in_ok-supervisor.supervisor.texts) c.in_ok-supervisor.ensures.run
-    ∙ ap (texts_to c.args.script.now.end (start_of c.args.script.now)) c.in_ok-supervisor.ensures.texts)
-    (λ h. h) (λ h. h) (c.run_to-ended.ensures.texts told)

@@ -1,6 +1,9 @@
 use Rattle.std.proofs.Common.{◌∙◌, ap, rules}
 use Rattle.image_map.specs.State.{DrumState}
-use Rattle.ctss_top.proofs.Playing.{tied_first, played, texts_played, counted_from, stops_from}
+use Rattle.image_map.specs.Image.{state}
+use Rattle.user_cores.specs.Memory.{Memory}
+use Rattle.user_cores.specs.Works.{memory_in}
+use Rattle.ctss_top.proofs.Playing.{tied_first, played, counted_from, stops_from}
 use Rattle.ctss_top.proofs.record.run_to.Goals as goal
 
 pub advance-ended-requires-clause-agrees : goal.advance-ended-requires-clause-agrees
@@ -9,17 +12,14 @@ advance-ended-requires-clause-agrees g c =
 
 pub returns-clause-ended : goal.returns-clause-ended
 returns-clause-ended g c = λ told.
-    stops_from c.advance-ended.result c.args.limit _ c.advance-ended.new.self _ _ _ _
+    let had : Memory = memory_in (state c.first_cores-cores.result) in
+    let has : Memory = memory_in (state c.advance-ended.new.cores) in
+    stops_from c.advance-ended.result c.args.limit _ _ c.advance-ended.new.self _ _ _ _
     (ap (λ (d : DrumState). d.calls) c.first_cores-cores.ensures.seen) (search rules)
-    (played c.advance-ended.result c.args.limit c.args.supervisor.now c.advance-ended.new.self c.args.slots.quotas.items _ _ _ _ _ _ _ _ _ c.requires.cores
-    c.first_cores-cores.ensures.words c.first_cores-cores.ensures.places (c.first_cores-cores.ensures.tells ∙ told) c.advance-ended.ensures.advances.ended)
+    (played c.advance-ended.result c.args.limit c.args.supervisor.now c.advance-ended.new.self c.args.slots.quotas.items had has _ _ _ c.requires.cores
+    c.first_cores-cores.ensures.words c.first_cores-cores.ensures.places (c.first_cores-cores.ensures.tells ∙ told) c.advance-ended.ensures.advances.ended c.advance-ended.ensures.advances.texts)
 
 pub returns-clause-counted : goal.returns-clause-counted
 returns-clause-counted g c =
     counted_from c.advance-ended.result c.args.supervisor.now.entries c.advance-ended.new.self.entries _ _ _ _ _
     (ap (λ (d : DrumState). d.calls) c.first_cores-cores.ensures.seen) (search rules) c.advance-ended.ensures.advances.counted
-
-pub returns-clause-texts : goal.returns-clause-texts
-returns-clause-texts g c = λ told.
-    texts_played c.advance-ended.result c.args.limit c.args.supervisor.now c.advance-ended.new.self.texts c.args.slots.quotas.items _ _ _ _ _ c.requires.cores
-    c.first_cores-cores.ensures.words c.first_cores-cores.ensures.places (c.first_cores-cores.ensures.tells ∙ told) c.advance-ended.ensures.advances.texts

@@ -6,4 +6,6 @@ pub mod Serving
 pub mod Running
 pub mod Starts
 pub mod Watching
+pub mod Growing
+pub mod Seats
 pub mod Passing

@@ -23,7 +23,8 @@ use Rattle.console_texts.proofs.Watched.{shown_still, texts_on, shown_on}
 use Rattle.user_cores.specs.Memory.{Memory}
 use Rattle.supervisor.specs.Runs.{DoesMany}
 use Rattle.supervisor.specs.Steps.{IsTied, IsHeld, HasRunPart}
-use Rattle.supervisor.specs.Shows.{HasTextsPart}
+use Rattle.supervisor.specs.Shows.{HasTextsPart, TextsGrow}
+use Rattle.supervisor.proofs.Growing.{grow_none, grow_trans, next_grow}
 use Rattle.supervisor.proofs.Doing.{same_but}
 use Rattle.supervisor.proofs.Running.{Leads}
 use Rattle.supervisor.proofs.Watching.{TextsLead, texts_same, told_joined, told_apart}
@@ -150,3 +151,11 @@ module _ (limit : ℕ) (mid new : Run) (had has : Memory) (d : DoesMany limit mi
         (shown_from sound told (joined first.words start) x
         (subst (AfterShown limit (joined first.words start) from x) (texts_same d.before mid rows)
         (subst (λ (q : Run). AfterShown limit (joined first.words start) q x (shows mid)) (was_joined k) (part t)))))
+
+    pub pass_grow : Sound mid → Told mid → TextsGrow (shows mid) (shows new)
+    pass_grow sound told =
+        let g : TextsGrow (shows from) (shows to) =
+        (passes_keep (λ r. Quiet r × TextsGrow (shows from) (shows r)) limit d.steps from to
+        (λ r up quiet same h. (quietly r up quiet same h.0, grow_trans _ _ _ h.1 (subst (TextsGrow (shows r)) (shown_still limit r rows quiet (h.0).0 same (h.0).1).0 (next_grow limit r (shows r)))))
+        d.passes (quiet_from sound told, grow_none (shows from))).1 in
+        subst (λ (x : List (List ℕ)). TextsGrow x (shows new)) (sym (texts_same d.before mid rows)) (subst (TextsGrow (shows from)) (sym (texts_same d.after new rows)) g)

@@ -1,5 +1,7 @@
 -- proof: what the consoles have shown of a run.
 use Rattle.std.specs.Prelude.{◌≡◌, ℕ, true, List, map}
+use Rattle.std.specs.List.{AllZip}
+use Rattle.live_core.specs.Core.{Grows}
 use Rattle.time_sharing.specs.System.{Console}
 use Rattle.user_model.specs.User.{User}
 use Rattle.system_model.specs.Run.{Run, next}
@@ -35,3 +37,7 @@ HasTextsPart limit old new had has told tells = had.tells ≡ true → AfterShow
 
 abbrev pub HasTextsToLoad : ℕ → (old new : Run) → (had : Memory) → (told tells : List (List ℕ)) → Type 0
 HasTextsToLoad limit old new had told tells = had.tells ≡ true → (at : Run) × AfterShown limit (joined had.words old) at told tells × Shows at new
+
+-- nothing that a console has shown is taken back
+abbrev pub TextsGrow : (had has : List (List ℕ)) → Type 0
+TextsGrow had has = AllZip Grows had has

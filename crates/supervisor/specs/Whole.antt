@@ -1,5 +1,5 @@
 -- claim: a run and its users' cores as one value, and what a call does to it.
-use Rattle.std.specs.Prelude.{◌≡◌, ℕ, ◌≤◌, Bool, true, false, ⊤}
+use Rattle.std.specs.Prelude.{◌≡◌, ℕ, ◌≤◌, Bool, true, false, length, ⊤}
 use Rattle.std.specs.declared.result.Result.{Result}
 use Rattle.faults.specs.Faults.{Rose}
 use Rattle.ctss_types.specs.declared.fault.RunFault.{RunFault}
@@ -10,7 +10,7 @@ use Rattle.user_cores.specs.Swaps.{IsCutOff}
 use Rattle.supervisor.specs.Counts.{IsCounted, calls_to_load}
 use Rattle.supervisor.specs.Runs.{DoesMany}
 use Rattle.supervisor.specs.Seen.{Bare, bare_of, run_with}
-use Rattle.supervisor.specs.Shows.{texts_of, GoesOn, HasTexts, HasTextsPart, HasTextsToLoad}
+use Rattle.supervisor.specs.Shows.{texts_of, TextsGrow, GoesOn, HasTexts, HasTextsPart, HasTextsToLoad}
 use Rattle.supervisor.specs.declared.state.State.{State}
 use Rattle.supervisor.specs.declared.watch.Watch.{Watch}
 use Rattle.supervisor.specs.Steps.{Does, Stays, IsHeld, IsTied, LoadFails, NextLoadFails, HasRun, HasRunPart, HasRunToLoad, Ends, Lasts}
@@ -107,11 +107,14 @@ TextsRunTo limit result old new =
     (HasTextsPart limit (run_of old) (run_of new) old.cores.memory new.cores.memory old.bare.texts new.bare.texts)
     (HasTextsToLoad limit (run_of old) (run_apart new) old.cores.memory old.bare.texts new.bare.texts)
 
--- The run of a supervisor to a limit: whole steps with what the consoles show of them, the drum's calls as the loads say, and that
--- a fault ended it. Unless the drum failed it still tells its records or not, and users and cores agree.
+-- The run of a supervisor to a limit: whole steps with what the consoles show of them, of which nothing is taken back, the drum's
+-- calls as the loads say, and that a fault ended it. There are as many consoles as before. Unless the drum failed it tells its
+-- records or not as before, and users and cores agree.
 pub record Advances (limit : ℕ) (result : Result Unit RunFault) (old new : Whole) : Type 0 where
   pub ended : RunsTo limit result old new
   pub texts : TextsRunTo limit result old new
+  pub grows : TextsGrow old.bare.texts new.bare.texts
+  pub seats : length new.bare.consoles ≡ length old.bare.consoles
   pub counted : AreCountedBy result old new
   pub cut : Ends result (new.bare.ended ≡ old.bare.ended) (new.bare.ended ≡ true) (new.bare.ended ≡ true)
   pub tells : Lasts result (new.cores.memory.tells ≡ old.cores.memory.tells)

@@ -7,7 +7,7 @@ ghost use Rattle.system_model.specs.Run.{next, due_of};
 ghost use Rattle.system_model.specs.Sound.{Sound};
 ghost use Rattle.console_texts.specs.Watching.{refused_by, refusal_in as console_of};
 ghost use Rattle.supervisor.specs.Seen.{seen};
-ghost use Rattle.supervisor.specs.Shows.{IsTold};
+ghost use Rattle.supervisor.specs.Shows.{IsTold, TextsGrow};
 ghost use Rattle.supervisor.specs.Steps.{Lasts};
 ghost use Rattle.supervisor.specs.Whole.{watched, Holds, Agrees, AreCountedBy, NextIsCut, Steps, TextsFollow, RunsTo, TextsRunTo};
 
@@ -170,6 +170,9 @@ impl Watch {
         requires limit { limit ≤ 100000000 }
         ensures ended { RunsTo limit result
             (watched self.old (C.state cores.old)) (watched self.new (C.state cores.new)) }
+        ensures grows { TextsGrow (watched self.old (C.state cores.old)).bare.texts
+            (watched self.new (C.state cores.new)).bare.texts }
+        ensures seats { length self.new.state.consoles.items ≡ length self.old.state.consoles.items }
         ensures texts { TextsRunTo limit result
             (watched self.old (C.state cores.old)) (watched self.new (C.state cores.new)) }
         ensures counted { AreCountedBy result

@@ -1,4 +1,4 @@
-use Rattle.std.proofs.Common.{◌≡◌, List, rules, refl, sym, ap, subst, ◌∙◌, arith}
+use Rattle.std.proofs.Common.{◌≡◌, List, length, rules, refl, sym, ap, subst, ◌∙◌, arith}
 use Rattle.console_texts.specs.Parts.{Shown}
 use Rattle.system_model.specs.Run.{Run}
 use Rattle.system_model.specs.Sound.{Sound}
@@ -11,7 +11,9 @@ use Rattle.supervisor.proofs.Serving.{fails_map, fails_both, fails_to}
 use Rattle.supervisor.proofs.Running.{sound_places, leads_on, part_on, part_none, run_done, held_on, part_still, stops_at_load}
 use Rattle.supervisor.specs.Steps.{IsHeld}
 use Rattle.supervisor.specs.Shows.{texts_of, rows_of}
-use Rattle.supervisor.proofs.Passing.{pass_leads, pass_part, pass_falls, pass_held, pass_told, pass_texts_lead, pass_texts_part}
+use Rattle.supervisor.proofs.Passing.{pass_leads, pass_part, pass_falls, pass_held, pass_told, pass_texts_lead, pass_texts_part, pass_grow}
+use Rattle.supervisor.proofs.Growing.{grow_none, grow_trans, step_grow, same_grow}
+use Rattle.supervisor.proofs.Seats.{does_seats, many_seats}
 use Rattle.supervisor.proofs.Watching.{texts_lead, texts_part, texts_none, texts_still, texts_end, texts_stop}
 use Rattle.supervisor.proofs.watch.Watch.advance.Goals as goal
 
@@ -22,6 +24,8 @@ steps-init g c =
       part = part_none c.args.limit (seen (g.C.Cores.state c.args.cores.now).memory.places c.args.self.now.state) (g.C.Cores.state c.args.cores.now).memory;
       lead = λ told. refl;
       texts = texts_none c.args.limit (seen (g.C.Cores.state c.args.cores.now).memory.places c.args.self.now.state) (g.C.Cores.state c.args.cores.now).memory (texts_of c.args.self.now.state.sessions.items c.args.self.now.texts);
+      grows = grow_none _;
+      seats = refl;
       told = c.requires.told;
       counted = counted_same _ _ _ _ refl refl;
       tells = refl;
@@ -72,6 +76,8 @@ steps-preserved g c =
       part = pass_part c.args.limit next new mid has many start first tells (part_on c.args.limit start old next first had mid inv.tells up done inv.part);
       lead = pass_texts_lead c.args.limit next new mid has many rows held.sound told start first x tells (texts_lead c.args.limit start old next first had mid x y z inv.tells up done c.in-Ok.ensures.texts inv.lead);
       texts = pass_texts_part c.args.limit next new mid has many rows held.sound told start first x tells (texts_part c.args.limit start old next first had mid x y z inv.tells up done c.in-Ok.ensures.texts inv.texts);
+      grows = grow_trans x z _ (grow_trans x y z inv.grows (step_grow c.args.limit old next had mid y z done c.in-Ok.ensures.texts)) (pass_grow c.args.limit next new mid has many rows held.sound told);
+      seats = many_seats c.args.limit next new mid has many ∙ does_seats c.args.limit old next had mid done ∙ inv.seats;
       told = pass_told c.args.limit next new mid has many rows held.sound told;
       counted = counted_on _ _ _ _ _ _ (counted_on _ _ _ _ _ _ inv.counted c.in-Ok.ensures.counted) (counted_same _ _ _ _ c.run.ensures.entries c.run.ensures.calls);
       tells = many.tells ∙ tells;
@@ -139,3 +145,10 @@ returns-in-Err-clause-texts g c =
     (λ s same. texts_still c.args.limit start old new first had has _ _ _ inv.tells s same inv.texts)
     (λ f same. texts_stop c.args.limit start old (seen no_places c.step.new.self.state) first had _ _ _ inv.texts same (ap (λ (r : Run). r.system.entries) f.0) (ap (λ (r : Run). r.system.users) f.0) (ap (λ (r : Run). r.system.clock) f.0))
     c.in-Err.ensures.ended c.in-Err.ensures.texts
+
+pub returns-in-Err-clause-grows : goal.returns-in-Err-clause-grows
+returns-in-Err-clause-grows g c = grow_trans _ _ _ c.steps.invariant.grows (same_grow c.in-Err.fault _ _ c.in-Err.ensures.texts)
+
+pub returns-in-Err-clause-seats : goal.returns-in-Err-clause-seats
+returns-in-Err-clause-seats g c =
+    fails_to c.in-Err.fault _ _ _ (λ s. ap (λ (r : Run). length r.system.consoles) s.run) (λ f. ap (λ (r : Run). length r.system.consoles) f.0) c.in-Err.ensures.ended ∙ c.steps.invariant.seats

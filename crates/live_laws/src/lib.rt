@@ -1,0 +1,18 @@
+//! What a run has in common with the run of a script, where its events come while it goes on.
+//!
+//! The definitions stand in `specs/`. The functions here do nothing: each carries a law.
+#![tactic(auto)]
+
+ghost use Rattle.live_laws.specs.Parts.{LiveRunsAreReplays, CallsAreRuns};
+
+/// The record of a run to which events are given in parts is that of the script with all of them.
+#[tactic(auto, using(crate::proofs::InParts::live_runs_are_replays))]
+pub fn live_runs_are_replays()
+    ensures { LiveRunsAreReplays }
+{}
+
+/// A supervisor that takes events and goes to limits, over a drum that tells its records and doesn't fail, does just such a run.
+#[tactic(auto, using(crate::proofs::Calls::calls_are_runs))]
+pub fn calls_are_runs()
+    ensures { CallsAreRuns }
+{}

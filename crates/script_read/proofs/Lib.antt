@@ -3,3 +3,4 @@ pub mod FirstLine
 pub mod Tracks
 pub mod Trimmed
 pub mod LineWords
+pub mod Bases

@@ -1,3 +1,4 @@
 pub mod Others
 pub mod Drafts
 pub mod Answers
+pub mod Bases

@@ -403,7 +403,7 @@ fn enter_card(alloc: Global, draft: &mut Draft, card: &[u8]) -> Result<(), CardF
 }
 
 /// Whether a card is a comment.
-fn is_comment(card: &[u8]) -> bool
+pub(crate) fn is_comment(card: &[u8]) -> bool
     ensures { result ≡ is_comment card.now }
 {
     match card {
@@ -413,7 +413,7 @@ fn is_comment(card: &[u8]) -> bool
 }
 
 /// Whether a card doesn't begin in the first column.
-fn is_indented(card: &[u8]) -> bool
+pub(crate) fn is_indented(card: &[u8]) -> bool
     ensures { result ≡ is_indented card.now }
 {
     match card {

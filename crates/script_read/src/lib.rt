@@ -12,5 +12,5 @@ mod text;
 mod words;
 
 pub use fault::ScriptFault;
-pub use read::read_script;
+pub use read::{bases_are_scripts, read_base, read_script};
 pub use text::script_text;

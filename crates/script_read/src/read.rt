@@ -2,14 +2,15 @@ ghost use Rattle.std.specs.Prelude.{◌≡◌, ◌∷◌, ◌<◌, ◌≤◌, �
 ghost use Rattle.std.specs.List.{prefix_len};
 ghost use Rattle.std.specs.Str.Lines.{lines, strip_carriage_return};
 ghost use Rattle.text_model.specs.Drafts.{empty_draft};
-ghost use Rattle.text_model.specs.Reading.{script_by, script_from, script_of};
+ghost use Rattle.text_model.specs.Reading.{script_by, script_of};
+ghost use Rattle.script_read.specs.Bases.{is_event_card, entered_in, cards_from, base_of, BasesAreScripts};
 ghost use Rattle.script_read.specs.Answers.{Reads};
-ghost use Rattle.script_read.specs.Drafts.{draft_of};
+ghost use Rattle.script_read.specs.Drafts.{draft_of, Enters};
 
 use crate::ScriptFault;
 use crate::draft::{CardFault, Draft};
-use crate::enter::{close_file, empty_draft, enter};
-use ctss_types::Script;
+use crate::enter::{close_file, empty_draft, enter, is_comment, is_indented};
+use ctss_types::{Script, first_word};
 use std::alloc::Global;
 use text_model::{ScriptCause, ScriptRefusal};
 
@@ -78,17 +79,34 @@ fn script_by(mut draft: Draft, card: u32) -> Result<Script, ScriptFault>
     }
 }
 
-/// The script that the cards of a text make.
-fn script_from(alloc: Global, bytes: &[u8]) -> Result<Script, ScriptFault>
+/// Whether a card says an event.
+fn is_event_card(card: &[u8]) -> bool
+    ensures { result ≡ is_event_card card.now }
+{
+    !is_comment(card) && !is_indented(card) && first_word(card).0 == b"AT".as_slice()
+}
+
+/// Takes a card of a base script, or of any.
+fn enter_in(alloc: Global, is_base: bool, draft: &mut Draft, card: &[u8]) -> Result<(), CardFault>
+    ensures { Enters result (entered_in is_base (draft_of draft.old) card.now) (draft_of draft.new) }
+{
+    if is_base && draft.end.is_none() && is_event_card(card) {
+        return Err(CardFault::Refused(ScriptCause::NotACard));
+    }
+    enter(alloc, draft, card)
+}
+
+/// The script that the cards of a text make: a base script, or any.
+fn script_from(alloc: Global, is_base: bool, bytes: &[u8]) -> Result<Script, ScriptFault>
     requires { length bytes.now ≤ 4194304 }
-    ensures { Reads result (script_from 1 empty_draft (lines bytes.now)) }
+    ensures { Reads result (cards_from is_base 1 empty_draft (lines bytes.now)) }
 {
     let mut draft = empty_draft(alloc);
     let mut rest = bytes;
     let mut number = 1;
     'cards: while !rest.is_empty() {
         let (card, more) = first_line(rest);
-        match enter(alloc, &mut draft, card) {
+        match enter_in(alloc, is_base, &mut draft, card) {
             Ok(()) => {}
             Err(CardFault::Refused(cause)) => {
                 return Err(ScriptFault::Refused(ScriptRefusal {
@@ -104,16 +122,36 @@ fn script_from(alloc: Global, bytes: &[u8]) -> Result<Script, ScriptFault>
     script_by(draft, number)
 }
 
+/// The refusal of a text of too many bytes.
+const TOO_LONG: ScriptFault = ScriptFault::Refused(ScriptRefusal {
+    card: 0,
+    cause: ScriptCause::TooLong,
+});
+
 /// The script of bytes, or the first card at fault with its cause.
-#[tactic(auto, unfolding(text_model::specs::Reading::script_of))]
+#[tactic(auto, using(crate::proofs::Bases::any_cards), unfolding(text_model::specs::Reading::script_of))]
 pub fn read_script(alloc: Global, bytes: &[u8]) -> Result<Script, ScriptFault>
     ensures { Reads result (script_of bytes.now) }
 {
     if bytes.len() > MOST_BYTES {
-        return Err(ScriptFault::Refused(ScriptRefusal {
-            card: 0,
-            cause: ScriptCause::TooLong,
-        }));
+        return Err(TOO_LONG);
     }
-    script_from(alloc, bytes)
+    script_from(alloc, false, bytes)
 }
+
+/// The base script of bytes: a script in which a card of an event is no card; or the first card at fault with its cause.
+#[tactic(auto, unfolding(crate::specs::Bases::base_of))]
+pub fn read_base(alloc: Global, bytes: &[u8]) -> Result<Script, ScriptFault>
+    ensures { Reads result (base_of bytes.now) }
+{
+    if bytes.len() > MOST_BYTES {
+        return Err(TOO_LONG);
+    }
+    script_from(alloc, true, bytes)
+}
+
+/// Every base script is a script, so it is in range as all are.
+#[tactic(auto, using(crate::proofs::Bases::bases_are_scripts))]
+pub fn bases_are_scripts()
+    ensures { BasesAreScripts }
+{}

@@ -1,13 +1,13 @@
 use Rattle.std.proofs.Common.{◌≡◌, ◌≤◌, ◌+◌, length}
 use Rattle.std.specs.Str.Lines.{lines}
 use Rattle.text_model.specs.Drafts.{empty_draft}
-use Rattle.text_model.specs.Reading.{script_from}
+use Rattle.script_read.specs.Bases.{cards_from}
 use Rattle.script_read.specs.Drafts.{draft_of}
 use Rattle.script_read.proofs.read.script_from.Given as goal
 
 abbrev pub invariant-cards : goal.invariant-cards
 invariant-cards l = record {
-  same : script_from l.number (draft_of l.draft) (lines l.rest) ≡ script_from 1 empty_draft (lines l.fn.bytes);
+  same : cards_from l.fn.is_base l.number (draft_of l.draft) (lines l.rest) ≡ cards_from l.fn.is_base 1 empty_draft (lines l.fn.bytes);
   within : l.number + length l.rest ≤ 1 + length l.fn.bytes;
 }
 

@@ -1,0 +1,5 @@
+pub mod Levels
+pub mod Words
+pub mod Decks
+pub mod Cards
+pub mod Assembly

@@ -26,10 +26,12 @@ word_over [] place w core = refl
 word_over (s ∷ []) place w core = by_test (goes_on s place) refl
   where
     by_test : (b : Bool) → goes_on s place ≡ b
-        → overlaid (if b then grown s w ∷ [] else s ∷ one_word place w ∷ []) core ≡ set (with_words core s.first s.words) place w
+        → overlaid (if b then grown s w ∷ [] else s ∷ one_word place w ∷ []) core
+        ≡ set (with_words core s.first s.words) place w
     by_test true on =
         let parts = and_parts (nat_eq (s.first + length s.words) place) (nat_lt (length s.words) max_run) on in
-        with_words_append core s.first s.words (w ∷ []) ∙ ap (λ (p : ℕ). set (with_words core s.first s.words) p w) (eqb-true (s.first + length s.words) place parts.0)
+        with_words_append core s.first s.words (w ∷ [])
+        ∙ ap (λ (p : ℕ). set (with_words core s.first s.words) p w) (eqb-true (s.first + length s.words) place parts.0)
     by_test false on = refl
 word_over (s ∷ t ∷ segments) place w core = word_over (t ∷ segments) place w (with_words core s.first s.words)
 
@@ -37,7 +39,8 @@ pub words_over : (segments : List Segment) (place : ℕ) (ws core : List ℕ)
     → overlaid (add_words segments place ws) core ≡ with_words (overlaid segments core) place ws
 words_over segments place [] core = refl
 words_over segments place (w ∷ ws) core =
-    words_over (add_word segments place w) (suc place) ws core ∙ ap (λ (l : List ℕ). with_words l (suc place) ws) (word_over segments place w core)
+    words_over (add_word segments place w) (suc place) ws core
+    ∙ ap (λ (l : List ℕ). with_words l (suc place) ws) (word_over segments place w core)
 
 -- short ones within a bound
 
@@ -64,7 +67,8 @@ word_fits bound (s ∷ []) place w room all = by_test (goes_on s place) refl
   where
     by_test : (b : Bool) → goes_on s place ≡ b
         → All (IsShort bound) (if b then grown s w ∷ [] else s ∷ one_word place w ∷ [])
-    by_test true on = All-cons (IsShort bound) (grown s w) [] (grown_fits bound place w s room on) (All-nil (IsShort bound))
+    by_test true on = All-cons (IsShort bound) (grown s w) [] (grown_fits bound place w s room on)
+        (All-nil (IsShort bound))
     by_test false on =
         All-cons (IsShort bound) s (one_word place w ∷ []) (All-head (IsShort bound) s [] all)
         (All-cons (IsShort bound) (one_word place w) [] (one_fits bound place w room) (All-nil (IsShort bound)))
@@ -80,7 +84,8 @@ words_fit bound segments place (w ∷ ws) room all =
     let end : place + suc (length ws) ≤ bound = room (omega arith) in
     let first : suc place ≤ bound = omega (arith, end) in
     let rest : suc place + length ws ≤ bound = omega (arith, end) in
-    words_fit bound (add_word segments place w) (suc place) ws (λ (h : 1 ≤ length ws). rest) (word_fits bound segments place w first all)
+    words_fit bound (add_word segments place w) (suc place) ws (λ (h : 1 ≤ length ws). rest)
+    (word_fits bound segments place w first all)
 
 -- in a file
 

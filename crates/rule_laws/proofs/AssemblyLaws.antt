@@ -27,14 +27,17 @@ use Rattle.rule_laws.proofs.EndCards.{Ended, ended, start_below}
 
 -- the words of cards, each over those before
 cards_over : (whole : Whole) (segments : List Segment) (before cards : List (List ℕ)) (core : List ℕ)
-    → overlaid (segments_from whole segments (known before) cards) core ≡ overlaid (words_of_cards whole before cards) (overlaid segments core)
+    → overlaid (segments_from whole segments (known before) cards) core
+    ≡ overlaid (words_of_cards whole before cards) (overlaid segments core)
 cards_over whole segments before [] core = refl
 cards_over whole segments before (card ∷ cards) core =
     let place : ℕ = (known before).place in
     let ws : List ℕ = words_by whole (known before) (operation_in card) card in
-    ap (λ (k : Known). overlaid (segments_from whole (add_words segments place ws) k cards) core) (sym (known_push before card))
+    ap (λ (k : Known). overlaid (segments_from whole (add_words segments place ws) k cards) core)
+    (sym (known_push before card))
     ∙ cards_over whole (add_words segments place ws) (before ++ card ∷ []) cards core
-    ∙ ap (λ (l : List ℕ). overlaid (words_of_cards whole (before ++ card ∷ []) cards) l) (words_over segments place ws core)
+    ∙ ap (λ (l : List ℕ). overlaid (words_of_cards whole (before ++ card ∷ []) cards) l)
+    (words_over segments place ws core)
 
 -- and the literals over all
 all_over : (whole : Whole) (cards : List (List ℕ)) (core : List ℕ)
@@ -50,7 +53,8 @@ all_over whole cards core =
 -- what is true of the whole list
 record IsWhole (whole : Whole) (before : List (List ℕ)) : Type 0 where
   place_is : whole.end_place ≡ (known before).place
-  blocks_are_so : whole.blocks ≡ blocks_for (reach_of (reach_from 0 nothing_known before) whole.end_place (length whole.literals))
+  blocks_are_so :
+      whole.blocks ≡ blocks_for (reach_of (reach_from 0 nothing_known before) whole.end_place (length whole.literals))
 
 -- cards and literals that have room
 record HasRoom (whole : Whole) (before : List (List ℕ)) : Type 0 where
@@ -63,16 +67,20 @@ reach_in whole before = reach_of (reach_from 0 nothing_known before) whole.end_p
 small_reach : (whole : Whole) (before : List (List ℕ)) → HasRoom whole before → reach_in whole before ≤ max_place
 small_reach whole before h =
     let none : 0 ≤ max_place = omega arith in
-    reach_small max_place (reach_from 0 nothing_known before) whole.end_place (length whole.literals) (reach_within whole 0 nothing_known before h.cards_room none)
+    reach_small max_place (reach_from 0 nothing_known before) whole.end_place (length whole.literals)
+    (reach_within whole 0 nothing_known before h.cards_room none)
     (λ (some : 1 ≤ length whole.literals). h.end_room)
 
 all_short : (whole : Whole) (before : List (List ℕ)) → HasRoom whole before
-    → All (IsShort (reach_in whole before)) (add_words (segments_from whole [] nothing_known before) whole.end_place whole.literals)
+    → All (IsShort (reach_in whole before))
+    (add_words (segments_from whole [] nothing_known before) whole.end_place whole.literals)
 all_short whole before h =
     let bound : ℕ = reach_in whole before in
     words_fit bound (segments_from whole [] nothing_known before) whole.end_place whole.literals
-    (λ (some : 1 ≤ length whole.literals). reach_covers (reach_from 0 nothing_known before) whole.end_place (length whole.literals) some)
-    (segments_fit bound 0 whole [] nothing_known before h.cards_room (reach_grows (reach_from 0 nothing_known before) whole.end_place (length whole.literals)) (All-nil (IsShort bound)))
+    (λ (some : 1 ≤ length whole.literals). reach_covers (reach_from 0 nothing_known before) whole.end_place
+    (length whole.literals) some)
+    (segments_fit bound 0 whole [] nothing_known before h.cards_room
+    (reach_grows (reach_from 0 nothing_known before) whole.end_place (length whole.literals)) (All-nil (IsShort bound)))
 
 inside_of : (bound size : ℕ) (s : Segment) → bound ≤ size → IsShort bound s → IsInside size s
 inside_of bound size s h short = record { some = short.some; inside = le_trans short.inside h }
@@ -97,7 +105,8 @@ deck_laid bound d segments blocks below small short =
       some = blocks.some;
       most = blocks.most;
       start = below;
-      inside = All-weaker (IsShort bound) (IsInside (256 * d.blocks)) (λ (s : Segment) (h : IsShort bound s). inside_of bound (256 * d.blocks) s blocks.cover h) segments short;
+      inside = All-weaker (IsShort bound) (IsInside (256 * d.blocks))
+          (λ (s : Segment) (h : IsShort bound s). inside_of bound (256 * d.blocks) s blocks.cover h) segments short;
     }
 
 -- what a deck says
@@ -142,25 +151,35 @@ deck_in_whole whole start = record { start = start; blocks = whole.blocks }
 is_laid : (whole : Whole) (before : List (List ℕ)) (last : List ℕ) (start : ℕ) → IsWhole whole before
     → faults_from whole 1 nothing_known (before ++ last ∷ []) ≡ []
     → is_end (operation_in last) ≡ true → start ≡ start_in whole (known before) (field_for end last)
-    → IsLaid (deck_in_whole whole start) (segments_in whole before) ((start * 2 ^ 18 + whole.blocks) ∷ segment_words (segments_in whole before))
+    → IsLaid (deck_in_whole whole start) (segments_in whole before)
+    ((start * 2 ^ 18 + whole.blocks) ∷ segment_words (segments_in whole before))
 is_laid whole before last start w faults is_last start_is =
     let f = no_faults whole 1 nothing_known before last faults in
     let g = good_end whole (known before) last is_last f.1 in
-    let room : HasRoom whole before = record { cards_room = f.0; end_room = end_fits whole.end_place (known before).place (length whole.literals) w.place_is g.room } in
+    let room : HasRoom whole before =
+    record {
+      cards_room = f.0;
+      end_room =
+          end_fits whole.end_place (known before).place (length whole.literals) w.place_is g.room;
+    } in
     let small : reach_in whole before ≤ max_place = small_reach whole before room in
     let blocks : AreBlocks (reach_in whole before) whole.blocks =
     subst (AreBlocks (reach_in whole before)) (sym w.blocks_are_so) (blocks_are (reach_in whole before) small) in
     let below : start < 256 * whole.blocks =
-    subst (λ (s : ℕ). s < 256 * whole.blocks) (sym start_is) (start_below whole (known before) (field_for end last) blocks.some g.right) in
-    deck_laid (reach_in whole before) (deck_in_whole whole start) (segments_in whole before) blocks below small (all_short whole before room)
+    subst (λ (s : ℕ). s < 256 * whole.blocks) (sym start_is)
+    (start_below whole (known before) (field_for end last) blocks.some g.right) in
+    deck_laid (reach_in whole before) (deck_in_whole whole start) (segments_in whole before) blocks below small
+    (all_short whole before room)
 
 -- and what they leave in a core
-is_stored : (whole : Whole) (before : List (List ℕ)) (d : Deck) (words core : List ℕ) → IsLaid d (segments_in whole before) words
+is_stored : (whole : Whole) (before : List (List ℕ)) (d : Deck) (words core : List ℕ)
+    → IsLaid d (segments_in whole before) words
     → AreStored (words_of_cards whole [] before ++ literals_of whole ∷ []) core (filled words core)
 is_stored whole before d words core laid =
     let segments : List Segment = words_of_cards whole [] before ++ literals_of whole ∷ [] in
     let over : filled words core ≡ overlaid segments core =
-    ap (λ (l : List ℕ). filled l core) laid.words_are ∙ filled_is laid.first laid.rest (segments_in whole before) core laid.laid ∙ all_over whole before core in
+    ap (λ (l : List ℕ). filled l core) laid.words_are
+    ∙ filled_is laid.first laid.rest (segments_in whole before) core laid.laid ∙ all_over whole before core in
     subst (AreStored segments core) (sym over) (overlaid_stores segments core)
 
 whole_so : (cards : List (List ℕ)) → IsWhole (whole_of cards) (cards_before_end cards)
@@ -171,9 +190,11 @@ loaded_as cards none =
     let whole : Whole = whole_of cards in
     let before : List (List ℕ) = cards_before_end cards in
     let start : ℕ = start_from whole nothing_known cards in
-    let two = both_none (faults_from whole 1 nothing_known (cards_read cards)) (if has_end cards then [] else (length cards + 1, 6) ∷ []) none in
+    let two = both_none (faults_from whole 1 nothing_known (cards_read cards))
+    (if has_end cards then [] else (length cards + 1, 6) ∷ []) none in
     let e : Ended cards = ended cards (no_more (has_end cards) (length cards + 1, 6) two.1) in
-    let faults : faults_from whole 1 nothing_known (before ++ e.last ∷ []) ≡ [] = ap (λ (l : List (List ℕ)). faults_from whole 1 nothing_known l) (sym e.read) ∙ two.0 in
+    let faults : faults_from whole 1 nothing_known (before ++ e.last ∷ []) ≡ [] =
+    ap (λ (l : List (List ℕ)). faults_from whole 1 nothing_known l) (sym e.read) ∙ two.0 in
     let laid : IsLaid (deck_in_whole whole start) (segments_of cards) (deck_words cards) =
     is_laid whole before e.last start (whole_so cards) faults e.last_is (e.start whole nothing_known) in
     record {
@@ -183,4 +204,5 @@ loaded_as cards none =
 
 pub deck_is_stored : DeckIsStored
 unfolding assembled
-deck_is_stored cards words h = let so = without_faults (faults_of cards) cards words h in subst (IsLoadedAs cards) so.1 (loaded_as cards so.0)
+deck_is_stored cards words h = let so = without_faults (faults_of cards) cards words h in
+    subst (IsLoadedAs cards) so.1 (loaded_as cards so.0)

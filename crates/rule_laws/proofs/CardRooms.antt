@@ -29,8 +29,11 @@ good : (names : List (ℕ × ℕ)) (more : ℕ) (wrong : Bool) (k : Known) (o : 
     → fault_with names more wrong k o card f ≡ 0 → IsGood more wrong k o f
 good names more wrong k o card f h =
     let parts =
-    no_fault (is_bad card || (has_bad_symbol card || ((flag_of card && not (takes_flag o)) || (is_equ o && nat_eq (length (symbol_text card)) 0)))) (field_is_wrong names k f || wrong)
-    (not (field_is_defined names f)) (symbol_is_known k (symbol_of card)) (nat_lt max_place (k.place + count_of o k f + more)) h in
+    no_fault (is_bad card || (has_bad_symbol card ||
+    ((flag_of card && not (takes_flag o)) || (is_equ o && nat_eq (length (symbol_text card)) 0))))
+    (field_is_wrong names k f || wrong)
+    (not (field_is_defined names f)) (symbol_is_known k (symbol_of card))
+    (nat_lt max_place (k.place + count_of o k f + more)) h in
     record {
       right = (or_parts (field_is_wrong names k f) wrong parts.0).1;
       room = ltb-false max_place (k.place + count_of o k f + more) parts.1;
@@ -44,8 +47,10 @@ room_for : (o : Operation) (whole : Whole) (k : Known) (card : List ℕ) → fau
     → k.place + count_of o k (field_for o card) ≤ max_place
 room_for end whole k card h =
     weaken k.place 0 (length whole.literals) max_place
-    (good whole.names (length whole.literals) (start_is_outside whole k (field_for end card)) k end card (field_for end card) h).room
-room_for o whole k card h = weaken k.place (count_of o k (field_for o card)) 0 max_place (good (names_for o whole k) 0 false k o card (field_for o card) h).room
+    (good whole.names (length whole.literals) (start_is_outside whole k (field_for end card)) k end card
+    (field_for end card) h).room
+room_for o whole k card h = weaken k.place (count_of o k (field_for o card)) 0 max_place
+    (good (names_for o whole k) 0 false k o card (field_for o card) h).room
 
 -- and so its size is what it takes
 size_is : (o : Operation) (k : Known) (f : Option Field) → k.place + count_of o k f ≤ max_place
@@ -108,7 +113,8 @@ roomy_by : (o : Option Operation) (whole : Whole) (k : Known) (card : List ℕ) 
 roomy_by None whole k card h = absurd (omega (arith, h))
 roomy_by (Some o) whole k card h =
     let room = room_for o whole k card h in
-    let r = roomy_from k.place (size_of o k (field_for o card)) (count_of o k (field_for o card)) (length (words_by whole k (Some o) card)) (size_is o k (field_for o card) room) (words_count o whole k card) room in
+    let r = roomy_from k.place (size_of o k (field_for o card)) (count_of o k (field_for o card))
+    (length (words_by whole k (Some o) card)) (size_is o k (field_for o card) room) (words_count o whole k card) room in
     record { words_fit = r.0; room = r.1 }
 
 no_words : (whole : Whole) (k : Known) (card : List ℕ) → IsRoomy whole k None card
@@ -120,7 +126,8 @@ roomy whole k card h = by_comment (is_comment card) h
   where
     by_comment :
         (b : Bool)
-        → (if b then (if is_bad card then 2 else 0) else fault_by (operation_named (operation_of card)) whole k card) ≡ 0
+        → (if b then (if is_bad card then 2 else 0) else fault_by (operation_named (operation_of card)) whole k card)
+        ≡ 0
         → IsRoomy whole k (if b then None else operation_named (operation_of card)) card
     by_comment true e = no_words whole k card
     by_comment false e = roomy_by (operation_named (operation_of card)) whole k card e
@@ -130,7 +137,8 @@ pub good_end : (whole : Whole) (k : Known) (card : List ℕ) → is_end (operati
     → fault_of whole k card ≡ 0
     → IsGood (length whole.literals) (start_is_outside whole k (field_for end card)) k end (field_for end card)
 good_end whole k card is h =
-    good whole.names (length whole.literals) (start_is_outside whole k (field_for end card)) k end card (field_for end card) (by_operation (is_comment card) (operation_named (operation_of card)) is h)
+    good whole.names (length whole.literals) (start_is_outside whole k (field_for end card)) k end card
+    (field_for end card) (by_operation (is_comment card) (operation_named (operation_of card)) is h)
   where
     by_operation :
         (b : Bool) (o : Option Operation) → is_end (if b then None else o) ≡ true
@@ -158,8 +166,10 @@ no_entry n (suc f) h = cc
 pub no_faults : (whole : Whole) (n : ℕ) (k : Known) (cards : List (List ℕ)) (last : List ℕ)
     → faults_from whole n k (cards ++ last ∷ []) ≡ []
     → AllRoomy whole k cards × (fault_of whole (known_after k cards) last ≡ 0)
-no_faults whole n k [] last h = (tt, no_entry n (fault_of whole k last) (both_none (fault_entry n (fault_of whole k last)) [] h).0)
+no_faults whole n k [] last h =
+    (tt, no_entry n (fault_of whole k last) (both_none (fault_entry n (fault_of whole k last)) [] h).0)
 no_faults whole n k (card ∷ cards) last h =
-    let parts = both_none (fault_entry n (fault_of whole k card)) (faults_from whole (suc n) (known_behind k card) (cards ++ last ∷ [])) h in
+    let parts = both_none (fault_entry n (fault_of whole k card))
+    (faults_from whole (suc n) (known_behind k card) (cards ++ last ∷ [])) h in
     let rest = no_faults whole (suc n) (known_behind k card) cards last parts.1 in
     ((roomy whole k card (no_entry n (fault_of whole k card) parts.0), rest.0), rest.1)

@@ -22,8 +22,10 @@ deck_at w = made (decrement_of w) (address_of w)
 -- words that pass the test are laid
 laid_so : (w : ℕ) (ws : List ℕ) → is_deck w ws ≡ true → IsDeck (deck_at w) (w ∷ ws)
 laid_so w ws h =
-    let all = and_parts (nat_le 1 (address_of w) && nat_le (address_of w) 128 && nat_lt (decrement_of w) (256 * address_of w)) (are_segments (256 * address_of w) 0 ws) h in
-    let head = and_parts (nat_le 1 (address_of w) && nat_le (address_of w) 128) (nat_lt (decrement_of w) (256 * address_of w)) all.0 in
+    let all = and_parts (nat_le 1 (address_of w) && nat_le (address_of w) 128 && nat_lt (decrement_of w)
+    (256 * address_of w)) (are_segments (256 * address_of w) 0 ws) h in
+    let head = and_parts (nat_le 1 (address_of w) && nat_le (address_of w) 128)
+    (nat_lt (decrement_of w) (256 * address_of w)) all.0 in
     let blocks = and_parts (nat_le 1 (address_of w)) (nat_le (address_of w) 128) head.0 in
     let f : Found (256 * address_of w) 0 ws = found (256 * address_of w) 0 ws all.1 in
     let behind : ws ≡ f.rest = f.words_are ∙ ap (λ (l : List ℕ). l ++ f.rest) (nil_from_length f.front f.front_is) in
@@ -51,10 +53,14 @@ tested d first rest segments laid inside start blocks some most within =
     let low : 1 ≤ address_of first = omega (arith, blocks, some) in
     let high : address_of first ≤ 128 = omega (arith, blocks, most) in
     let below : decrement_of first < 256 * address_of first = omega (arith, start, blocks, within) in
-    let walk : are_segments (256 * address_of first) 0 rest ≡ true = ap (λ (n : ℕ). are_segments (256 * n) 0 rest) blocks ∙ all_passed (256 * d.blocks) segments rest laid inside in
-    and_from (nat_le 1 (address_of first) && nat_le (address_of first) 128 && nat_lt (decrement_of first) (256 * address_of first)) (are_segments (256 * address_of first) 0 rest)
-    (and_from (nat_le 1 (address_of first) && nat_le (address_of first) 128) (nat_lt (decrement_of first) (256 * address_of first))
-    (and_from (nat_le 1 (address_of first)) (nat_le (address_of first) 128) (le-leb 1 (address_of first) low) (le-leb (address_of first) 128 high))
+    let walk : are_segments (256 * address_of first) 0 rest ≡ true =
+    ap (λ (n : ℕ). are_segments (256 * n) 0 rest) blocks ∙ all_passed (256 * d.blocks) segments rest laid inside in
+    and_from (nat_le 1 (address_of first) && nat_le (address_of first) 128 && nat_lt (decrement_of first)
+    (256 * address_of first)) (are_segments (256 * address_of first) 0 rest)
+    (and_from (nat_le 1 (address_of first) && nat_le (address_of first) 128)
+    (nat_lt (decrement_of first) (256 * address_of first))
+    (and_from (nat_le 1 (address_of first)) (nat_le (address_of first) 128) (le-leb 1 (address_of first) low)
+    (le-leb (address_of first) 128 high))
     (lt-ltb (decrement_of first) (256 * address_of first) below))
     walk
 
@@ -68,7 +74,8 @@ behind_is w v ws vs e = ap (λ (l : List ℕ). drop 1 l) e
 laid_passes : (d : Deck) (w : ℕ) (ws : List ℕ) → IsDeck d (w ∷ ws) → is_deck w ws ≡ true
 laid_passes d w ws h =
     let l = h.1 in
-    ap₂ (λ (v : ℕ) (vs : List ℕ). is_deck v vs) (front_is w l.first ws l.rest l.words_are) (behind_is w l.first ws l.rest l.words_are)
+    ap₂ (λ (v : ℕ) (vs : List ℕ). is_deck v vs) (front_is w l.first ws l.rest l.words_are)
+    (behind_is w l.first ws l.rest l.words_are)
     ∙ tested d l.first l.rest h.0 l.laid l.inside l.start_is l.blocks_are l.some l.most l.start
 
 empty_is_none : (d : Deck) → ¬ (IsDeck d [])
@@ -83,7 +90,8 @@ one_deck d e words h k =
     let a = h.1 in
     let b = k.1 in
     let first : a.first ≡ b.first = front_is a.first b.first a.rest b.rest (sym a.words_are ∙ b.words_are) in
-    same_deck d e (sym a.start_is ∙ ap decrement_of first ∙ b.start_is) (sym a.blocks_are ∙ ap address_of first ∙ b.blocks_are)
+    same_deck d e (sym a.start_is ∙ ap decrement_of first ∙ b.start_is)
+    (sym a.blocks_are ∙ ap address_of first ∙ b.blocks_are)
 
 -- the three things that a file can be
 data Outcome (quota : ℕ) (words : List ℕ) : Type 0 where
@@ -99,9 +107,14 @@ outcome quota [] = is_bad empty_is_none refl
 outcome quota (w ∷ ws) = by_test (is_deck w ws) refl (nat_le (address_of w) quota) refl
   where
     by_test : (b : Bool) → is_deck w ws ≡ b → (c : Bool) → nat_le (address_of w) quota ≡ c → Outcome quota (w ∷ ws)
-    by_test true laid true fits = loads (deck_at w) (laid_so w ws laid) (leb-true (address_of w) quota fits) (ap₂ (λ (b c : Bool). said b c (deck_at w)) laid fits)
-    by_test true laid false fits = too_large (deck_at w) (laid_so w ws laid) (leb-false (address_of w) quota fits) (ap₂ (λ (b c : Bool). said b c (deck_at w)) laid fits)
-    by_test false laid c fits = is_bad (λ (d : Deck) (h : IsDeck d (w ∷ ws)). false≢true (sym laid ∙ laid_passes d w ws h)) (ap₂ (λ (b c : Bool). said b c (deck_at w)) laid fits)
+    by_test true laid true fits = loads (deck_at w) (laid_so w ws laid) (leb-true (address_of w) quota fits)
+        (ap₂ (λ (b c : Bool). said b c (deck_at w)) laid fits)
+    by_test true laid false fits =
+        too_large (deck_at w) (laid_so w ws laid) (leb-false (address_of w) quota fits)
+        (ap₂ (λ (b c : Bool). said b c (deck_at w)) laid fits)
+    by_test false laid c fits = is_bad
+        (λ (d : Deck) (h : IsDeck d (w ∷ ws)). false≢true (sym laid ∙ laid_passes d w ws h))
+        (ap₂ (λ (b c : Bool). said b c (deck_at w)) laid fits)
 
 -- and so each answer says which
 
@@ -117,7 +130,8 @@ deck_if : (quota : ℕ) (words : List ℕ) (d : Deck) → Outcome quota words �
     → deck_in quota words ≡ Ok d
 deck_if quota words d (loads e is fits got) h small = got ∙ ap (λ (x : Deck). Ok x) (one_deck e d words is h)
 deck_if quota words d (too_large e is over got) h small =
-    let same : e.blocks ≡ d.blocks = ap (λ (x : Deck). x.blocks) (one_deck e d words is h) in absurd (omega (arith, same, over, small))
+    let same : e.blocks ≡ d.blocks = ap (λ (x : Deck). x.blocks) (one_deck e d words is h) in
+    absurd (omega (arith, same, over, small))
 deck_if quota words d (is_bad none got) h small = absurd (none d h)
 
 large_when : (quota : ℕ) (words : List ℕ) → Outcome quota words → deck_in quota words ≡ Err TooLarge
@@ -129,7 +143,8 @@ large_when quota words (is_bad none got) h = absurd cc
 large_if : (quota : ℕ) (words : List ℕ) (d : Deck) → Outcome quota words → IsDeck d words → quota < d.blocks
     → deck_in quota words ≡ Err TooLarge
 large_if quota words d (loads e is fits got) h over =
-    let same : e.blocks ≡ d.blocks = ap (λ (x : Deck). x.blocks) (one_deck e d words is h) in absurd (omega (arith, same, over, fits))
+    let same : e.blocks ≡ d.blocks = ap (λ (x : Deck). x.blocks) (one_deck e d words is h) in
+    absurd (omega (arith, same, over, fits))
 large_if quota words d (too_large e is over got) h over_too = got
 large_if quota words d (is_bad none got) h over = absurd (none d h)
 

@@ -25,7 +25,8 @@ with_head size head ws some inside f =
     let s : Segment = record { first = address_of head; words = f.front } in
     let one : 1 ≤ decrement_of head = leb-true 1 (decrement_of head) some in
     let end : address_of head + decrement_of head ≤ size = leb-true (address_of head + decrement_of head) size inside in
-    let within : IsInside size s = record { some = omega (arith, one, f.front_is); inside = omega (arith, end, f.front_is) } in
+    let within : IsInside size s =
+    record { some = omega (arith, one, f.front_is); inside = omega (arith, end, f.front_is) } in
     record {
       front = [];
       rest = head ∷ ws;
@@ -51,9 +52,18 @@ with_word size left w ws f =
 
 pub found : (size left : ℕ) (words : List ℕ) → are_segments size left words ≡ true → Found size left words
 found size left [] h =
-    record { front = []; rest = []; segments = []; front_is = sym (eqb-true left 0 h); words_are = refl; laid = refl; inside = All-nil (IsInside size) }
+    record {
+      front = [];
+      rest = [];
+      segments = [];
+      front_is = sym (eqb-true left 0 h);
+      words_are = refl;
+      laid = refl;
+      inside = All-nil (IsInside size);
+    }
 found size zero (w ∷ ws) h =
-    let all = and_parts (nat_le 1 (decrement_of w) && nat_le (address_of w + decrement_of w) size) (are_segments size (decrement_of w) ws) h in
+    let all = and_parts (nat_le 1 (decrement_of w) && nat_le (address_of w + decrement_of w) size)
+    (are_segments size (decrement_of w) ws) h in
     let head = and_parts (nat_le 1 (decrement_of w)) (nat_le (address_of w + decrement_of w) size) all.0 in
     with_head size w ws head.0 head.1 (found size (decrement_of w) ws all.1)
 found size (suc left) (w ∷ ws) h = with_word size left w ws (found size left ws h)
@@ -70,8 +80,10 @@ one_passed : (size head : ℕ) (s : Segment) (rest : List ℕ) → address_of he
 one_passed size head s rest place count inside behind =
     let some : 1 ≤ decrement_of head = omega (arith, count, inside.some) in
     let end : address_of head + decrement_of head ≤ size = omega (arith, place, count, inside.inside) in
-    and_from (nat_le 1 (decrement_of head) && nat_le (address_of head + decrement_of head) size) (are_segments size (decrement_of head) (s.words ++ rest))
-    (and_from (nat_le 1 (decrement_of head)) (nat_le (address_of head + decrement_of head) size) (le-leb 1 (decrement_of head) some) (le-leb (address_of head + decrement_of head) size end))
+    and_from (nat_le 1 (decrement_of head) && nat_le (address_of head + decrement_of head) size)
+    (are_segments size (decrement_of head) (s.words ++ rest))
+    (and_from (nat_le 1 (decrement_of head)) (nat_le (address_of head + decrement_of head) size)
+    (le-leb 1 (decrement_of head) some) (le-leb (address_of head + decrement_of head) size end))
     (ap (λ (n : ℕ). are_segments size n (s.words ++ rest)) count ∙ passed size s.words rest ∙ behind)
 
 pub all_passed : (size : ℕ) (segments : List Segment) (words : List ℕ) → AreLaid segments words

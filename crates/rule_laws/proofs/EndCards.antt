@@ -19,11 +19,14 @@ ended_here card cards is =
     record {
       last = card;
       last_is = is;
-      read = ap (λ (b : Bool). if b then card ∷ [] else card ∷ cards_read cards) is ∙ sym (ap (λ (b : Bool). (if b then [] else card ∷ cards_before_end cards) ++ card ∷ []) is);
+      read = ap (λ (b : Bool). if b then card ∷ [] else card ∷ cards_read cards) is
+          ∙ sym (ap (λ (b : Bool). (if b then [] else card ∷ cards_before_end cards) ++ card ∷ []) is);
       start =
           λ whole k.
-          ap (λ (b : Bool). if b then start_in whole k (field_for end card) else start_from whole (known_behind k card) cards) is
-          ∙ sym (ap (λ (b : Bool). start_in whole (known_after k (if b then [] else card ∷ cards_before_end cards)) (field_for end card)) is);
+          ap (λ (b : Bool). if b then start_in whole k (field_for end card) else start_from whole
+          (known_behind k card) cards) is
+          ∙ sym (ap (λ (b : Bool). start_in whole (known_after k (if b then [] else card ∷ cards_before_end cards))
+          (field_for end card)) is);
     }
 
 -- it comes later
@@ -39,9 +42,11 @@ ended_later card cards not_yet e =
           ∙ sym (ap (λ (b : Bool). (if b then [] else card ∷ cards_before_end cards) ++ e.last ∷ []) not_yet);
       start =
           λ whole k.
-          ap (λ (b : Bool). if b then start_in whole k (field_for end card) else start_from whole (known_behind k card) cards) not_yet
+          ap (λ (b : Bool). if b then start_in whole k (field_for end card) else start_from whole
+          (known_behind k card) cards) not_yet
           ∙ e.start whole (known_behind k card)
-          ∙ sym (ap (λ (b : Bool). start_in whole (known_after k (if b then [] else card ∷ cards_before_end cards)) (field_for end e.last)) not_yet);
+          ∙ sym (ap (λ (b : Bool). start_in whole (known_after k (if b then [] else card ∷ cards_before_end cards))
+          (field_for end e.last)) not_yet);
     }
 
 pub ended : (cards : List (List ℕ)) → has_end cards ≡ true → Ended cards

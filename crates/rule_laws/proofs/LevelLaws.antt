@@ -16,8 +16,10 @@ below_last last n g past r = record { within = omega (arith, r.within); fits = r
   where
     most : (other : ℕ) → other ≤ suc last → 2 ^ other ≤ n → other ≤ g
     most other h k =
-        ⊎_elim (λ (e : other ≡ suc last). let same : 2 ^ other ≡ 2 ^ suc last = ap (λ (m : ℕ). 2 ^ m) e in absurd (omega (arith, same, k, past)))
-        (λ (ne : other ≡ suc last → ⊥). let lower : other ≤ last = omega arith in r.most other lower k) (cases_eq other (suc last))
+        ⊎_elim (λ (e : other ≡ suc last). let same : 2 ^ other ≡ 2 ^ suc last = ap (λ (m : ℕ). 2 ^ m) e in
+        absurd (omega (arith, same, k, past)))
+        (λ (ne : other ≡ suc last → ⊥). let lower : other ≤ last = omega arith in r.most other lower k)
+        (cases_eq other (suc last))
 
 -- the walk stops there
 greatest_is : (last n : ℕ) → 1 ≤ n → IsGreatest last n (greatest last n)
@@ -41,5 +43,7 @@ only_one : (wq words l m : ℕ) → IsLevel wq words l → IsLevel wq words m �
 only_one wq words l m a b = le_antisymm (b.most l a.within a.fits) (a.most m b.within b.fits)
 
 pub level_fits : LevelFits
-level_fits wq words l =
-    (λ (e : level_of_words wq words ≡ l). subst (IsLevel wq words) e (level_is wq words), λ (r : IsLevel wq words l). only_one wq words (level_of_words wq words) l (level_is wq words) r)
+level_fits wq words l = (
+  λ (e : level_of_words wq words ≡ l). subst (IsLevel wq words) e (level_is wq words),
+  λ (r : IsLevel wq words l). only_one wq words (level_of_words wq words) l (level_is wq words) r,
+)

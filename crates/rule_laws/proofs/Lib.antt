@@ -11,3 +11,4 @@ pub mod CardRooms
 pub mod Reaches
 pub mod EndCards
 pub mod AssemblyLaws
+pub mod RowsComputed

@@ -31,7 +31,8 @@ place_behind k card = by_comment (is_comment card)
     by_operation (Some o) = refl
 
     by_comment : (b : Bool)
-        → (if b then k else known_with k (operation_named (operation_of card)) card).place ≡ next_by (if b then None else operation_named (operation_of card)) k card
+        → (if b then k else known_with k (operation_named (operation_of card)) card).place
+        ≡ next_by (if b then None else operation_named (operation_of card)) k card
     by_comment true = refl
     by_comment false = by_operation (operation_named (operation_of card))
 
@@ -57,30 +58,36 @@ next_of (Some org) k card h = by_fault (nat_eq (early_fault k org card) 0) refl
     by_fault : (b : Bool) → nat_eq (early_fault k org card) 0 ≡ b
         → (if b then said k (field_for org card) else k.place) ≡ k.place + size_by (Some org) k card
     by_fault true good = absurd (h (refl, eqb-true (early_fault k org card) 0 good))
-    by_fault false bad = plus_none k.place (size_by (Some org) k card) (no_size (nat_le (k.place + count_of org k (field_for org card)) max_place))
+    by_fault false bad = plus_none k.place (size_by (Some org) k card)
+        (no_size (nat_le (k.place + count_of org k (field_for org card)) max_place))
 next_of (Some _) k card h = refl
 
 -- an ORG without a fault
 next_origin : (o : Option Operation) (k : Known) (card : List ℕ) → o ≡ Some org → early_fault k org card ≡ 0
     → next_by o k card ≡ said k (field_for org card)
 next_origin o k card is good =
-    ap (λ (p : Option Operation). next_by p k card) is ∙ ap (λ (b : Bool). if b then said k (field_for org card) else k.place) (eq-eqb (early_fault k org card) 0 good)
+    ap (λ (p : Option Operation). next_by p k card) is
+    ∙ ap (λ (b : Bool). if b then said k (field_for org card) else k.place) (eq-eqb (early_fault k org card) 0 good)
 
 -- cards behind others with no such ORG among them
 none_first : (before cards : List (List ℕ)) (card : List ℕ) → NoOrigin before (card ∷ cards) → ¬ (IsOrigin before card)
-none_first before cards card lacks = subst (λ (l : List (List ℕ)). ¬ (IsOrigin l card)) (append-nil before) (lacks [] cards card refl)
+none_first before cards card lacks =
+    subst (λ (l : List (List ℕ)). ¬ (IsOrigin l card)) (append-nil before) (lacks [] cards card refl)
 
 none_behind : (before cards : List (List ℕ)) (card : List ℕ) → NoOrigin before (card ∷ cards)
     → NoOrigin (before ++ card ∷ []) cards
 none_behind before cards card lacks =
     λ front rest other e.
-    subst (λ (l : List (List ℕ)). ¬ (IsOrigin l other)) (sym (append_assoc before (card ∷ []) front)) (lacks (card ∷ front) rest other (ap (λ (l : List (List ℕ)). card ∷ l) e))
+    subst (λ (l : List (List ℕ)). ¬ (IsOrigin l other)) (sym (append_assoc before (card ∷ []) front))
+    (lacks (card ∷ front) rest other (ap (λ (l : List (List ℕ)). card ∷ l) e))
 
 place_since : (before cards : List (List ℕ)) → NoOrigin before cards
     → (known (before ++ cards)).place ≡ (known before).place + sizes before cards
-place_since before [] lacks = ap (λ (l : List (List ℕ)). (known l).place) (append-nil before) ∙ plus_none (known before).place 0 refl
+place_since before [] lacks = ap (λ (l : List (List ℕ)). (known l).place) (append-nil before)
+    ∙ plus_none (known before).place 0 refl
 place_since before (card ∷ cards) lacks =
-    add_up (known (before ++ card ∷ cards)).place (known (before ++ card ∷ [] ++ cards)).place (known (before ++ card ∷ [])).place (known before).place
+    add_up (known (before ++ card ∷ cards)).place (known (before ++ card ∷ [] ++ cards)).place
+    (known (before ++ card ∷ [])).place (known before).place
     (size_by (operation_in card) (known before) card) (sizes (before ++ card ∷ []) cards)
     (ap (λ (l : List (List ℕ)). (known l).place) (sym (append_assoc before (card ∷ []) cards)))
     (place_since (before ++ card ∷ []) cards (none_behind before cards card lacks))
@@ -92,10 +99,12 @@ place_of_card = record { since = since; first = first }
   where
     since :
         (before cards : List (List ℕ)) (card : List ℕ) → IsOrigin before card → NoOrigin (before ++ card ∷ []) cards
-        → (known (before ++ card ∷ cards)).place ≡ said (known before) (field_for org card) + sizes (before ++ card ∷ []) cards
+        → (known (before ++ card ∷ cards)).place
+        ≡ said (known before) (field_for org card) + sizes (before ++ card ∷ []) cards
     since before cards card is lacks =
         let origin : (known (before ++ card ∷ [])).place ≡ said (known before) (field_for org card) =
-        ap (λ (k : Known). k.place) (known_push before card) ∙ place_behind (known before) card ∙ next_origin (operation_in card) (known before) card is.0 is.1 in
+        ap (λ (k : Known). k.place) (known_push before card) ∙ place_behind (known before) card
+        ∙ next_origin (operation_in card) (known before) card is.0 is.1 in
         ap (λ (l : List (List ℕ)). (known l).place) (sym (append_assoc before (card ∷ []) cards))
         ∙ place_since (before ++ card ∷ []) cards lacks
         ∙ ap (λ (p : ℕ). p + sizes (before ++ card ∷ []) cards) origin

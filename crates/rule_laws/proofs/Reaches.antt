@@ -22,7 +22,8 @@ reach_more : (reach : ℕ) (k : Known) (cards : List (List ℕ)) → reach ≤ r
 reach_more reach k [] = le_refl reach
 reach_more reach k (card ∷ cards) =
     let next : ℕ = reach_of reach k.place (size_by (operation_in card) k card) in
-    le_trans (reach_grows reach k.place (size_by (operation_in card) k card)) (reach_more next (known_behind k card) cards)
+    le_trans (reach_grows reach k.place (size_by (operation_in card) k card))
+    (reach_more next (known_behind k card) cards)
 
 pub reach_within : (whole : Whole) (reach : ℕ) (k : Known) (cards : List (List ℕ)) → AllRoomy whole k cards
     → reach ≤ max_place → reach_from reach k cards ≤ max_place
@@ -50,7 +51,8 @@ segments_fit bound reach whole segments k (card ∷ cards) all h short =
     segments_fit bound next whole (add_words segments k.place ws) (known_behind k card) cards all.1 h
     (words_fit bound segments k.place ws
     (in_reach k.place size (length ws) bound (all.0).words_fit
-    (λ (some : 1 ≤ size). le_trans (reach_covers reach k.place size some) (le_trans (reach_more next (known_behind k card) cards) h)))
+    (λ (some : 1 ≤ size). le_trans (reach_covers reach k.place size some)
+    (le_trans (reach_more next (known_behind k card) cards) h)))
     short)
 
 -- the blocks for a reach

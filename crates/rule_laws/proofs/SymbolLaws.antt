@@ -22,7 +22,8 @@ symbols_behind k card = by_comment (is_comment card)
     by_comment :
         (b : Bool)
         → (if b then k else known_with k (operation_named (operation_of card)) card).symbols
-        ≡ with_symbol k (if b then None else symbol_of card) (value_by (if b then None else operation_named (operation_of card)) k card)
+        ≡ with_symbol k (if b then None else symbol_of card)
+        (value_by (if b then None else operation_named (operation_of card)) k card)
     by_comment true = refl
     by_comment false = by_operation (operation_named (operation_of card))
 
@@ -87,7 +88,8 @@ kept_after : (k : Known) (cards : List (List ℕ)) (name w : ℕ) → value_in k
 kept_after k [] name w h = h
 kept_after k (card ∷ cards) name w h =
     kept_after (known_behind k card) cards name w
-    (ap (λ (l : List (ℕ × ℕ)). value_in l name) (symbols_behind k card) ∙ kept_by k (symbol_in card) (value_by (operation_in card) k card) name w h)
+    (ap (λ (l : List (ℕ × ℕ)). value_in l name) (symbols_behind k card)
+    ∙ kept_by k (symbol_in card) (value_by (operation_in card) k card) name w h)
 
 none_after : (k : Known) (cards : List (List ℕ)) (name : ℕ) → NoneHas name cards → value_in k.symbols name ≡ None
     → value_in (known_after k cards).symbols name ≡ None
@@ -95,7 +97,8 @@ none_after k [] name none h = h
 none_after k (card ∷ cards) name none h =
     let P : List ℕ → Type 0 = λ (c : List ℕ). ¬ (HasSymbol name c) in
     none_after (known_behind k card) cards name (All-tail P card cards none)
-    (ap (λ (l : List (ℕ × ℕ)). value_in l name) (symbols_behind k card) ∙ none_by k (symbol_in card) (value_by (operation_in card) k card) name (All-head P card cards none) h)
+    (ap (λ (l : List (ℕ × ℕ)). value_in l name) (symbols_behind k card)
+    ∙ none_by k (symbol_in card) (value_by (operation_in card) k card) name (All-head P card cards none) h)
 
 pub value_of_symbol : ValueOfSymbol
 value_of_symbol = record { first = first; none = λ cards name none. none_after nothing_known cards name none refl }
@@ -109,7 +112,8 @@ value_of_symbol = record { first = first; none = λ cards name none. none_after 
 
     first :
         (before after : List (List ℕ)) (card : List ℕ) (name : ℕ) → HasSymbol name card → NoneHas name before
-        → value_in (known (before ++ card ∷ after)).symbols name ≡ Some (value_by (operation_in card) (known before) card)
+        → value_in (known (before ++ card ∷ after)).symbols name
+        ≡ Some (value_by (operation_in card) (known before) card)
     first before after card name has none =
         ap (λ (k : Known). value_in k.symbols name) (known_append nothing_known before (card ∷ after))
         ∙ kept_after (known_behind (known before) card) after name (value_by (operation_in card) (known before) card)

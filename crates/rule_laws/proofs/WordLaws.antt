@@ -11,7 +11,7 @@ use Rattle.opcode_table.specs.declared.op.Class.TheVariants.{Addressed, Direct, 
 use Rattle.opcode_table.specs.declared.op.Row.{Row}
 use Rattle.opcode_table.specs.declared.op.Instr.{Instr}
 use Rattle.opcode_table.proofs.Codes.{found, fits, own, numbered, fields_again, same}
-use Rattle.rule_laws.specs.Words.{zeros_in, has_flag, cleared, CodeIsBack, RowOfCodes}
+use Rattle.rule_laws.specs.Words.{zeros_in, has_flag, cleared, CodeIsBack}
 
 -- a row that a number finds
 
@@ -24,8 +24,10 @@ first_own q (o ∷ os) r h = by_test (q (row_of o)) refl (first_own q os r) h
     by_test : (b : Bool) → q (row_of o) ≡ b → (find q (map row_of os) ≡ Some r → (r ≡ row_of r.0) × (q r ≡ true))
         → (if b then Some (row_of o) else find q (map row_of os)) ≡ Some r → (r ≡ row_of r.0) × (q r ≡ true)
     by_test true is rest e =
-        let same_row : row_of o ≡ r = cc in
-        (subst (λ (x : Row). x ≡ row_of x.0) same_row (sym (ap row_of (own o))), subst (λ (x : Row). q x ≡ true) same_row is)
+        let same_row : row_of o ≡ r = cc in (
+          subst (λ (x : Row). x ≡ row_of x.0) same_row (sym (ap row_of (own o))),
+          subst (λ (x : Row). q x ≡ true) same_row is,
+        )
     by_test false is rest e = rest e
 
 -- a row of the table with the number that a word names
@@ -37,7 +39,12 @@ record IsRowOf (w : ℕ) (r : Row) : Type 0 where
 row_is : (w : ℕ) (r : Row) → row_with_number (number_in w) ≡ Some r → IsRowOf w r
 row_is w r h =
     let first = first_own (λ (x : Row). x.1 == number_in w) ops r h in
-    record { own_row = first.0; number = eqb-true r.1 (number_in w) first.1; number_is = subst (λ (x : Row). number_fits x.3 x.1 ≡ true) (sym first.0) (fits r.0) }
+    record {
+      own_row = first.0;
+      number = eqb-true r.1 (number_in w) first.1;
+      number_is =
+          subst (λ (x : Row). number_fits x.3 x.1 ≡ true) (sym first.0) (fits r.0);
+    }
 
 -- a word by what names its operation, over plain numbers
 
@@ -60,7 +67,8 @@ plain_back : (w k : ℕ) → k ≡ w / 2 ^ 24 → k * 2 ^ 24 + tag_of w * 2 ^ 15
 plain_back w k is = omega arith
 
 flag_back : (w k : ℕ) (b : Bool) → k ≡ w / 2 ^ 24 → nat_eq (w / 2 ^ 22 % 4) 3 ≡ b
-    → k * 2 ^ 24 + (if b then 3 * 2 ^ 22 else 0) + tag_of w * 2 ^ 15 + address_of w ≡ (if b then zeros_in 14 17 w else zeros_in 12 17 w)
+    → k * 2 ^ 24 + (if b then 3 * 2 ^ 22 else 0) + tag_of w * 2 ^ 15 + address_of w
+    ≡ (if b then zeros_in 14 17 w else zeros_in 12 17 w)
 flag_back w k true is flag = let both : w / 2 ^ 22 % 4 ≡ 3 = eqb-true (w / 2 ^ 22 % 4) 3 flag in omega arith
 flag_back w k false is flag = omega arith
 
@@ -116,13 +124,15 @@ row_back w r below h =
     let class : r.3 ≡ class_of i.op = ap (λ (x : Row). x.3) h.own_row ∙ ap class_of (sym (op_is r.3 w r)) in (
       fields_fit r.3 w r,
       subst (λ (c : Class). IsCleanFor c i) class (fields_clean r.3 w r),
-      coded w r i (op_is r.3 w r) h.own_row ∙ word_back r.3 w r below h.number h.number_is ∙ ap (λ (c : Class). cleared c w) class,
+      coded w r i (op_is r.3 w r) h.own_row ∙ word_back r.3 w r below h.number h.number_is
+          ∙ ap (λ (c : Class). cleared c w) class,
     )
 
 there : (w : ℕ) (i : Instr) → w < 2 ^ 36 → (o : Option Row) → row_with_number (number_in w) ≡ o
     → option_map (λ (r : Row). fields_for r.3 w r) o ≡ Some i → IsBack w i
 there w i below None found e = cc
-there w i below (Some r) found e = let is : fields_for r.3 w r ≡ i = cc in subst (IsBack w) is (row_back w r below (row_is w r found))
+there w i below (Some r) found e = let is : fields_for r.3 w r ≡ i = cc in
+    subst (IsBack w) is (row_back w r below (row_is w r found))
 
 -- a word whose cleared form is that of an instruction
 
@@ -167,8 +177,10 @@ number_by p c s a q d t b e f g h = rw (e, f, g, h) refl
 
 same_number : (v w : ℕ) → Keeps v w → number_in v ≡ number_in w
 same_number v w k =
-    number_by (prefix_of v) (v / 2 ^ 24) (v / 2 ^ 35) (address_of v) (prefix_of w) (w / 2 ^ 24) (w / 2 ^ 35) (address_of w)
-    (shift_9 v ∙ ap (λ (n : ℕ). n / 2 ^ 9) k.code ∙ sym (shift_9 w)) k.code (shift_11 v ∙ ap (λ (n : ℕ). n / 2 ^ 11) k.code ∙ sym (shift_11 w)) k.address
+    number_by (prefix_of v) (v / 2 ^ 24) (v / 2 ^ 35) (address_of v) (prefix_of w) (w / 2 ^ 24) (w / 2 ^ 35)
+    (address_of w)
+    (shift_9 v ∙ ap (λ (n : ℕ). n / 2 ^ 9) k.code ∙ sym (shift_9 w)) k.code
+    (shift_11 v ∙ ap (λ (n : ℕ). n / 2 ^ 11) k.code ∙ sym (shift_11 w)) k.address
 
 -- the flag stays
 flag_kept : (w : ℕ) → zeros_in 14 17 w / 2 ^ 22 ≡ w / 2 ^ 22
@@ -185,13 +197,16 @@ same_flag w false e = ap (λ (n : ℕ). nat_eq n 3) (no_flag w) ∙ sym e
 same_fields : (c : Class) (w : ℕ) (r : Row) → fields_for c (cleared c w) r ≡ fields_for c w r
 same_fields Addressed w r =
     let k = keeps Addressed w in
-    same r.0 (has_flag (cleared Addressed w)) (tag_of (cleared Addressed w)) (address_of (cleared Addressed w)) 0 (fields_for Addressed w r) refl (same_flag w (has_flag w) refl) k.tag k.address refl
+    same r.0 (has_flag (cleared Addressed w)) (tag_of (cleared Addressed w)) (address_of (cleared Addressed w)) 0
+    (fields_for Addressed w r) refl (same_flag w (has_flag w) refl) k.tag k.address refl
 same_fields Direct w r =
     let k = keeps Direct w in
-    same r.0 false (tag_of (cleared Direct w)) (address_of (cleared Direct w)) 0 (fields_for Direct w r) refl refl k.tag k.address refl
+    same r.0 false (tag_of (cleared Direct w)) (address_of (cleared Direct w)) 0
+    (fields_for Direct w r) refl refl k.tag k.address refl
 same_fields Tagged w r =
     let k = keeps Tagged w in
-    same r.0 false (tag_of (cleared Tagged w)) (address_of (cleared Tagged w)) 0 (fields_for Tagged w r) refl refl k.tag k.address refl
+    same r.0 false (tag_of (cleared Tagged w)) (address_of (cleared Tagged w)) 0
+    (fields_for Tagged w r) refl refl k.tag k.address refl
 same_fields Prefixed w r = refl
 same_fields Group w r =
     let k = keeps Group w in
@@ -201,13 +216,14 @@ back : (w : ℕ) (i : Instr) → w < 2 ^ 36 → IsBack w i → decoded w ≡ Som
 back w i below h =
     let c : Class = class_of i.op in
     let r : Row = row_of i.op in
-    let number : number_in w ≡ number_of r = sym (same_number (cleared c w) w (keeps c w)) ∙ ap number_in (sym h.2) ∙ numbered c (number_of r) i h.0 (fits i.op) in
-    let fields : fields_for c w r ≡ i = sym (same_fields c w r) ∙ ap (λ (v : ℕ). fields_for c v r) (sym h.2) ∙ fields_again c (number_of r) r i h.0 (fits i.op) (own i.op) h.1 in
+    let number : number_in w ≡ number_of r = sym (same_number (cleared c w) w (keeps c w)) ∙ ap number_in (sym h.2)
+    ∙ numbered c (number_of r) i h.0 (fits i.op) in
+    let fields : fields_for c w r ≡ i = sym (same_fields c w r) ∙ ap (λ (v : ℕ). fields_for c v r) (sym h.2)
+    ∙ fields_again c (number_of r) r i h.0 (fits i.op) (own i.op) h.1 in
     ap (option_map (λ (x : Row). fields_for x.3 w x)) (ap row_with_number number ∙ found i.op) ∙ ap Some fields
 
 pub code_is_back : CodeIsBack
-code_is_back w i below = (λ (e : decoded w ≡ Some i). there w i below (row_with_number (number_in w)) refl e, λ (h : IsBack w i). back w i below h)
-
--- the worked row, by computing
-pub row_of_codes : RowOfCodes
-row_of_codes = record { junk = refl; flag = refl; half_flag = refl; group = refl }
+code_is_back w i below = (
+  λ (e : decoded w ≡ Some i). there w i below (row_with_number (number_in w)) refl e,
+  λ (h : IsBack w i). back w i below h,
+)

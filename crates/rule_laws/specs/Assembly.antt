@@ -27,8 +27,8 @@ all_words_of cards = words_of_cards (whole_of cards) [] (cards_before_end cards)
 abbrev pub deck_said : List (List ℕ) → Deck
 deck_said cards = record { start = start_from (whole_of cards) nothing_known cards; blocks = (whole_of cards).blocks }
 
--- The words of a deck say END's start and the blocks, where the user may have so many; and stored over a core they leave
--- each card's words at its place and the literals behind the last card, later ones over earlier ones.
+-- The words of a deck say END's start and the blocks, where the user may have so many; and stored over a core they
+-- leave each card's words at its place and the literals behind the last card, later ones over earlier ones.
 pub record IsLoadedAs (cards : List (List ℕ)) (words : List ℕ) : Type 0 where
   pub said :
       (quota : ℕ)

@@ -30,7 +30,8 @@ sizes before (card ∷ cards) = size_by (operation_in card) (known before) card 
 pub record PlaceOfCard : Type 0 where
   pub since :
       (before cards : List (List ℕ)) (card : List ℕ) → IsOrigin before card → NoOrigin (before ++ card ∷ []) cards
-      → (known (before ++ card ∷ cards)).place ≡ said (known before) (field_for org card) + sizes (before ++ card ∷ []) cards
+      → (known (before ++ card ∷ cards)).place
+      ≡ said (known before) (field_for org card) + sizes (before ++ card ∷ []) cards
   pub first : (cards : List (List ℕ)) → NoOrigin [] cards → (known cards).place ≡ sizes [] cards
 
 -- a card has a symbol, and isn't a comment

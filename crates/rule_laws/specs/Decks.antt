@@ -19,8 +19,8 @@ pub record IsInside (size : ℕ) (s : Segment) : Type 0 where
   pub some : 1 ≤ length s.words
   pub inside : s.first + length s.words ≤ size
 
--- The words of a deck with these segments: a first word with the start in its decrement and the blocks in its address, and
--- behind it the segments. There are 1 to 128 blocks, and start and segments lie within them.
+-- The words of a deck with these segments: a first word with the start in its decrement and the blocks in its address,
+-- and behind it the segments. There are 1 to 128 blocks, and start and segments lie within them.
 pub record IsLaid (d : Deck) (segments : List Segment) (words : List ℕ) : Type 0 where
   pub first : ℕ
   pub rest : List ℕ
@@ -36,8 +36,8 @@ pub record IsLaid (d : Deck) (segments : List Segment) (words : List ℕ) : Type
 abbrev pub IsDeck : Deck → List ℕ → Type 0
 IsDeck d words = (segments : List Segment) × IsLaid d segments words
 
--- What a file says: it is a deck just where it is laid as one that the user may have; it is too large just where it is laid
--- as one that has more blocks; and it is bad just where it is laid as none.
+-- What a file says: it is a deck just where it is laid as one that the user may have; it is too large just where it is
+-- laid as one that has more blocks; and it is bad just where it is laid as none.
 pub record DeckIsLaid : Type 0 where
   pub deck :
       (quota : ℕ) (words : List ℕ) (d : Deck) → (deck_in quota words ≡ Ok d) ↔ (IsDeck d words × (d.blocks ≤ quota))
@@ -54,13 +54,14 @@ Covers s place = (s.first ≤ place) × (place < s.first + length s.words)
 abbrev pub NoneCovers : List Segment → ℕ → Type 0
 NoneCovers segments place = All (λ (s : Segment). ¬ (Covers s place)) segments
 
--- What segments leave of a core: at each place the word of the last one that covers it, and the old one where none does.
--- The words of a segment cover its first place and those behind it; places outside the core get none.
+-- What segments leave of a core: at each place the word of the last one that covers it, and the old one where none
+-- does. The words of a segment cover its first place and those behind it; places outside the core get none.
 pub record AreStored (segments : List Segment) (core new : List ℕ) : Type 0 where
   pub size : length new ≡ length core
   pub last :
       (before after : List Segment) (s : Segment) (k : ℕ) → segments ≡ before ++ s ∷ after → k < length s.words
-      → s.first + k < length core → NoneCovers after (s.first + k) → slice_index new (s.first + k) ≡ slice_index s.words k
+      → s.first + k < length core → NoneCovers after (s.first + k)
+      → slice_index new (s.first + k) ≡ slice_index s.words k
   pub old : (place : ℕ) → NoneCovers segments place → slice_index new place ≡ slice_index core place
 
 -- the words of a file behind its first, where they are segments, leave that

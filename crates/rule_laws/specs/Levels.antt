@@ -2,8 +2,8 @@
 use Rattle.std.specs.Prelude.{◌≡◌, ℕ, ◌+◌, ◌/◌, ◌^◌, ◌≤◌, ◌↔◌}
 use Rattle.plan_model.specs.Levels.{level_of_words}
 
--- The level of a program of so many words, with so many words a level: it is at most 8, two to it is no more than one and
--- the quotient of the two, and no greater level of at most 8 has that.
+-- The level of a program of so many words, with so many words a level: it is at most 8, two to it is no more than one
+-- and the quotient of the two, and no greater level of at most 8 has that.
 pub record IsLevel (wq words level : ℕ) : Type 0 where
   pub within : level ≤ 8
   pub fits : 2 ^ level ≤ words / wq + 1

@@ -3,3 +3,4 @@ pub mod Words
 pub mod Decks
 pub mod Cards
 pub mod Assembly
+pub mod Rows

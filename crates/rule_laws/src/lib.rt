@@ -2,14 +2,15 @@
 //!
 //! The words of these laws stand in `specs/`: `Levels` (the level that fits), `Words` (the words of instructions), `Decks`
 //! (segments laid end to end, and what they leave in a core), `Cards` (places and symbols), `Assembly` (the assembler's
-//! decks as the loader reads them). The functions here do nothing: each carries a law or a worked row.
+//! decks as the loader reads them), `Rows` (worked rows). The functions here do nothing: each carries a law or a row.
 #![tactic(auto)]
 
 ghost use Rattle.rule_laws.specs.Levels.{LevelFits};
-ghost use Rattle.rule_laws.specs.Words.{CodeIsBack, RowOfCodes};
+ghost use Rattle.rule_laws.specs.Words.{CodeIsBack};
 ghost use Rattle.rule_laws.specs.Decks.{DeckIsLaid, SegmentsAreStored};
 ghost use Rattle.rule_laws.specs.Cards.{PlaceOfCard, ValueOfSymbol};
 ghost use Rattle.rule_laws.specs.Assembly.{DeckIsStored};
+ghost use Rattle.rule_laws.specs.Rows.{RowOfCodes, RowOfLaid, RowOfCards};
 
 /// A program's level is the greatest of at most 8 whose power of two fits.
 pub fn level_fits()
@@ -20,12 +21,6 @@ pub fn level_fits()
 /// use.
 pub fn code_is_back()
     ensures { CodeIsBack }
-{}
-
-/// Words with zeros in the positions that their class doesn't use.
-#[tactic(auto, using(crate::proofs::WordLaws::row_of_codes))]
-pub fn row_of_codes()
-    ensures { RowOfCodes }
 {}
 
 /// A file is a deck just where it is a first word and segments laid end to end; and which refusal it gets else.
@@ -52,4 +47,22 @@ pub fn value_of_symbol()
 /// cards' words at their places.
 pub fn deck_is_stored()
     ensures { DeckIsStored }
+{}
+
+/// Words with zeros in the positions that their class doesn't use.
+#[tactic(auto, using(crate::proofs::RowsComputed::row_of_codes))]
+pub fn row_of_codes()
+    ensures { RowOfCodes }
+{}
+
+/// Two segments laid end to end.
+#[tactic(auto, using(crate::proofs::RowsComputed::row_of_laid))]
+pub fn row_of_laid()
+    ensures { RowOfLaid }
+{}
+
+/// Places and symbols of nine cards.
+#[tactic(auto, using(crate::proofs::RowsComputed::row_of_cards))]
+pub fn row_of_cards()
+    ensures { RowOfCards }
 {}

@@ -1,7 +1,7 @@
 -- The deck of cards without a fault, read and stored.
 use Rattle.std.proofs.Common.{◌≡◌, ℕ, ◌+◌, ◌*◌, ◌^◌, ◌<◌, ◌≤◌, Bool, true, false, nat_le, if◌then◌else◌, List, [], ◌∷◌, ◌++◌, length, All, Ok, Err, refl, sym, ap, subst, ◌∙◌, arith, leb-true, leb-false, le_trans}
 use Rattle.std.proofs.lemmas.Bool.{false≢true}
-use Rattle.std.proofs.lemmas.List.Elements.{All-nil, All-weaker}
+use Rattle.std.proofs.lemmas.List.Elements.{All-nil, All-push, All-weaker}
 use Rattle.word36.specs.Bits.{address_of, decrement_of}
 use Rattle.program_model.specs.declared.Deck.{Deck}
 use Rattle.program_model.specs.declared.LoadFault.TheVariants.{TooLarge}
@@ -10,17 +10,17 @@ use Rattle.program_model.specs.Decks.{deck_in, filled}
 use Rattle.fap_model.specs.declared.types.Operation.TheVariants.{End as end}
 use Rattle.fap_model.specs.Statements.{field_for}
 use Rattle.fap_model.specs.Places.{Known, nothing_known, max_place}
-use Rattle.fap_model.specs.Decks.{Whole, Segment, operation_in, is_end, cards_read, cards_before_end, has_end, whole_of, reach_of, reach_from, blocks_for, faults_from, faults_of, words_by, add_words, segments_from, segments_of, segment_words, start_in, start_from, deck_words, Assembled, deck, faulty, assembled_by, assembled}
+use Rattle.fap_model.specs.Decks.{Whole, Segment, operation_in, is_end, cards_read, cards_before_end, has_end, whole_of, reach_of, reach_from, blocks_for, faults_from, faults_of, words_by, add_words, segments_from, segments_of, segment_words, start_in, start_from, start_is_outside, deck_words, Assembled, deck, faulty, assembled_by, assembled}
 use Rattle.rule_laws.specs.Cards.{known}
 use Rattle.rule_laws.specs.Decks.{IsInside, IsLaid, IsDeck, AreStored}
-use Rattle.rule_laws.specs.Assembly.{words_of_cards, literals_of, IsLoadedAs, DeckIsStored}
+use Rattle.rule_laws.specs.Assembly.{words_of_cards, literals_of, IsWithin, IsLoadedAs, DeckIsStored}
 use Rattle.rule_laws.proofs.DeckLaws.{deck_is_laid}
 use Rattle.rule_laws.proofs.Overlays.{overlaid, overlaid_append, overlaid_stores}
 use Rattle.rule_laws.proofs.StoreLaws.{filled_is}
 use Rattle.rule_laws.proofs.PlaceLaws.{known_push}
 use Rattle.rule_laws.proofs.AddedWords.{IsShort, words_over, words_fit, words_laid}
-use Rattle.rule_laws.proofs.CardRooms.{AllRoomy, good_end, both_none, no_faults}
-use Rattle.rule_laws.proofs.Reaches.{AreBlocks, reach_grows, reach_covers, reach_small, reach_within, segments_fit, blocks_are}
+use Rattle.rule_laws.proofs.CardRooms.{IsGood, AllRoomy, good_end, both_none, no_faults}
+use Rattle.rule_laws.proofs.Reaches.{AreBlocks, reach_grows, reach_covers, reach_small, reach_within, segments_fit, cards_within, within_more, blocks_are}
 use Rattle.rule_laws.proofs.EndCards.{Ended, ended, start_below}
 
 -- what the segments leave in a core
@@ -148,28 +148,64 @@ segments_in whole before = add_words (segments_from whole [] nothing_known befor
 abbrev deck_in_whole : Whole → ℕ → Deck
 deck_in_whole whole start = record { start = start; blocks = whole.blocks }
 
-is_laid : (whole : Whole) (before : List (List ℕ)) (last : List ℕ) (start : ℕ) → IsWhole whole before
-    → faults_from whole 1 nothing_known (before ++ last ∷ []) ≡ []
-    → is_end (operation_in last) ≡ true → start ≡ start_in whole (known before) (field_for end last)
+-- cards and END without a fault
+record IsFaultless (whole : Whole) (before : List (List ℕ)) (last : List ℕ) : Type 0 where
+  whole_is : IsWhole whole before
+  last_is : is_end (operation_in last) ≡ true
+  none : faults_from whole 1 nothing_known (before ++ last ∷ []) ≡ []
+
+end_is : (whole : Whole) (before : List (List ℕ)) (last : List ℕ) → IsFaultless whole before last
+    → IsGood (length whole.literals) (start_is_outside whole (known before) (field_for end last)) (known before) end
+    (field_for end last)
+end_is whole before last h =
+    good_end whole (known before) last h.last_is (no_faults whole 1 nothing_known before last h.none).1
+
+has_room : (whole : Whole) (before : List (List ℕ)) (last : List ℕ) → IsFaultless whole before last
+    → HasRoom whole before
+has_room whole before last h =
+    record {
+      cards_room = (no_faults whole 1 nothing_known before last h.none).0;
+      end_room =
+          end_fits whole.end_place (known before).place (length whole.literals) (h.whole_is).place_is
+          (end_is whole before last h).room;
+    }
+
+has_blocks : (whole : Whole) (before : List (List ℕ)) → IsWhole whole before → HasRoom whole before
+    → AreBlocks (reach_in whole before) whole.blocks
+has_blocks whole before w room =
+    subst (AreBlocks (reach_in whole before)) (sym w.blocks_are_so)
+    (blocks_are (reach_in whole before) (small_reach whole before room))
+
+is_laid : (whole : Whole) (before : List (List ℕ)) (last : List ℕ) (start : ℕ) → IsFaultless whole before last
+    → start ≡ start_in whole (known before) (field_for end last)
     → IsLaid (deck_in_whole whole start) (segments_in whole before)
     ((start * 2 ^ 18 + whole.blocks) ∷ segment_words (segments_in whole before))
-is_laid whole before last start w faults is_last start_is =
-    let f = no_faults whole 1 nothing_known before last faults in
-    let g = good_end whole (known before) last is_last f.1 in
-    let room : HasRoom whole before =
-    record {
-      cards_room = f.0;
-      end_room =
-          end_fits whole.end_place (known before).place (length whole.literals) w.place_is g.room;
-    } in
-    let small : reach_in whole before ≤ max_place = small_reach whole before room in
-    let blocks : AreBlocks (reach_in whole before) whole.blocks =
-    subst (AreBlocks (reach_in whole before)) (sym w.blocks_are_so) (blocks_are (reach_in whole before) small) in
+is_laid whole before last start h start_is =
+    let room : HasRoom whole before = has_room whole before last h in
+    let blocks : AreBlocks (reach_in whole before) whole.blocks = has_blocks whole before h.whole_is room in
     let below : start < 256 * whole.blocks =
     subst (λ (s : ℕ). s < 256 * whole.blocks) (sym start_is)
-    (start_below whole (known before) (field_for end last) blocks.some g.right) in
-    deck_laid (reach_in whole before) (deck_in_whole whole start) (segments_in whole before) blocks below small
-    (all_short whole before room)
+    (start_below whole (known before) (field_for end last) blocks.some (end_is whole before last h).right) in
+    deck_laid (reach_in whole before) (deck_in_whole whole start) (segments_in whole before) blocks below
+    (small_reach whole before room) (all_short whole before room)
+
+-- all words lie within the blocks
+is_inside : (whole : Whole) (before : List (List ℕ)) (last : List ℕ) → IsFaultless whole before last
+    → All (IsWithin (256 * whole.blocks)) (words_of_cards whole [] before ++ literals_of whole ∷ [])
+is_inside whole before last h =
+    let room : HasRoom whole before = has_room whole before last h in
+    let blocks : AreBlocks (reach_in whole before) whole.blocks = has_blocks whole before h.whole_is room in
+    let bound : ℕ = reach_in whole before in
+    let cards : All (IsWithin bound) (words_of_cards whole [] before) =
+    cards_within bound 0 whole [] before room.cards_room
+    (reach_grows (reach_from 0 nothing_known before) whole.end_place (length whole.literals)) in
+    let literals : IsWithin bound (literals_of whole) =
+    λ (some : 1 ≤ length whole.literals).
+    reach_covers (reach_from 0 nothing_known before) whole.end_place (length whole.literals) some in
+    All-weaker (IsWithin bound) (IsWithin (256 * whole.blocks))
+    (λ (s : Segment) (within : IsWithin bound s). within_more bound (256 * whole.blocks) s blocks.cover within)
+    (words_of_cards whole [] before ++ literals_of whole ∷ [])
+    (All-push (IsWithin bound) (words_of_cards whole [] before) (literals_of whole) cards literals)
 
 -- and what they leave in a core
 is_stored : (whole : Whole) (before : List (List ℕ)) (d : Deck) (words core : List ℕ)
@@ -195,11 +231,14 @@ loaded_as cards none =
     let e : Ended cards = ended cards (no_more (has_end cards) (length cards + 1, 6) two.1) in
     let faults : faults_from whole 1 nothing_known (before ++ e.last ∷ []) ≡ [] =
     ap (λ (l : List (List ℕ)). faults_from whole 1 nothing_known l) (sym e.read) ∙ two.0 in
+    let good : IsFaultless whole before e.last =
+    record { whole_is = whole_so cards; last_is = e.last_is; none = faults } in
     let laid : IsLaid (deck_in_whole whole start) (segments_of cards) (deck_words cards) =
-    is_laid whole before e.last start (whole_so cards) faults e.last_is (e.start whole nothing_known) in
+    is_laid whole before e.last start good (e.start whole nothing_known) in
     record {
       said = λ quota. read_so quota (deck_words cards) (deck_in_whole whole start) (segments_of cards, laid);
       stored = λ core. is_stored whole before (deck_in_whole whole start) (deck_words cards) core laid;
+      inside = is_inside whole before e.last good;
     }
 
 pub deck_is_stored : DeckIsStored

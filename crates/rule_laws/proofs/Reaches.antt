@@ -1,7 +1,11 @@
 -- How far the words of cards reach.
-use Rattle.std.proofs.Common.{ℕ, zero, suc, ◌+◌, ◌*◌, ◌≤◌, List, [], ◌∷◌, length, All, arith, le_trans, le_refl}
+use Rattle.std.proofs.Common.{ℕ, zero, suc, ◌+◌, ◌*◌, ◌≤◌, List, [], ◌∷◌, ◌++◌, length, All, sym, subst, arith, le_trans, le_refl}
+use Rattle.std.proofs.lemmas.List.Elements.{All-nil, All-cons}
 use Rattle.fap_model.specs.Places.{Known, max_place, known_behind}
 use Rattle.fap_model.specs.Decks.{Whole, Segment, operation_in, size_by, reach_of, reach_from, blocks_for, words_by, add_words, segments_from}
+use Rattle.rule_laws.specs.Cards.{known}
+use Rattle.rule_laws.specs.Assembly.{words_of_cards, IsWithin}
+use Rattle.rule_laws.proofs.PlaceLaws.{known_push}
 use Rattle.rule_laws.proofs.AddedWords.{IsShort, words_fit}
 use Rattle.rule_laws.proofs.CardRooms.{AllRoomy}
 
@@ -54,6 +58,28 @@ segments_fit bound reach whole segments k (card ∷ cards) all h short =
     (λ (some : 1 ≤ size). le_trans (reach_covers reach k.place size some)
     (le_trans (reach_more next (known_behind k card) cards) h)))
     short)
+
+-- and so do the words of each card
+pub cards_within : (bound reach : ℕ) (whole : Whole) (before cards : List (List ℕ))
+    → AllRoomy whole (known before) cards → reach_from reach (known before) cards ≤ bound
+    → All (IsWithin bound) (words_of_cards whole before cards)
+cards_within bound reach whole before [] all h = All-nil (IsWithin bound)
+cards_within bound reach whole before (card ∷ cards) all h =
+    let k : Known = known before in
+    let size : ℕ = size_by (operation_in card) k card in
+    let ws : List ℕ = words_by whole k (operation_in card) card in
+    let next : ℕ = reach_of reach k.place size in
+    All-cons (IsWithin bound) (record { first = k.place; words = ws })
+    (words_of_cards whole (before ++ card ∷ []) cards)
+    (in_reach k.place size (length ws) bound (all.0).words_fit
+    (λ (some : 1 ≤ size). le_trans (reach_covers reach k.place size some)
+    (le_trans (reach_more next (known_behind k card) cards) h)))
+    (cards_within bound next whole (before ++ card ∷ []) cards
+    (subst (λ (l : Known). AllRoomy whole l cards) (sym (known_push before card)) all.1)
+    (subst (λ (l : Known). reach_from next l cards ≤ bound) (sym (known_push before card)) h))
+
+pub within_more : (bound size : ℕ) (s : Segment) → bound ≤ size → IsWithin bound s → IsWithin size s
+within_more bound size s h within some = le_trans (within some) h
 
 -- the blocks for a reach
 pub record AreBlocks (reach blocks : ℕ) : Type 0 where

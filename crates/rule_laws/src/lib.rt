@@ -1,8 +1,9 @@
 //! Laws of definitions: beside rules that are written as a walk, what their answers are, in plain words.
 //!
-//! The words of these laws stand in `specs/`: `Levels` (the level that fits), `Words` (the words of instructions), `Decks`
-//! (segments laid end to end, and what they leave in a core), `Cards` (places and symbols), `Assembly` (the assembler's
-//! decks as the loader reads them), `Rows` (worked rows). The functions here do nothing: each carries a law or a row.
+//! The words of these laws stand in `specs/`: `Levels` (the level that fits), `Words` (the words of instructions),
+//! `Decks` (segments laid end to end, and what they leave in a core), `Cards` (places and symbols), `Assembly` (the
+//! assembler's decks as the loader reads them), `Rows` (worked rows). The functions here do nothing: each carries a law
+//! or a row.
 #![tactic(auto)]
 
 ghost use Rattle.rule_laws.specs.Levels.{LevelFits};
@@ -17,8 +18,8 @@ pub fn level_fits()
     ensures { LevelFits }
 {}
 
-/// A word is an instruction just where the instruction's word is that word but for the positions that its class doesn't
-/// use.
+/// A word is an instruction just where the instruction's word is that word but for the positions that its class
+/// doesn't use.
 pub fn code_is_back()
     ensures { CodeIsBack }
 {}
@@ -43,8 +44,8 @@ pub fn value_of_symbol()
     ensures { ValueOfSymbol }
 {}
 
-/// Cards without a fault are assembled to a deck that is read as END's start and those blocks, and that is stored as the
-/// cards' words at their places.
+/// Cards without a fault are assembled to a deck that is read as END's start and those blocks, and that is stored as
+/// the cards' words at their places.
 pub fn deck_is_stored()
     ensures { DeckIsStored }
 {}

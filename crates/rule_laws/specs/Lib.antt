@@ -1,0 +1,6 @@
+pub mod Levels
+pub mod Words
+pub mod Decks
+pub mod Cards
+pub mod Assembly
+pub mod Rows

@@ -54,9 +54,9 @@ pub record InputIsTooLong (old new : DevicesSeen) (result : Outcome) : Type 0 wh
 -- a text that was to be written
 pub data IsTextOfCards (left rest : Option (List ℕ)) (text : List ℕ) : Type 0 where
   OfDeck : (bytes words : List ℕ) → IsInput left rest bytes → assembled_from bytes ≡ deck words → text ≡ word_cards words
-    → IsTextOfCards left rest text
+      → IsTextOfCards left rest text
   OfFaults : (bytes : List ℕ) (faults : List (ℕ × ℕ)) → IsInput left rest bytes → assembled_from bytes ≡ faulty faults
-    → text ≡ faults_text faults → IsTextOfCards left rest text
+      → text ≡ faults_text faults → IsTextOfCards left rest text
   OfLong : (bytes : List ℕ) → IsTooLong left rest bytes → text ≡ script_refused 0 8 → IsTextOfCards left rest text
 
 -- the output failed, and holds a part of the text only

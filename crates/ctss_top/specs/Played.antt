@@ -5,9 +5,9 @@ use Rattle.ctss_types.specs.declared.script.Script.{Script}
 use Rattle.ctss_types.specs.declared.history.Record.{Record}
 use Rattle.user_model.specs.Inner.{blocks_of}
 use Rattle.user_model.specs.User.{User}
-use Rattle.system_model.specs.Run.{Run, run_to, AfterSteps, ended}
+use Rattle.system_model.specs.Run.{Run, run_to, AfterSteps}
 use Rattle.system_model.specs.Joined.{joined}
-use Rattle.system_model.specs.Record.{start_of, record_of, record_from}
+use Rattle.system_model.specs.Record.{start_of, record_of}
 use Rattle.plan_model.specs.Loads.{Places, no_places}
 use Rattle.console_texts.specs.Watching.{texts_to, AfterShown}
 use Rattle.supervisor.specs.Seen.{Bare, run_with, record_so_far}

@@ -19,7 +19,7 @@ use Rattle.ctss_top.specs.Outcomes.{empty_record, bare, IsOneOf}
 use Rattle.ctss_top.specs.Devices.{DevicesSeen}
 use Rattle.ctss_top.specs.Played.{IsStopped}
 use Rattle.ctss_top.specs.Modes.{Comes, IsRefused, text_for, reads_script, runs_script}
-use Rattle.ctss_top.specs.Asm.{IsTextOfCards, DeckIsWritten, CardsAreRefused, InputIsTooLong, statuses_for_cards}
+use Rattle.ctss_top.specs.Asm.{IsTextOfCards, CardsAreRefused, InputIsTooLong, statuses_for_cards}
 
 -- The headline. The script is the one that the mode runs: that of all bytes that came, or a made one. The text of the run has come
 -- to the output. Where the drum tells its records, the run is the script's one record, and each account's transcript and files
@@ -65,15 +65,15 @@ pub record WordsAreRefused (words : List (List ℕ)) (old new : DevicesSeen) (re
 -- a text that was to be written, and the record that goes with it
 pub data IsTextOf (words : List (List ℕ)) (old new : DevicesSeen) (run : Record) (text : List ℕ) : Type 0 where
   OfWords : mode_of words ≡ None → new.input ≡ old.input → run ≡ empty_record → text ≡ words_refused
-    → IsTextOf words old new run text
+      → IsTextOf words old new run text
   OfRefusal : (mode : Mode) → mode_of words ≡ Some mode → reads_script mode ≡ true → (bytes : List ℕ) (refusal : ScriptRefusal)
-    → IsRefused old.input.left new.input.left bytes refusal → new.drum ≡ old.drum → run ≡ empty_record
-    → text ≡ script_refused refusal.card (cause_number refusal.cause) → IsTextOf words old new run text
+      → IsRefused old.input.left new.input.left bytes refusal → new.drum ≡ old.drum → run ≡ empty_record
+      → text ≡ script_refused refusal.card (cause_number refusal.cause) → IsTextOf words old new run text
   OfRun : (mode : Mode) → mode_of words ≡ Some mode → (script : Script) → Comes mode old.input.left new.input.left script
-    → (old.drum.tells ≡ true → run ≡ record_of script) → IsCounted [] run.entries old.drum.calls new.drum.calls
-    → text ≡ text_for mode script run → IsTextOf words old new run text
+      → (old.drum.tells ≡ true → run ≡ record_of script) → IsCounted [] run.entries old.drum.calls new.drum.calls
+      → text ≡ text_for mode script run → IsTextOf words old new run text
   OfCards : mode_of words ≡ Some Asm → run ≡ empty_record → IsTextOfCards old.input.left new.input.left text
-    → IsTextOf words old new run text
+      → IsTextOf words old new run text
 
 -- the output failed, and holds a part of the text only
 pub record IsCutOff (words : List (List ℕ)) (old new : DevicesSeen) (result : Outcome) : Type 0 where

@@ -76,7 +76,7 @@ fn run_to<D: Medium>(
         (Reaches limit (run_with no_places supervisor.old) supervisor.old.texts supervisor.new)
         (IsPart limit (run_with no_places supervisor.old) supervisor.old.texts supervisor.new)
         (Stops limit (run_with no_places supervisor.old) supervisor.old.texts supervisor.new
-            (D.calls drum.old) (D.calls drum.new)) }
+        (D.calls drum.old) (D.calls drum.new)) }
     ensures counted { Ends result
         (IsCounted supervisor.old.entries supervisor.new.entries (D.calls drum.old) (D.calls drum.new))
         (IsCounted supervisor.old.entries supervisor.new.entries (D.calls drum.old) (D.calls drum.new)) ⊤ }

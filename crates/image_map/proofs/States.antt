@@ -4,7 +4,7 @@ use Rattle.std.proofs.Common.{◌≡◌, ℕ, ◌<◌, refl, ◌∙◌, ap}
 use Rattle.std.proofs.lemmas.List.{get_or-set_same}
 use Rattle.plan_model.specs.Loads.{Places, given_up}
 use Rattle.image_map.specs.Images.{resized, size_of}
-use Rattle.image_map.specs.State.{ImageState, image, size, places_in, Resizes, Replaces}
+use Rattle.image_map.specs.State.{ImageState, size, places_in, Resizes, Replaces}
 use Rattle.image_map.proofs.Loaded.{given_up_twice}
 
 set_twice : (l : List ℕ) (i x y : ℕ) → slice_set (slice_set l i x) i y ≡ slice_set l i y

@@ -4,12 +4,11 @@ ghost use Rattle.core_bank.specs.Bank.{AreWords};
 
 use core_bank::Bank;
 use cpu_regs::{MemoryPort, Outside};
+use reloc_protect::Registers;
 use word36::Word;
 
-const BLOCK_WORDS: u32 = 256;
-
-/// The words of the first `blocks` blocks of a bank, as a program loads and stores them: with one
-/// test of the bounds each. In clauses of `MemoryPort` it is the list of these words.
+/// The words of the first `blocks` blocks of a bank, as a program loads and stores them: through the
+/// relocation and protection registers, with their one test of the bounds. In clauses of `MemoryPort` it is the list of these words.
 #[derive(Drop)]
 pub struct Port<'a> {
     bank: &'a mut Bank,
@@ -33,6 +32,13 @@ impl<'a> Port<'a> {
     {
         let _count = bank.word_count();
         Port { bank, blocks }
+    }
+
+    /// The registers for a program that lies at block 0.
+    fn registers(&self) -> Registers
+        ensures { result ≡ record { base = 0; blocks = self.now.blocks } }
+    {
+        Registers::new(0, self.blocks)
     }
 }
 
@@ -58,10 +64,10 @@ impl MemoryPort for Port<'_> {
     }
 
     fn load(&self, address: u16) -> Result<Word, Outside> {
-        if u32::from(address) >= BLOCK_WORDS * u32::from(self.blocks) {
-            return Err(Outside);
+        match self.registers().map(address) {
+            Ok(at) => Ok(Word::of(self.bank.load(at))),
+            Err(_) => Err(Outside),
         }
-        Ok(Word::of(self.bank.load(address)))
     }
 
     fn store(&mut self, address: u16, word: Word) -> Result<(), Outside>
@@ -84,11 +90,13 @@ impl MemoryPort for Port<'_> {
         ensures rest { drop (256 * self.new.blocks) self.new.bank.now
             ≡ drop (256 * self.old.blocks) self.old.bank.now }
     {
-        if u32::from(address) >= BLOCK_WORDS * u32::from(self.blocks) {
-            return Err(Outside);
+        match self.registers().map(address) {
+            Ok(at) => {
+                self.bank.store(at, word.bits());
+                Ok(())
+            }
+            Err(_) => Err(Outside),
         }
-        self.bank.store(address, word.bits());
-        Ok(())
     }
 }
 

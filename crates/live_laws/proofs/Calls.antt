@@ -6,10 +6,10 @@ use Rattle.system_model.specs.Run.{Run, run_to, given, given_all}
 use Rattle.system_model.specs.Joined.{joined}
 use Rattle.live_core.specs.Core.{CoreCall, Took, Went}
 use Rattle.user_cores.specs.Cores.{CoresState}
-use Rattle.supervisor.specs.Seen.{Bare, run_with}
+use Rattle.supervisor.specs.Seen.{run_with}
 use Rattle.supervisor.specs.Whole.{Whole, run_of}
 use Rattle.live_run.specs.Calls.{Takes, Follows}
-use Rattle.live_laws.specs.Parts.{Part, run_in, calls_of, run_over, CallsAreRuns}
+use Rattle.live_laws.specs.Parts.{run_in, calls_of, run_over, CallsAreRuns}
 
 -- to give an event changes no user, so it is the same with words and without
 given_joined : (f : ℕ → List ℕ) (e : Timed) (r : Run) → joined f (given e r) ≡ given e (joined f r)

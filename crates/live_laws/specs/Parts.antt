@@ -1,13 +1,12 @@
 -- claim: runs to which events are given while they go on, and what they have in common with a script's run.
-use Rattle.std.specs.Prelude.{◌≡◌, ℕ, suc, ◌+◌, ◌*◌, ◌≤◌, true, List, [], ◌∷◌, ◌++◌, map, None}
-use Rattle.std.specs.List.{flat_map, All}
+use Rattle.std.specs.Prelude.{◌≡◌, ℕ, ◌≤◌, true, List, [], ◌∷◌, ◌++◌, map, None}
+use Rattle.std.specs.List.{flat_map}
 use Rattle.ctss_types.specs.declared.script.Script.{Script}
 use Rattle.ctss_types.specs.declared.script.Timed.{Timed}
 use Rattle.time_sharing.specs.Record.{AreLate}
 use Rattle.system_model.specs.Run.{Run, run_to, given_all, ended}
 use Rattle.system_model.specs.Joined.{joined}
 use Rattle.system_model.specs.Record.{start_of, record_of, record_from}
-use Rattle.console_texts.specs.Watching.{texts_to}
 use Rattle.live_core.specs.Core.{CoreCall, Took, Went}
 use Rattle.supervisor.specs.Whole.{Whole, run_of}
 use Rattle.live_run.specs.Calls.{Follows}

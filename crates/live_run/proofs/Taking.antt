@@ -1,5 +1,5 @@
 -- An event that is taken.
-use Rattle.std.proofs.Common.{◌≡◌, ℕ, ◌≤◌, List, [], ◌∷◌, length, Ok, Err, refl, sym, ap, subst, ◌∙◌}
+use Rattle.std.proofs.Common.{◌≡◌, ◌≤◌, List, [], ◌∷◌, length, Ok, Err, refl, sym, ap, subst, ◌∙◌}
 use Rattle.std.specs.Prelude.{OnOk, OnErr}
 use Rattle.std.specs.declared.result.Result.{Result}
 use Rattle.ctss_types.specs.declared.script.Timed.{Timed}
@@ -11,7 +11,7 @@ use Rattle.system_model.specs.Run.{Run, given}
 use Rattle.user_cores.specs.Cores.{CoresState}
 use Rattle.supervisor.specs.Seen.{Bare, run_with}
 use Rattle.supervisor.specs.Steps.{IsTied}
-use Rattle.supervisor.specs.Whole.{Whole, whole_of}
+use Rattle.supervisor.specs.Whole.{whole_of}
 use Rattle.live_run.specs.Calls.{Follows, IsReady}
 
 pub takes_if : {T E : Type 0} (r : Result T E) (e : Timed) (old new : Bare) (cores : CoresState) (Same : Type 0) → Same

@@ -65,6 +65,8 @@ impl<C: Cores + Drop> LiveCore for LiveRun<C> {
 
     ghost goes_nowhere = { λ a. (C.stays a.cores, refl) };
 
-    ghost goes_on = { λ a b c first second one two. (C.goes_on a.cores b.cores c.cores one.0 two.0,
-        follows_both first second _ _ _ one.1 two.1) };
+    ghost goes_on = { λ a b c first second one two. (
+      C.goes_on a.cores b.cores c.cores one.0 two.0,
+      follows_both first second _ _ _ one.1 two.1,
+    ) };
 }

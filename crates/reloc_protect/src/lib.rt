@@ -10,8 +10,6 @@ use std::marker::Model;
 
 const BLOCK_WORDS: u16 = 256;
 
-const CORE_WORDS: u16 = 32768;
-
 /// An address outside the program's blocks.
 #[derive(Clone, Copy, Debug, PartialEq, Eq)]
 pub struct Outside;
@@ -60,19 +58,16 @@ impl Registers {
 
     /// The word of core that stands for one of the program's addresses.
     ///
-    /// The address is relocated first, round the end of core, and then its block is tested. No
-    /// address past the program's end comes round to one of its words in that way.
+    /// An address of 15 bits is relocated round the end of core, and then its block is tested. No address past the
+    /// program's end comes round to one of its words in that way, so the one test is made before.
     pub fn map(&self, address: u16) -> Result<u16, Outside>
-        requires { address < 32768 }
         ensures legal { IsOk result ↔ IsLegal address self.now.blocks }
-        ensures block { IsOk result ↔ HasBlock self.now (relocated_address self.now address / 256) }
+        ensures block { address < 32768
+            → (IsOk result ↔ HasBlock self.now (relocated_address self.now address / 256)) }
         ensures value { IfOk result (λ at. at ≡ address + 256 * self.now.base) }
     {
-        let at = (address + BLOCK_WORDS * u16::from(self.base)) % CORE_WORDS;
-        let block = at / BLOCK_WORDS;
-        let first = u16::from(self.base);
-        if first <= block && block < first + u16::from(self.blocks) {
-            Ok(at)
+        if address / BLOCK_WORDS < u16::from(self.blocks) {
+            Ok(address + BLOCK_WORDS * u16::from(self.base))
         } else {
             Err(Outside)
         }

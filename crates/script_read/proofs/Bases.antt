@@ -1,5 +1,5 @@
 -- Base scripts beside scripts.
-use Rattle.std.proofs.Common.{◌≡◌, ℕ, suc, Bool, true, false, not, ◌&&◌, nat_le, List, [], ◌∷◌, length, Ok, Err, refl, sym, ap, ◌∙◌, if◌then◌else◌}
+use Rattle.std.proofs.Common.{◌≡◌, ℕ, suc, Bool, true, false, not, ◌&&◌, nat_le, List, [], ◌∷◌, length, Ok, Err, refl, if◌then◌else◌}
 use Rattle.std.specs.Prelude.{is_some}
 use Rattle.std.specs.declared.result.Result.{Result}
 use Rattle.std.specs.Str.Lines.{lines}
@@ -8,8 +8,8 @@ use Rattle.text_model.specs.declared.cause.ScriptCause.{ScriptCause}
 use Rattle.text_model.specs.declared.cause.ScriptCause.TheVariants.{NotACard, TooLong}
 use Rattle.text_model.specs.declared.cause.ScriptRefusal.{ScriptRefusal}
 use Rattle.text_model.specs.Drafts.{Draft, empty_draft, entered}
-use Rattle.text_model.specs.Reading.{script_by, script_from, script_of, max_bytes}
-use Rattle.script_read.specs.Bases.{is_event_card, entered_base, cards_from, base_of, BasesAreScripts}
+use Rattle.text_model.specs.Reading.{script_from, script_of, max_bytes}
+use Rattle.script_read.specs.Bases.{is_event_card, cards_from, base_of, BasesAreScripts}
 
 -- cards of any script
 pub any_cards : (k : ℕ) (d : Draft) (cards : List (List ℕ)) → cards_from false k d cards ≡ script_from k d cards

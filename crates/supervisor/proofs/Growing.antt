@@ -1,6 +1,5 @@
 -- What a console has shown is never taken back.
-use Rattle.std.proofs.Common.{◌≡◌, ℕ, suc, ◌<◌, true, List, [], ◌∷◌, ◌++◌, map, refl, sym, ◌∙◌, ap, subst, append-nil, append_assoc}
-use Rattle.std.specs.declared.result.Result.{Result}
+use Rattle.std.proofs.Common.{◌≡◌, ℕ, suc, List, [], ◌∷◌, ◌++◌, refl, sym, ◌∙◌, ap, subst, append-nil, append_assoc}
 use Rattle.live_core.specs.Core.{Grows}
 use Rattle.ctss_types.specs.declared.fault.RunFault.{RunFault}
 use Rattle.time_sharing.specs.Machine.{Machine}

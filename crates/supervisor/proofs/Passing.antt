@@ -1,5 +1,5 @@
 -- What many steps of the user that is served keep, over users joined with words.
-use Rattle.std.proofs.Common.{◌≡◌, ◌≢◌, ℕ, zero, suc, ◌+◌, ◌-◌, ◌<◌, ◌≤◌, true, false, List, length, map, Option, Some, None, refl, sym, ◌∙◌, ap, subst, arith}
+use Rattle.std.proofs.Common.{◌≡◌, ◌≢◌, ℕ, ◌+◌, ◌<◌, ◌≤◌, true, false, List, length, map, Some, None, refl, sym, ◌∙◌, ap, subst, arith}
 use Rattle.time_sharing.specs.System.{Service, next_tick}
 use Rattle.ctss_types.specs.declared.session.Waiting.{Waiting}
 use Rattle.user_model.specs.Inner.{blocks_of}
@@ -16,9 +16,9 @@ use Rattle.system_model.proofs.JoinedLaws.{joined_same, with_own, with_other, so
 use Rattle.system_model.proofs.PassLaws.{passes_joined, passes_keep}
 use Rattle.system_model.proofs.RunLaws.{measure_next, run_to_next, after_next}
 use Rattle.system_model.proofs.SoundLaws.{sound_next}
-use Rattle.console_texts.specs.Parts.{Shown, Transcripts, text_of}
+use Rattle.console_texts.specs.Parts.{Shown, text_of}
 use Rattle.console_texts.specs.Following.{AreShown}
-use Rattle.console_texts.specs.Watching.{transcripts_of, texts_next, texts_to, AfterShown}
+use Rattle.console_texts.specs.Watching.{transcripts_of, texts_to, AfterShown}
 use Rattle.console_texts.proofs.Watched.{shown_still, texts_on, shown_on}
 use Rattle.user_cores.specs.Memory.{Memory}
 use Rattle.supervisor.specs.Runs.{DoesMany}

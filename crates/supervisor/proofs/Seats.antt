@@ -1,5 +1,5 @@
 -- No step changes how many consoles there are.
-use Rattle.std.proofs.Common.{◌≡◌, ℕ, zero, suc, Bool, true, false, nat_lt, nat_le, nat_eq, List, [], ◌∷◌, length, Option, Some, None, refl, sym, ◌∙◌, ap, length-set, if◌then◌else◌}
+use Rattle.std.proofs.Common.{◌≡◌, ℕ, zero, suc, true, false, nat_lt, nat_le, nat_eq, List, [], ◌∷◌, length, Option, Some, None, refl, sym, ◌∙◌, ap, length-set, if◌then◌else◌}
 use Rattle.std.proofs.lemmas.List.{length-map}
 use Rattle.time_sharing.specs.Machine.{Machine, CutKind, Quit, Hang, Spent, End, Ending, Went, Stopped, Resized, Replaced, LoggedOut}
 use Rattle.time_sharing.specs.Rows.{machine}
@@ -9,7 +9,6 @@ use Rattle.user_model.specs.Session.{user_rows}
 use Rattle.system_model.specs.Round.{round}
 use Rattle.system_model.specs.Run.{Run, next}
 use Rattle.system_model.specs.Joined.{joined}
-use Rattle.system_model.specs.Runs.{Passes}
 use Rattle.system_model.proofs.PassLaws.{passes_keep}
 use Rattle.user_cores.specs.Memory.{Memory}
 use Rattle.supervisor.specs.Runs.{DoesMany}

@@ -38,8 +38,8 @@ impl Model for Supervisor {
     ghost Value = { Bare };
 
     ghost view = { λ s. record (bare_of s.watch.state) {
-        texts = texts_of s.watch.state.sessions.items s.watch.texts;
-        ended = s.ended;
+      texts = texts_of s.watch.state.sessions.items s.watch.texts;
+      ended = s.ended;
     } };
 
     ghost invariant = { λ s. Sound (seen no_places s.watch.state)

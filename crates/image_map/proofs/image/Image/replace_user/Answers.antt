@@ -1,4 +1,3 @@
-use Rattle.image_map.specs.Image.{state}
 use Rattle.image_map.proofs.States.{resized_twice}
 use Rattle.image_map.proofs.image.Image.replace_user.Goals as goal
 

@@ -7,3 +7,5 @@ pub mod History
 pub mod Writings
 pub mod Seats
 pub mod Server
+pub mod Conversation
+pub mod Visits

@@ -8,7 +8,7 @@ use Rattle.text_model.specs.Reading.{script_of}
 use Rattle.text_model.specs.Report.{report_of}
 use Rattle.text_model.specs.Made.{made_script}
 use Rattle.text_model.specs.Summary.{summary_of}
-use Rattle.text_model.specs.Rows.{RowOfScript, RowOfRefusals, RowOfFile, RowOfFileRefusals, RowOfTrack, RowOfModes, RowOfReport, RowOfMade, RowOfSummary}
+use Rattle.text_model.specs.Rows.{RowOfScript, RowOfRefusals, RowOfFile, RowOfFileRefusals, RowOfTrack, RowOfModes, RowOfServing, RowOfReport, RowOfMade, RowOfSummary}
 
 pub row_of_script : RowOfScript
 unfolding script_text_of script_of name_of text_of_name digits
@@ -85,6 +85,29 @@ row_of_modes =
       negative = refl;
       nothing = refl;
       three = refl;
+    }
+
+pub row_of_serving : RowOfServing
+row_of_serving =
+    record {
+      behind = refl;
+      other_order = refl;
+      before = refl;
+      around = refl;
+      no_turns = refl;
+      no_port = refl;
+      twice = refl;
+      port_0 = refl;
+      port_more = refl;
+      turns_more = refl;
+      no_value = refl;
+      empty_value = refl;
+      option_as_value = refl;
+      other_option = refl;
+      part_of_option = refl;
+      one_more = refl;
+      for_another = refl;
+      bare = refl;
     }
 
 pub row_of_report : RowOfReport

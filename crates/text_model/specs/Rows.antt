@@ -14,7 +14,7 @@ use Rattle.text_model.specs.Parts.{line}
 use Rattle.text_model.specs.declared.cause.ScriptCause.{ScriptCause}
 use Rattle.text_model.specs.declared.cause.ScriptCause.TheVariants.{NotACard, TimeFalls, UnknownNumber, OverLimit, DrumSmall, DiskSmall, NoEnd}
 use Rattle.text_model.specs.declared.cause.ScriptRefusal.{ScriptRefusal}
-use Rattle.text_model.specs.declared.mode.Mode.TheVariants.{Replay, Dump, Load, Asm}
+use Rattle.text_model.specs.declared.mode.Mode.TheVariants.{Replay, Dump, Load, Asm, Serve}
 use Rattle.text_model.specs.Drafts.{Draft, with_words}
 use Rattle.text_model.specs.Reading.{script_of}
 use Rattle.text_model.specs.Words.{mode_of}
@@ -183,6 +183,27 @@ pub record RowOfModes : Type 0 where
   pub negative : mode_of (codes "load" ∷ codes "-1" ∷ []) ≡ None
   pub nothing : mode_of [] ≡ None
   pub three : mode_of (codes "load" ∷ codes "1" ∷ codes "2" ∷ []) ≡ None
+
+-- the words of `serve`
+pub record RowOfServing : Type 0 where
+  pub behind : mode_of (codes "serve" ∷ codes "--port" ∷ codes "7094" ∷ codes "--turns" ∷ codes "2" ∷ []) ≡ Some (Serve 7094 2)
+  pub other_order : mode_of (codes "serve" ∷ codes "--turns" ∷ codes "2" ∷ codes "--port" ∷ codes "7094" ∷ []) ≡ Some (Serve 7094 2)
+  pub before : mode_of (codes "--port=65535" ∷ codes "--turns" ∷ codes "0" ∷ codes "serve" ∷ []) ≡ Some (Serve 65535 0)
+  pub around : mode_of (codes "--turns=100000" ∷ codes "serve" ∷ codes "--port=1" ∷ []) ≡ Some (Serve 1 100000)
+  pub no_turns : mode_of (codes "serve" ∷ codes "--port" ∷ codes "7094" ∷ []) ≡ None
+  pub no_port : mode_of (codes "serve" ∷ codes "--turns=2" ∷ []) ≡ None
+  pub twice : mode_of (codes "serve" ∷ codes "--port=1" ∷ codes "--turns=2" ∷ codes "--port=1" ∷ []) ≡ None
+  pub port_0 : mode_of (codes "serve" ∷ codes "--port=0" ∷ codes "--turns=2" ∷ []) ≡ None
+  pub port_more : mode_of (codes "serve" ∷ codes "--port=65536" ∷ codes "--turns=2" ∷ []) ≡ None
+  pub turns_more : mode_of (codes "serve" ∷ codes "--port=1" ∷ codes "--turns=100001" ∷ []) ≡ None
+  pub no_value : mode_of (codes "serve" ∷ codes "--turns=2" ∷ codes "--port" ∷ []) ≡ None
+  pub empty_value : mode_of (codes "serve" ∷ codes "--turns=2" ∷ codes "--port=" ∷ []) ≡ None
+  pub option_as_value : mode_of (codes "serve" ∷ codes "--port" ∷ codes "--turns" ∷ codes "2" ∷ []) ≡ None
+  pub other_option : mode_of (codes "serve" ∷ codes "--port=1" ∷ codes "--turns=2" ∷ codes "-v" ∷ []) ≡ None
+  pub part_of_option : mode_of (codes "serve" ∷ codes "--por=1" ∷ codes "--turns=2" ∷ []) ≡ None
+  pub one_more : mode_of (codes "serve" ∷ codes "now" ∷ codes "--port=1" ∷ codes "--turns=2" ∷ []) ≡ None
+  pub for_another : mode_of (codes "replay" ∷ codes "--port=1" ∷ codes "--turns=2" ∷ []) ≡ None
+  pub bare : mode_of (codes "serve" ∷ []) ≡ None
 
 abbrev pub RowOfReport : Type 0
 RowOfReport =

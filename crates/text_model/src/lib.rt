@@ -8,7 +8,7 @@
 
 ghost use Rattle.text_model.specs.Reading.{ScriptsAreInRange};
 ghost use Rattle.text_model.specs.Lawful.{ScriptsAreLawful};
-ghost use Rattle.text_model.specs.Rows.{RowOfScript, RowOfRefusals, RowOfFile, RowOfFileRefusals, RowOfTrack, RowOfModes, RowOfReport, RowOfMade, RowOfSummary};
+ghost use Rattle.text_model.specs.Rows.{RowOfScript, RowOfRefusals, RowOfFile, RowOfFileRefusals, RowOfTrack, RowOfModes, RowOfServing, RowOfReport, RowOfMade, RowOfSummary};
 
 mod card;
 mod cause;
@@ -62,6 +62,12 @@ pub fn row_of_track()
 #[tactic(auto, using(crate::proofs::RowsComputed::row_of_modes))]
 pub fn row_of_modes()
     ensures { RowOfModes }
+{}
+
+/// Words of the command line that ask for live consoles.
+#[tactic(auto, using(crate::proofs::RowsComputed::row_of_serving))]
+pub fn row_of_serving()
+    ensures { RowOfServing }
 {}
 
 /// The report of a record.

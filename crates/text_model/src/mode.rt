@@ -9,4 +9,7 @@ pub enum Mode {
     Load(u32),
     /// Cards are read and assembled, and their deck is written.
     Asm,
+    /// A script without events is read, and people connect at a port, 1 to 65,535, for at most 100,000 turns of 1000 ticks. The
+    /// script with what they did is written, and its report.
+    Serve { port: u16, turns: u32 },
 }

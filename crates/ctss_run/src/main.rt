@@ -1,7 +1,8 @@
-//! The program: the words of its command line, standard input, standard output and a drum in memory, handed to the top
-//! call.
+//! The program: the words of its command line, standard input, standard output, a drum in memory and the sockets of this
+//! machine, handed to the top call.
 #![tactic(auto)]
 
+use console_link::MioLink;
 use ctss_io::{NoMemory, StdSink, StdSource};
 use ctss_top::{ArgList, run_ctss};
 use medium::MemoryMedium;
@@ -36,8 +37,18 @@ fn main(rt: HostRuntime) -> ExitCode {
     let Ok(mut drum) = MemoryMedium::new(rt.alloc(), 3840, 256, &[], &[], 0) else {
         return ExitCode::from(8);
     };
+    let Ok(mut link) = MioLink::new(rt.alloc(), &rt) else {
+        return ExitCode::from(8);
+    };
     let mut source = StdSource::new(rt.reader());
     let mut sink = StdSink::new(io::writer(&rt));
-    let outcome = run_ctss(rt.alloc(), &words, &mut source, &mut sink, &mut drum);
+    let outcome = run_ctss(
+        rt.alloc(),
+        &words,
+        &mut source,
+        &mut sink,
+        &mut drum,
+        &mut link,
+    );
     ExitCode::from(outcome.status)
 }

@@ -38,93 +38,23 @@ use Rattle.supervisor.proofs.Running.{transcripts_same}
 use Rattle.supervisor.proofs.Serving.{ends_map}
 use Rattle.file_model.specs.Owned.{files_of}
 use Rattle.std.proofs.lemmas.List.Elements.{All-nil, All-cons}
+use Rattle.live_run.proofs.Starts.{joined_start, quotas_are, no_user_has, tied_first}
+use Rattle.live_laws.proofs.Records.{record_apart, so_far, counted_at_end}
 use Rattle.ctss_top.specs.Played.{IsStopped, HasCores, Reaches, IsPart, Stops}
 
 -- the start
-
-no_cores : (k u : ℕ) (accounts : List Account) (files : List OwnedFile) → with_cores k (λ v. []) (users_from u accounts files) ≡ users_from u accounts files
-no_cores k u [] files = refl
-no_cores k u (a ∷ accounts) files = ap (λ (ps : List User). first_state a (files_of u files) ∷ ps) (no_cores (suc k) (suc u) accounts files)
-
-joined_start : (script : Script) → joined (λ v. []) (start_of script) ≡ start_of script
-unfolding joined start_of
-joined_start script = ap (λ (ps : List User). record (start_of script) { system = record (start_of script).system { users = ps } }) (no_cores 1 1 script.accounts script.files)
-
-users_at_start : (script : Script) → (start_of script).system.users ≡ users_from 1 script.accounts script.files
-unfolding start_of
-users_at_start script = refl
-
-quotas_of_users : (u : ℕ) (accounts : List Account) (files : List OwnedFile) → map (λ (p : User). p.inner.account.blocks) (users_from u accounts files) ≡ map (λ (a : Account). a.blocks) accounts
-quotas_of_users u [] files = refl
-quotas_of_users u (a ∷ accounts) files = ap (λ (ns : List ℕ). a.blocks ∷ ns) (quotas_of_users (suc u) accounts files)
-
-no_blocks : (u : ℕ) (accounts : List Account) (files : List OwnedFile) → All (λ (p : User). blocks_of p.inner ≡ 0) (users_from u accounts files)
-no_blocks u [] files = All-nil (λ (p : User). blocks_of p.inner ≡ 0)
-no_blocks u (a ∷ accounts) files = All-cons (λ (p : User). blocks_of p.inner ≡ 0) (first_state a (files_of u files)) (users_from (suc u) accounts files) refl (no_blocks (suc u) accounts files)
 
 pub has_cores : (script : Script) (b : Bare) (quotas blocks : List ℕ) → run_with no_places b ≡ start_of script → quotas ≡ 0 ∷ blocks → blocks ≡ map (λ (a : Account). a.blocks) script.accounts → HasCores b quotas
 has_cores script b quotas blocks is are same =
     record {
       words = subst (λ (r : Run). joined (λ v. []) r ≡ r) (sym is) (joined_start script);
-      quotas_are = are ∙ ap (λ (ns : List ℕ). 0 ∷ ns) (same ∙ sym (quotas_of_users 1 script.accounts script.files) ∙ ap (map (λ (p : User). p.inner.account.blocks)) (sym users));
-      empty = subst (All (λ (p : User). blocks_of p.inner ≡ 0)) (sym users) (no_blocks 1 script.accounts script.files);
+      quotas_are = are ∙ ap (λ (ns : List ℕ). 0 ∷ ns) (same ∙ quotas_are script b is);
+      empty = no_user_has script b is;
     }
-  where
-    users : b.users ≡ users_from 1 script.accounts script.files
-    users = ap (λ (r : Run). r.system.users) is ∙ users_at_start script
-
-blocks_at : (accounts : List Account) → ((k : ℕ) (d : Account) → k < length accounts → (get_or accounts k d).blocks ≤ 128) → (i : ℕ) → slice_index_or (map (λ (a : Account). a.blocks) accounts) i 0 ≤ 128
-blocks_at [] most i = omega arith
-blocks_at (a ∷ accounts) most zero = most 0 a (omega arith)
-blocks_at (a ∷ accounts) most (suc i) = blocks_at accounts (λ k d h. most (suc k) d (omega (arith, h))) i
-
--- no quota is above 128 blocks
-pub quota_most : (accounts : List Account) → All (λ (a : Account). a.blocks ≤ 128) accounts → (u : ℕ) → quota_of (0 ∷ map (λ (a : Account). a.blocks) accounts) u ≤ 128
-quota_most accounts all zero = omega arith
-quota_most accounts all (suc i) = blocks_at accounts (λ k d h. all k d h) i
 
 pub record_is : (script : Script) → record_from (ended (run_to script.end (start_of script))) ≡ record_of script
 unfolding record_of
 record_is script = refl
-
--- users without blocks agree with cores without blocks
-
-quota_at : (users : List User) (i : ℕ) (d : User) → i < length users → slice_index_or (map (λ (p : User). p.inner.account.blocks) users) i 0 ≡ (get_or users i d).inner.account.blocks
-quota_at [] i d h = absurd (omega arith)
-quota_at (p ∷ users) zero d h = refl
-quota_at (p ∷ users) (suc i) d h = quota_at users i d (omega (arith, h))
-
-quota_behind : (ns : List ℕ) (u : ℕ) → 1 ≤ u → quota_of (0 ∷ ns) u ≡ slice_index_or ns (u - 1) 0
-quota_behind ns zero h = absurd (omega arith)
-quota_behind ns (suc i) h = let e : i ≡ suc i - 1 = omega arith in ap (λ (k : ℕ). slice_index_or ns k 0) e
-
-length-fill : (n : ℕ) → length {A = ℕ} (replicate n 0) ≡ n
-length-fill zero = refl
-length-fill (suc n) = ap suc (length-fill n)
-
-pub tied_first : (b : Bare) (quotas : List ℕ) (m : Memory) → HasCores b quotas → m.sizes ≡ replicate (length quotas) 0 → m.quotas ≡ quotas → IsTied b.users m
-tied_first b quotas m has sizes are =
-    record {
-      many = ap length sizes ∙ length-fill (length quotas) ∙ ap length has.quotas_are ∙ ap suc (length-map b.users (λ (p : User). p.inner.account.blocks));
-      has = λ u pos within. ap (λ (s : List ℕ). size_of s u) sizes ∙ none_in (length quotas) u ∙ sym (has.empty (u - 1) nobody (omega (arith, pos, within)));
-      may = λ u pos within.
-          ap (λ (q : List ℕ). quota_of q u) (are ∙ has.quotas_are)
-          ∙ quota_behind (map (λ (p : User). p.inner.account.blocks) b.users) u pos
-          ∙ quota_at b.users (u - 1) nobody (omega (arith, pos, within));
-    }
-
--- the record doesn't look at words and places
-
-files_same : (k : ℕ) (f : ℕ → List ℕ) (ps : List User) → map (λ (p : User). p.inner.files) ps ≡ map (λ (p : User). p.inner.files) (with_cores k f ps)
-files_same k f [] = refl
-files_same k f (p ∷ ps) = ap (λ (fs : List (List FileBody)). p.inner.files ∷ fs) (files_same (suc k) f ps)
-
-closed_apart : (f : ℕ → List ℕ) (p q : Places) (b : Bare) → record_from (closed (run_with p b)) ≡ record_from (closed (joined f (run_with q b)))
-unfolding closed joined
-closed_apart f p q b = λ j. record (record_from (closed (run_with p b))) { transcripts = transcripts_same 1 f b.users j; files = files_same 1 f b.users j }
-
-record_apart : (f : ℕ → List ℕ) (p q : Places) (b : Bare) → record_from (ended (run_with p b)) ≡ record_from (ended (joined f (run_with q b)))
-record_apart f p q b = ap record_from (closes (run_with p b)) ∙ closed_apart f p q b ∙ ap record_from (sym (closes (joined f (run_with q b))))
 
 -- what holds by how a run ended, of two things that are known of it
 ends_both : {T : Type 0} (r : Result T RunFault) (A B C A' B' C' X Y Z : Type 0) → (A → A' → X) → (B → B' → Y) → (C → C' → Z) → Ends r A B C → Ends r A' B' C' → Ends r X Y Z
@@ -132,10 +62,6 @@ ends_both (Ok x) A B C A' B' C' X Y Z f g h one two = f one two
 ends_both (Err NoMemory) A B C A' B' C' X Y Z f g h one two = g one two
 ends_both (Err Drum) A B C A' B' C' X Y Z f g h one two = h one two
 ends_both (Err Disk) A B C A' B' C' X Y Z f g h one two = one
-
-so_far : (f : ℕ → List ℕ) (p q : Places) (b : Bare) → record_so_far (run_with p b) ≡ record_so_far (joined f (run_with q b))
-unfolding joined
-so_far f p q b = λ j. record (record_so_far (run_with p b)) { transcripts = transcripts_same 1 f b.users j }
 
 -- the run as it is seen from the start
 pub played : {T : Type 0} (r : Result T RunFault) (limit : ℕ) (old new : Bare) (quotas : List ℕ) (had has : Memory) (was now : Option CallList) (rose : Type 0) → HasCores old quotas
@@ -202,39 +128,6 @@ stops_from r limit start first new was now was' now' before after h =
 pub none_at_start : (script : Script) → (start_of script).system.entries ≡ []
 unfolding start_of
 none_at_start script = refl
-
--- the end of a record adds no load
-
-dumped_at_end : (v : Option Service) (i : Option ℕ) (now : ℕ) → dumped_in (end_notes v ++ idle_notes i now) ≡ 0
-dumped_at_end None None now = refl
-dumped_at_end None (Some from) now = refl
-dumped_at_end (Some v) None now = refl
-dumped_at_end (Some v) (Some from) now = refl
-
-read_at_end : (v : Option Service) (i : Option ℕ) (now : ℕ) → read_in (end_notes v ++ idle_notes i now) ≡ 0
-read_at_end None None now = refl
-read_at_end None (Some from) now = refl
-read_at_end (Some v) None now = refl
-read_at_end (Some v) (Some from) now = refl
-
-closed_counts : (r : Run) → (dumped_in (closed r).system.entries ≡ dumped_in r.system.entries) × (read_in (closed r).system.entries ≡ read_in r.system.entries)
-unfolding closed
-closed_counts r =
-    let more : List Entry = end_notes r.system.service ++ idle_notes r.system.idling r.system.clock in (
-      omega (arith, dumped-append r.system.entries more, dumped_at_end r.system.service r.system.idling r.system.clock),
-      omega (arith, read-append r.system.entries more, read_at_end r.system.service r.system.idling r.system.clock),
-    )
-
-pub counted_at_end : (had : List Entry) (b : Bare) (was now : Option CallList) → IsCounted had b.entries was now → IsCounted had (record_from (ended (run_with no_places b))).entries was now
-counted_at_end had b was now h =
-    let counts = closed_counts (run_with no_places b) in
-    let end : ended (run_with no_places b) ≡ closed (run_with no_places b) = closes (run_with no_places b) in
-    record {
-      calls = h.calls;
-      made = h.made;
-      writes = ap (λ (r : Run). dumped_in r.system.entries) end ∙ counts.0 ∙ h.writes;
-      reads = ap (λ (r : Run). read_in r.system.entries) end ∙ counts.1 ∙ h.reads;
-    }
 
 -- no entry stands in the state that a script starts with
 pub no_entry : (script : Script) (b : Bare) → run_with no_places b ≡ start_of script → b.entries ≡ []

@@ -1,29 +1,35 @@
 -- What follows from what was read and written.
-use Rattle.std.proofs.Common.{◌≡◌, ℕ, ◌≤◌, Bool, true, false, ◌||◌, nat_eq, nat_le, List, [], ◌∷◌, ◌++◌, length, Option, Some, None, Ok, Err, refl, sym, ap, subst, ◌∙◌, append-nil, arith}
+use Rattle.std.proofs.Common.{◌≡◌, ℕ, ◌*◌, ◌≤◌, Bool, true, false, ◌||◌, nat_eq, nat_le, List, [], ◌∷◌, ◌++◌, length, Option, Some, None, Ok, Err, refl, sym, ap, subst, ◌∙◌, append-nil, arith}
 use Rattle.std.specs.List.{list_any}
 use Rattle.std.specs.declared.result.Result.{Result}
 use Rattle.std.proofs.lemmas.Bool.Decides.{nat_tests}
 use Rattle.faults.specs.Faults.{WhereTold}
 use Rattle.ctss_types.specs.declared.script.Script.{Script}
+use Rattle.ctss_types.specs.declared.script.Timed.{Timed}
+use Rattle.ctss_types.specs.declared.history.Record.{Record}
 use Rattle.ctss_io.specs.Outside.{before, after, IsAtEnd}
 use Rattle.ctss_io.specs.Whole.{ShrankBy, HasAtLeast, GrewByProperPrefix}
 use Rattle.text_model.specs.declared.mode.Mode.{Mode}
-use Rattle.text_model.specs.declared.mode.Mode.TheVariants.{Replay, Dump, Load, Asm}
+use Rattle.text_model.specs.declared.mode.Mode.TheVariants.{Replay, Dump, Load, Asm, Serve}
 use Rattle.text_model.specs.declared.cause.ScriptCause.TheVariants.{TooLong}
 use Rattle.text_model.specs.declared.cause.ScriptRefusal.{ScriptRefusal}
 use Rattle.text_model.specs.Causes.{cause_number}
 use Rattle.text_model.specs.Words.{mode_of, script_refused}
 use Rattle.text_model.specs.Reading.{script_of, max_bytes}
+use Rattle.script_read.specs.Bases.{base_of}
 use Rattle.text_model.specs.Made.{made_script}
 use Rattle.system_model.specs.Record.{record_of, EachIsAlone}
 use Rattle.system_model.proofs.AloneLaws.{users_are_alone}
 use Rattle.supervisor.specs.Counts.{IsCounted}
+use Rattle.live_laws.specs.Parts.{live_script}
+use Rattle.live_serve.specs.Talks.{IsTalk}
+use Rattle.live_serve.specs.Live.{IsLiveRecord, StopsInTurn}
 use Rattle.ctss_top.specs.declared.outcome.Outcome.{Outcome}
 use Rattle.ctss_top.specs.Outcomes.{bare}
 use Rattle.ctss_top.specs.Devices.{DevicesSeen}
 use Rattle.ctss_top.specs.Played.{IsStopped}
-use Rattle.ctss_top.specs.Modes.{runs_script, reads_script, Comes, IsRefused, text_for}
-use Rattle.ctss_top.specs.Top.{IsRun, RunIsStopped, ScriptIsRefused, OfRefusal, OfRun, IsCutOff, IsSilent, statuses_for}
+use Rattle.ctss_top.specs.Modes.{runs_script, reads_script, replays, serves, script_for, Comes, IsSpelled, IsRefused, text_for}
+use Rattle.ctss_top.specs.Top.{IsRun, RunIsStopped, ScriptIsStopped, StopsFor, ScriptIsRefused, OfRefusal, OfRun, IsCutOff, IsSilent, statuses_for, statuses_live}
 
 -- a list with one more behind its first
 one_more_said : (a n rest : Bool) → (a || rest) ≡ true → (a || (n || rest)) ≡ true
@@ -48,17 +54,43 @@ pub long_is_refused : (bytes : List ℕ) → 4194305 ≤ length bytes → script
 unfolding script_of
 long_is_refused bytes h = rw (too_many bytes h) refl
 
-long_read : (left rest : Option (List ℕ)) (bytes : List ℕ) → length bytes ≡ 4194305 → left ≡ before bytes rest → IsRefused left rest bytes too_long
-long_read left rest bytes size came =
-    record { came = came; whole = λ h. absurd (omega (arith, size, h)); refused = long_is_refused bytes (omega (arith, size)) }
+pub long_base_is_refused : (bytes : List ℕ) → 4194305 ≤ length bytes → base_of bytes ≡ Err too_long
+unfolding base_of
+long_base_is_refused bytes h = rw (too_many bytes h) refl
 
-pub refused_long : (old new : DevicesSeen) (o : Outcome) → ShrankBy 4194305 old.input.left new.input.left → o ≡ bare 2 0 8 → new.output.held ≡ after old.output.held (script_refused 0 8) → new.drum ≡ old.drum → ScriptIsRefused old new o
-refused_long old new o gone is written drum =
-    record { bytes = gone.0; refusal = too_long; read = long_read old.input.left new.input.left gone.0 gone.1 gone.2; outcome = is; written = written; drum = drum }
+long_for : (mode : Mode) (bytes : List ℕ) → 4194305 ≤ length bytes → script_for mode bytes ≡ Err too_long
+long_for Replay bytes h = long_is_refused bytes h
+long_for Dump bytes h = long_is_refused bytes h
+long_for (Load n) bytes h = long_is_refused bytes h
+long_for Asm bytes h = long_is_refused bytes h
+long_for (Serve port turns) bytes h = long_base_is_refused bytes h
 
-pub refused_short : (old new : DevicesSeen) (o : Outcome) (bytes : List ℕ) (refusal : ScriptRefusal) (number : ℕ) → old.input.left ≡ before bytes new.input.left → IsAtEnd new.input.left → script_of bytes ≡ Err refusal
-    → number ≡ cause_number refusal.cause → o ≡ bare 2 refusal.card number → new.output.held ≡ after old.output.held (script_refused refusal.card number) → new.drum ≡ old.drum → ScriptIsRefused old new o
-refused_short old new o bytes refusal number came whole refused why is written drum =
+-- where all events are read with the script, the bytes spell it
+pub replays_script : (mode : Mode) → replays mode ≡ true → (bytes : List ℕ) → script_for mode bytes ≡ script_of bytes
+replays_script Replay is bytes = refl
+replays_script Dump is bytes = refl
+replays_script (Load n) is bytes = cc
+replays_script Asm is bytes = cc
+replays_script (Serve port turns) is bytes = cc
+
+pub replays_reads : (mode : Mode) → replays mode ≡ true → reads_script mode ≡ true
+replays_reads Replay is = refl
+replays_reads Dump is = refl
+replays_reads (Load n) is = is
+replays_reads Asm is = is
+replays_reads (Serve port turns) is = refl
+
+long_read : (mode : Mode) (left rest : Option (List ℕ)) (bytes : List ℕ) → length bytes ≡ 4194305 → left ≡ before bytes rest → IsRefused mode left rest bytes too_long
+long_read mode left rest bytes size came =
+    record { came = came; whole = λ h. absurd (omega (arith, size, h)); refused = long_for mode bytes (omega (arith, size)) }
+
+pub refused_long : (mode : Mode) (old new : DevicesSeen) (o : Outcome) → ShrankBy 4194305 old.input.left new.input.left → o ≡ bare 2 0 8 → new.output.held ≡ after old.output.held (script_refused 0 8) → new.drum ≡ old.drum → new.link ≡ old.link → ScriptIsRefused mode old new o
+refused_long mode old new o gone is written drum link =
+    record { bytes = gone.0; refusal = too_long; read = long_read mode old.input.left new.input.left gone.0 gone.1 gone.2; outcome = is; written = written; drum = drum; link = link }
+
+pub refused_short : (mode : Mode) (old new : DevicesSeen) (o : Outcome) (bytes : List ℕ) (refusal : ScriptRefusal) (number : ℕ) → old.input.left ≡ before bytes new.input.left → IsAtEnd new.input.left → script_for mode bytes ≡ Err refusal
+    → number ≡ cause_number refusal.cause → o ≡ bare 2 refusal.card number → new.output.held ≡ after old.output.held (script_refused refusal.card number) → new.drum ≡ old.drum → new.link ≡ old.link → ScriptIsRefused mode old new o
+refused_short mode old new o bytes refusal number came whole refused why is written drum link =
     record {
       bytes = bytes;
       refusal = refusal;
@@ -66,11 +98,12 @@ refused_short old new o bytes refusal number came whole refused why is written d
       outcome = is ∙ ap (bare 2 refusal.card) why;
       written = written ∙ ap (λ (n : ℕ). after old.output.held (script_refused refusal.card n)) why;
       drum = drum;
+      link = link;
     }
 
 -- a refusal that was cut off
 cut_refusal : (words : List (List ℕ)) (mode : Mode) → mode_of words ≡ Some mode → reads_script mode ≡ true → (old new : DevicesSeen) (o : Outcome) (bytes : List ℕ) (refusal : ScriptRefusal)
-    → IsRefused old.input.left new.input.left bytes refusal → o ≡ bare 4 0 0 → GrewByProperPrefix old.output.held (script_refused refusal.card (cause_number refusal.cause)) new.output.held → new.drum ≡ old.drum → IsCutOff words old new o
+    → IsRefused mode old.input.left new.input.left bytes refusal → o ≡ bare 4 0 0 → GrewByProperPrefix old.output.held (script_refused refusal.card (cause_number refusal.cause)) new.output.held → new.drum ≡ old.drum → IsCutOff words old new o
 cut_refusal words mode asked reads old new o bytes refusal read is part drum =
     record {
       text = script_refused refusal.card (cause_number refusal.cause);
@@ -83,30 +116,39 @@ cut_refusal words mode asked reads old new o bytes refusal read is part drum =
 pub cut_long : (words : List (List ℕ)) (mode : Mode) → mode_of words ≡ Some mode → reads_script mode ≡ true → (old new : DevicesSeen) (o : Outcome)
     → ShrankBy 4194305 old.input.left new.input.left → o ≡ bare 4 0 0 → GrewByProperPrefix old.output.held (script_refused 0 8) new.output.held → new.drum ≡ old.drum → IsCutOff words old new o
 cut_long words mode asked reads old new o gone is part drum =
-    cut_refusal words mode asked reads old new o gone.0 too_long (long_read old.input.left new.input.left gone.0 gone.1 gone.2) is part drum
+    cut_refusal words mode asked reads old new o gone.0 too_long (long_read mode old.input.left new.input.left gone.0 gone.1 gone.2) is part drum
 
 pub cut_short : (words : List (List ℕ)) (mode : Mode) → mode_of words ≡ Some mode → reads_script mode ≡ true → (old new : DevicesSeen) (o : Outcome) (bytes : List ℕ) (refusal : ScriptRefusal) (number : ℕ)
-    → old.input.left ≡ before bytes new.input.left → IsAtEnd new.input.left → script_of bytes ≡ Err refusal → number ≡ cause_number refusal.cause → o ≡ bare 4 0 0 → GrewByProperPrefix old.output.held (script_refused refusal.card number) new.output.held → new.drum ≡ old.drum
+    → old.input.left ≡ before bytes new.input.left → IsAtEnd new.input.left → script_for mode bytes ≡ Err refusal → number ≡ cause_number refusal.cause → o ≡ bare 4 0 0 → GrewByProperPrefix old.output.held (script_refused refusal.card number) new.output.held → new.drum ≡ old.drum
     → IsCutOff words old new o
 cut_short words mode asked reads old new o bytes refusal number came whole refused why is part drum =
     cut_refusal words mode asked reads old new o bytes refusal (record { came = came; whole = λ h. whole; refused = refused }) is
     (subst (λ (n : ℕ). GrewByProperPrefix old.output.held (script_refused refusal.card n) new.output.held) why part) drum
 
--- the script of bytes that came, in a mode that reads it
-pub comes_read : (mode : Mode) → reads_script mode ≡ true → (left rest : Option (List ℕ)) (bytes : List ℕ) (script : Script) → left ≡ before bytes rest → IsAtEnd rest → script_of bytes ≡ Ok script → Comes mode left rest script
-comes_read Replay reads left rest bytes script came whole spelled = record { bytes = bytes; came = came; whole = whole; spelled = spelled }
-comes_read Dump reads left rest bytes script came whole spelled = record { bytes = bytes; came = came; whole = whole; spelled = spelled }
-comes_read (Load n) reads left rest bytes script came whole spelled = cc
-comes_read Asm reads left rest bytes script came whole spelled = cc
+spelled : (mode : Mode) (left rest : Option (List ℕ)) (bytes : List ℕ) (script : Script) → left ≡ before bytes rest → IsAtEnd rest → script_for mode bytes ≡ Ok script → IsSpelled mode left rest script
+spelled mode left rest bytes script came whole is = record { bytes = bytes; came = came; whole = whole; spelled = is }
 
--- a mode that reads a script runs it
-pub reads_runs : (mode : Mode) → reads_script mode ≡ true → runs_script mode ≡ true
-reads_runs Replay reads = refl
-reads_runs Dump reads = refl
-reads_runs (Load n) reads = refl
-reads_runs Asm reads = reads
+-- the script of bytes that came, in a mode that reads all events with it
+pub comes_read : (mode : Mode) → replays mode ≡ true → (old new : DevicesSeen) (bytes : List ℕ) (script : Script) → old.input.left ≡ before bytes new.input.left → IsAtEnd new.input.left → script_of bytes ≡ Ok script → Comes mode old new script
+comes_read Replay is old new bytes script came whole read = spelled Replay old.input.left new.input.left bytes script came whole read
+comes_read Dump is old new bytes script came whole read = spelled Dump old.input.left new.input.left bytes script came whole read
+comes_read (Load n) is old new bytes script came whole read = cc
+comes_read Asm is old new bytes script came whole read = cc
+comes_read (Serve port turns) is old new bytes script came whole read = cc
 
-pub is_run : (mode : Mode) (old new : DevicesSeen) (o : Outcome) (script : Script) → Comes mode old.input.left new.input.left script
+-- the base script of bytes that came
+pub base_read : (port turns : ℕ) (left rest : Option (List ℕ)) (bytes : List ℕ) (base : Script) → left ≡ before bytes rest → IsAtEnd rest → base_of bytes ≡ Ok base → IsSpelled (Serve port turns) left rest base
+base_read port turns left rest bytes base came whole read = spelled (Serve port turns) left rest bytes base came whole read
+
+-- a mode that reads all events with a script runs it
+pub replays_runs : (mode : Mode) → replays mode ≡ true → runs_script mode ≡ true
+replays_runs Replay is = refl
+replays_runs Dump is = refl
+replays_runs (Load n) is = refl
+replays_runs Asm is = is
+replays_runs (Serve port turns) is = refl
+
+pub is_run : (mode : Mode) (old new : DevicesSeen) (o : Outcome) (script : Script) → Comes mode old new script
     → (old.drum.tells ≡ true → o.run ≡ record_of script) → IsCounted [] o.run.entries old.drum.calls new.drum.calls → (o.card ≡ 0) × (o.cause ≡ 0) → new.output.held ≡ after old.output.held (text_for mode script o.run) → IsRun mode old new o
 is_run mode old new o script comes run counted numbers written =
     record {
@@ -120,7 +162,7 @@ is_run mode old new o script comes run counted numbers written =
       cause = numbers.1;
     }
 
-pub cut_run : (words : List (List ℕ)) (mode : Mode) → mode_of words ≡ Some mode → (old new : DevicesSeen) (o : Outcome) (script : Script) → Comes mode old.input.left new.input.left script
+pub cut_run : (words : List (List ℕ)) (mode : Mode) → mode_of words ≡ Some mode → (old new : DevicesSeen) (o : Outcome) (script : Script) → Comes mode old new script
     → (old.drum.tells ≡ true → o.run ≡ record_of script) → IsCounted [] o.run.entries old.drum.calls new.drum.calls → (o.card ≡ 0) × (o.cause ≡ 0) → GrewByProperPrefix old.output.held (text_for mode script o.run) new.output.held → IsCutOff words old new o
 cut_run words mode asked old new o script comes run counted numbers part =
     record {
@@ -131,16 +173,28 @@ cut_run words mode asked old new o script comes run counted numbers part =
       cause = numbers.1;
     }
 
-pub is_stopped : (words : List (List ℕ)) (mode : Mode) (old new : DevicesSeen) (o : Outcome) (script : Script) → mode_of words ≡ Some mode → Comes mode old.input.left new.input.left script
+stops_for : (mode : Mode) → serves mode ≡ false → (old new : DevicesSeen) (o : Outcome) → ScriptIsStopped mode old new o → StopsFor mode old new o
+stops_for Replay is old new o s = s
+stops_for Dump is old new o s = s
+stops_for (Load n) is old new o s = s
+stops_for Asm is old new o s = s.comes
+stops_for (Serve port turns) is old new o s = cc
+
+pub replays_alone : (mode : Mode) → replays mode ≡ true → serves mode ≡ false
+replays_alone Replay is = refl
+replays_alone Dump is = refl
+replays_alone (Load n) is = refl
+replays_alone Asm is = refl
+replays_alone (Serve port turns) is = sym is
+
+pub is_stopped : (words : List (List ℕ)) (mode : Mode) → serves mode ≡ false → (old new : DevicesSeen) (o : Outcome) (script : Script) → mode_of words ≡ Some mode → Comes mode old new script
     → new.output.held ≡ old.output.held → (old.drum.tells ≡ true → IsStopped script o.run old.drum.calls new.drum.calls) → (o.card ≡ 0) × (o.cause ≡ 0) → RunIsStopped words old new o
-is_stopped words mode old new o script asked comes silent stopped numbers =
+is_stopped words mode alone old new o script asked comes silent stopped numbers =
     record {
       mode = mode;
       asked = asked;
-      script = script;
-      comes = comes;
+      stopped = stops_for mode alone old new o (record { script = script; comes = comes; stopped = stopped });
       silent = silent;
-      stopped = stopped;
       card = numbers.0;
       cause = numbers.1;
     }
@@ -149,8 +203,42 @@ pub silent_by : (status n : ℕ) (old new : DevicesSeen) (o : Outcome) → statu
 silent_by status n old new o is h = subst (λ (k : ℕ). IsSilent k old new o) (sym is) h
 
 -- a script that is made of a number comes without reading
-pub comes_made : (n : ℕ) (left : Option (List ℕ)) (script : Script) → script ≡ made_script n → Comes (Load n) left left script
-comes_made n left script made = record { unread = refl; made = made }
+pub comes_made : (n : ℕ) (old new : DevicesSeen) (script : Script) → new.input.left ≡ old.input.left → script ≡ made_script n → Comes (Load n) old new script
+comes_made n old new script unread made = record { unread = unread; made = made }
+
+-- live consoles
+
+abbrev pub live_by : ℕ → Script → List Timed → Script
+live_by turns base events = live_script base events (1000 * turns)
+
+comes_live : (port turns : ℕ) (old new : DevicesSeen) (base : Script) (events : List Timed) → IsSpelled (Serve port turns) old.input.left new.input.left base → IsTalk turns events old.link new.link → Comes (Serve port turns) old new (live_by turns base events)
+comes_live port turns old new base events spelled talk = record { base = base; events = events; spelled = spelled; talk = talk; script_is = refl }
+
+pub live_run : (port turns : ℕ) (old new : DevicesSeen) (o : Outcome) (base : Script) (events : List Timed) (rec : Record) → IsSpelled (Serve port turns) old.input.left new.input.left base
+    → IsLiveRecord base turns events old.drum.tells old.drum.calls new.drum.calls rec → IsTalk turns events old.link new.link → o.run ≡ rec → (o.card ≡ 0) × (o.cause ≡ 0)
+    → new.output.held ≡ after old.output.held (text_for (Serve port turns) (live_by turns base events) o.run) → IsRun (Serve port turns) old new o
+live_run port turns old new o base events rec spelled live talk is numbers written =
+    is_run (Serve port turns) old new o (live_by turns base events) (comes_live port turns old new base events spelled talk) (λ told. is ∙ live.record_is told)
+    (subst (λ (r : Record). IsCounted [] r.entries old.drum.calls new.drum.calls) (sym is) live.counted) numbers written
+
+pub live_cut : (words : List (List ℕ)) (port turns : ℕ) → mode_of words ≡ Some (Serve port turns) → (old new : DevicesSeen) (o : Outcome) (base : Script) (events : List Timed) (rec : Record) → IsSpelled (Serve port turns) old.input.left new.input.left base
+    → IsLiveRecord base turns events old.drum.tells old.drum.calls new.drum.calls rec → IsTalk turns events old.link new.link → o.run ≡ rec → (o.card ≡ 0) × (o.cause ≡ 0)
+    → GrewByProperPrefix old.output.held (text_for (Serve port turns) (live_by turns base events) o.run) new.output.held → IsCutOff words old new o
+live_cut words port turns asked old new o base events rec spelled live talk is numbers part =
+    cut_run words (Serve port turns) asked old new o (live_by turns base events) (comes_live port turns old new base events spelled talk) (λ told. is ∙ live.record_is told)
+    (subst (λ (r : Record). IsCounted [] r.entries old.drum.calls new.drum.calls) (sym is) live.counted) numbers part
+
+pub live_stopped : (words : List (List ℕ)) (port turns : ℕ) → mode_of words ≡ Some (Serve port turns) → (old new : DevicesSeen) (o : Outcome) (base : Script) → IsSpelled (Serve port turns) old.input.left new.input.left base
+    → new.output.held ≡ old.output.held → (old.drum.tells ≡ true → StopsInTurn base turns old.drum.calls new.drum.calls o.run) → (o.card ≡ 0) × (o.cause ≡ 0) → RunIsStopped words old new o
+live_stopped words port turns asked old new o base spelled silent stopped numbers =
+    record {
+      mode = Serve port turns;
+      asked = asked;
+      stopped = record { base = base; spelled = spelled; stopped = stopped };
+      silent = silent;
+      card = numbers.0;
+      cause = numbers.1;
+    }
 
 -- what is true of all bytes that came is true of those that were told
 pub of_told : (left rest : Option (List ℕ)) (bytes : List ℕ) (P : List ℕ → Type 0) → left ≡ before bytes rest → IsAtEnd rest → P bytes → WhereTold left P
@@ -189,3 +277,39 @@ allows_refused status bytes refusal refused h = rw refused (refused_status statu
 
 pub allows_done : (status : ℕ) (bytes : List ℕ) (script : Script) → script_of bytes ≡ Ok script → list_any (nat_eq status) (0 ∷ 4 ∷ 5 ∷ 8 ∷ []) ≡ true → Allows status bytes
 allows_done status bytes script spelled h = rw spelled (done_status status h)
+
+-- the same of a base script
+
+live_status : (status : ℕ) → list_any (nat_eq status) (0 ∷ 4 ∷ 5 ∷ 7 ∷ 8 ∷ []) ≡ true → list_any (nat_eq status) (0 ∷ 3 ∷ 4 ∷ 5 ∷ 7 ∷ 8 ∷ []) ≡ true
+live_status status h = one_more_said (nat_eq status 0) (nat_eq status 3) (list_any (nat_eq status) (4 ∷ 5 ∷ 7 ∷ 8 ∷ [])) h
+
+abbrev pub AllowsLive : ℕ → List ℕ → Type 0
+AllowsLive status bytes = list_any (nat_eq status) (statuses_live (base_of bytes)) ≡ true
+
+pub live_told_long : (left : Option (List ℕ)) (status : ℕ) → HasAtLeast 4194305 left → list_any (nat_eq status) (2 ∷ 4 ∷ 8 ∷ []) ≡ true → WhereTold left (AllowsLive status)
+live_told_long None status h is = tt
+live_told_long (Some bytes) status h is = rw (long_base_is_refused bytes h) (refused_status status is)
+
+by_base : (status : ℕ) → ((said : Result Script ScriptRefusal) → list_any (nat_eq status) (statuses_live said) ≡ true) → (left : Option (List ℕ)) → WhereTold left (AllowsLive status)
+by_base status h None = tt
+by_base status h (Some bytes) = h (base_of bytes)
+
+pub live_told_unread : (left : Option (List ℕ)) → WhereTold left (AllowsLive 3)
+live_told_unread left = by_base 3 (λ said. at_3 said) left
+  where
+    at_3 : (said : Result Script ScriptRefusal) → list_any (nat_eq 3) (statuses_live said) ≡ true
+    at_3 (Err r) = refl
+    at_3 (Ok s) = refl
+
+pub live_told_no_memory : (left : Option (List ℕ)) → WhereTold left (AllowsLive 8)
+live_told_no_memory left = by_base 8 (λ said. at_8 said) left
+  where
+    at_8 : (said : Result Script ScriptRefusal) → list_any (nat_eq 8) (statuses_live said) ≡ true
+    at_8 (Err r) = refl
+    at_8 (Ok s) = refl
+
+pub live_allows_refused : (status : ℕ) (bytes : List ℕ) (refusal : ScriptRefusal) → base_of bytes ≡ Err refusal → list_any (nat_eq status) (2 ∷ 4 ∷ 8 ∷ []) ≡ true → AllowsLive status bytes
+live_allows_refused status bytes refusal refused h = rw refused (refused_status status h)
+
+pub live_allows_done : (status : ℕ) (bytes : List ℕ) (base : Script) → base_of bytes ≡ Ok base → list_any (nat_eq status) (0 ∷ 4 ∷ 5 ∷ 7 ∷ 8 ∷ []) ≡ true → AllowsLive status bytes
+live_allows_done status bytes base spelled h = rw spelled (live_status status h)

@@ -7,26 +7,29 @@ use Rattle.faults.specs.Faults.{Rose, WhereTold}
 use Rattle.ctss_io.specs.Outside.{after}
 use Rattle.ctss_io.specs.Whole.{GrewByProperPrefix}
 use Rattle.text_model.specs.declared.mode.Mode.{Mode}
-use Rattle.text_model.specs.declared.mode.Mode.TheVariants.{Replay, Dump, Load, Asm}
+use Rattle.text_model.specs.declared.mode.Mode.TheVariants.{Replay, Dump, Load, Asm, Serve}
 use Rattle.text_model.specs.declared.cause.ScriptRefusal.{ScriptRefusal}
 use Rattle.text_model.specs.Causes.{cause_number}
 use Rattle.text_model.specs.Words.{mode_of, words_refused, script_refused}
 use Rattle.text_model.specs.Reading.{script_of}
+use Rattle.script_read.specs.Bases.{base_of}
 use Rattle.system_model.specs.Record.{record_of, EachIsAlone}
 use Rattle.supervisor.specs.Counts.{IsCounted}
 use Rattle.ctss_top.specs.declared.outcome.Outcome.{Outcome}
 use Rattle.ctss_top.specs.Outcomes.{empty_record, bare, IsOneOf}
 use Rattle.ctss_top.specs.Devices.{DevicesSeen}
+use Rattle.live_serve.specs.Live.{StopsInTurn}
 use Rattle.ctss_top.specs.Played.{IsStopped}
-use Rattle.ctss_top.specs.Modes.{Comes, IsRefused, text_for, reads_script, runs_script}
+use Rattle.ctss_top.specs.Modes.{Comes, IsSpelled, IsRefused, text_for, reads_script, runs_script, serves}
 use Rattle.ctss_top.specs.Asm.{IsTextOfCards, CardsAreRefused, InputIsTooLong, statuses_for_cards}
 
--- The headline. The script is the one that the mode runs: that of all bytes that came, or a made one. The text of the run has come
+-- The headline. The script is the one that the mode runs: that of all bytes that came, a made one, or a base with what people did over
+-- the link. The text of the run has come
 -- to the output. Where the drum tells its records, the run is the script's one record, and each account's transcript and files
 -- are those of the user's machine alone. Where it tells its calls, they are just those of the run's loads.
 pub record IsRun (mode : Mode) (old new : DevicesSeen) (result : Outcome) : Type 0 where
   pub script : Script
-  pub comes : Comes mode old.input.left new.input.left script
+  pub comes : Comes mode old new script
   pub written : new.output.held ≡ after old.output.held (text_for mode script result.run)
   pub run : old.drum.tells ≡ true → result.run ≡ record_of script
   pub alone : old.drum.tells ≡ true → EachIsAlone script result.run
@@ -34,26 +37,44 @@ pub record IsRun (mode : Mode) (old new : DevicesSeen) (result : Outcome) : Type
   pub card : result.card ≡ 0
   pub cause : result.cause ≡ 0
 
--- The drum failed, and nothing was written. Where the drum tells its records, the run is the record of some whole steps, behind
--- which a user is to be brought into core; where it tells its calls, that load was cut off by the last one.
+-- Where the drum tells its records, the run is the record of some whole steps of the script, behind which a user is to be brought into
+-- core; where it tells its calls, that load was cut off by the last one.
+pub record ScriptIsStopped (mode : Mode) (old new : DevicesSeen) (result : Outcome) : Type 0 where
+  pub script : Script
+  pub comes : Comes mode old new script
+  pub stopped : old.drum.tells ≡ true → IsStopped script result.run old.drum.calls new.drum.calls
+
+-- the same of a turn of live consoles
+pub record LiveIsStopped (mode : Mode) (turns : ℕ) (old new : DevicesSeen) (result : Outcome) : Type 0 where
+  pub base : Script
+  pub spelled : IsSpelled mode old.input.left new.input.left base
+  pub stopped : old.drum.tells ≡ true → StopsInTurn base turns old.drum.calls new.drum.calls result.run
+
+abbrev pub StopsFor : Mode → DevicesSeen → DevicesSeen → Outcome → Type 0
+StopsFor Replay old new result = ScriptIsStopped Replay old new result
+StopsFor Dump old new result = ScriptIsStopped Dump old new result
+StopsFor (Load n) old new result = ScriptIsStopped (Load n) old new result
+StopsFor Asm old new result = true ≡ false
+StopsFor (Serve port turns) old new result = LiveIsStopped (Serve port turns) turns old new result
+
+-- the drum failed, and nothing was written
 pub record RunIsStopped (words : List (List ℕ)) (old new : DevicesSeen) (result : Outcome) : Type 0 where
   pub mode : Mode
   pub asked : mode_of words ≡ Some mode
-  pub script : Script
-  pub comes : Comes mode old.input.left new.input.left script
+  pub stopped : StopsFor mode old new result
   pub silent : new.output.held ≡ old.output.held
-  pub stopped : old.drum.tells ≡ true → IsStopped script result.run old.drum.calls new.drum.calls
   pub card : result.card ≡ 0
   pub cause : result.cause ≡ 0
 
--- the script that came is refused, and so it was written; no call of the drum was made
-pub record ScriptIsRefused (old new : DevicesSeen) (result : Outcome) : Type 0 where
+-- the script that came is refused, and so it was written; no call of the drum or the link was made
+pub record ScriptIsRefused (mode : Mode) (old new : DevicesSeen) (result : Outcome) : Type 0 where
   pub bytes : List ℕ
   pub refusal : ScriptRefusal
-  pub read : IsRefused old.input.left new.input.left bytes refusal
+  pub read : IsRefused mode old.input.left new.input.left bytes refusal
   pub outcome : result ≡ bare 2 refusal.card (cause_number refusal.cause)
   pub written : new.output.held ≡ after old.output.held (script_refused refusal.card (cause_number refusal.cause))
   pub drum : new.drum ≡ old.drum
+  pub link : new.link ≡ old.link
 
 -- the words ask for nothing, and so it was written; nothing was read
 pub record WordsAreRefused (words : List (List ℕ)) (old new : DevicesSeen) (result : Outcome) : Type 0 where
@@ -67,9 +88,9 @@ pub data IsTextOf (words : List (List ℕ)) (old new : DevicesSeen) (run : Recor
   OfWords : mode_of words ≡ None → new.input ≡ old.input → run ≡ empty_record → text ≡ words_refused
       → IsTextOf words old new run text
   OfRefusal : (mode : Mode) → mode_of words ≡ Some mode → reads_script mode ≡ true → (bytes : List ℕ) (refusal : ScriptRefusal)
-      → IsRefused old.input.left new.input.left bytes refusal → new.drum ≡ old.drum → run ≡ empty_record
+      → IsRefused mode old.input.left new.input.left bytes refusal → new.drum ≡ old.drum → run ≡ empty_record
       → text ≡ script_refused refusal.card (cause_number refusal.cause) → IsTextOf words old new run text
-  OfRun : (mode : Mode) → mode_of words ≡ Some mode → (script : Script) → Comes mode old.input.left new.input.left script
+  OfRun : (mode : Mode) → mode_of words ≡ Some mode → (script : Script) → Comes mode old new script
       → (old.drum.tells ≡ true → run ≡ record_of script) → IsCounted [] run.entries old.drum.calls new.drum.calls
       → text ≡ text_for mode script run → IsTextOf words old new run text
   OfCards : mode_of words ≡ Some Asm → run ≡ empty_record → IsTextOfCards old.input.left new.input.left text
@@ -92,7 +113,7 @@ pub record IsSilent (status : ℕ) (old new : DevicesSeen) (result : Outcome) : 
 -- the refusals, each with its text
 pub record IsRefusal (words : List (List ℕ)) (old new : DevicesSeen) (result : Outcome) : Type 0 where
   pub of_words : result.status ≡ 1 → WordsAreRefused words old new result
-  pub of_script : (mode : Mode) → mode_of words ≡ Some mode → reads_script mode ≡ true → result.status ≡ 2 → ScriptIsRefused old new result
+  pub of_script : (mode : Mode) → mode_of words ≡ Some mode → reads_script mode ≡ true → result.status ≡ 2 → ScriptIsRefused mode old new result
   pub of_input : mode_of words ≡ Some Asm → result.status ≡ 2 → InputIsTooLong old new result
   pub of_cards : result.status ≡ 9 → CardsAreRefused old new result
 
@@ -101,19 +122,31 @@ pub record HasCause (old new : DevicesSeen) (result : Outcome) : Type 0 where
   pub reading : result.status ≡ 3 → Rose old.input.faults new.input.faults
   pub writing : result.status ≡ 4 → Rose old.output.faults new.output.faults
   pub drum : result.status ≡ 5 → Rose old.drum.faults new.drum.faults
+  pub link : result.status ≡ 7 → Rose old.link.faults new.link.faults
 
--- where the words ask for no run of a script, the drum is as it was: none of its calls was made
+-- whether the words ask for the run of a script, and for live consoles
 abbrev pub asks_run : Option Mode → Bool
 asks_run None = false
 asks_run (Some mode) = runs_script mode
 
-abbrev pub LeavesDrum : List (List ℕ) → DevicesSeen → DevicesSeen → Type 0
-LeavesDrum words old new = asks_run (mode_of words) ≡ false → new.drum ≡ old.drum
+abbrev pub asks_link : Option Mode → Bool
+asks_link None = false
+asks_link (Some mode) = serves mode
+
+-- the drum and the link are as they were, none of their calls was made, where the words don't ask for them
+pub record LeavesUnasked (words : List (List ℕ)) (old new : DevicesSeen) : Type 0 where
+  pub drum : asks_run (mode_of words) ≡ false → new.drum ≡ old.drum
+  pub link : asks_link (mode_of words) ≡ false → new.link ≡ old.link
 
 -- which statuses there can be where the bytes spell a script, or are refused
 abbrev pub statuses_for : Result Script ScriptRefusal → List ℕ
 statuses_for (Err refusal) = 2 ∷ 3 ∷ 4 ∷ 8 ∷ []
 statuses_for (Ok script) = 0 ∷ 3 ∷ 4 ∷ 5 ∷ 8 ∷ []
+
+-- the same for a base script
+abbrev pub statuses_live : Result Script ScriptRefusal → List ℕ
+statuses_live (Err refusal) = 2 ∷ 3 ∷ 4 ∷ 8 ∷ []
+statuses_live (Ok base) = 0 ∷ 3 ∷ 4 ∷ 5 ∷ 7 ∷ 8 ∷ []
 
 -- which statuses there can be, for what the words ask and all bytes that are left
 abbrev pub statuses_of : Option Mode → List ℕ → List ℕ
@@ -122,6 +155,7 @@ statuses_of (Some Replay) bytes = statuses_for (script_of bytes)
 statuses_of (Some Dump) bytes = statuses_for (script_of bytes)
 statuses_of (Some (Load n)) bytes = 0 ∷ 4 ∷ 5 ∷ 8 ∷ []
 statuses_of (Some Asm) bytes = statuses_for_cards bytes
+statuses_of (Some (Serve port turns)) bytes = statuses_live (base_of bytes)
 
 -- the same for what the words ask, whatever the bytes
 abbrev pub statuses_asked : Option Mode → List ℕ
@@ -130,6 +164,7 @@ statuses_asked (Some Replay) = 0 ∷ 2 ∷ 3 ∷ 4 ∷ 5 ∷ 8 ∷ []
 statuses_asked (Some Dump) = 0 ∷ 2 ∷ 3 ∷ 4 ∷ 5 ∷ 8 ∷ []
 statuses_asked (Some (Load n)) = 0 ∷ 4 ∷ 5 ∷ 8 ∷ []
 statuses_asked (Some Asm) = 0 ∷ 2 ∷ 3 ∷ 4 ∷ 8 ∷ 9 ∷ []
+statuses_asked (Some (Serve port turns)) = 0 ∷ 2 ∷ 3 ∷ 4 ∷ 5 ∷ 7 ∷ 8 ∷ []
 
 -- no other status comes than those that the words allow and, where the bytes are told, these
 pub record IsAllowed (words : List (List ℕ)) (old : DevicesSeen) (result : Outcome) : Type 0 where

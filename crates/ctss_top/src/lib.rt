@@ -1,8 +1,9 @@
-//! The top call: a script's bytes come in and its report goes out, a made script is run, or cards come in and their deck
-//! goes out.
+//! The top call: a script's bytes come in and its report goes out, a made script is run, cards come in and their deck goes
+//! out, or people are served at live consoles.
 #![tactic(auto)]
 
 mod asm;
+mod live;
 mod outcome;
 mod record;
 mod run;

@@ -12,6 +12,7 @@ use std::alloc::Global;
 /// - 3: the source failed
 /// - 4: the sink failed
 /// - 5: the drum failed
+/// - 7: the listener failed
 /// - 8: memory ran out
 /// - 9: the cards are at fault
 ///

@@ -1,5 +1,5 @@
 //! The record of a script, over a drum.
-ghost use Rattle.std.specs.Prelude.{◌≡◌, ◌≤◌, ℕ, [], length, map, true, is_some, None, replicate, IfOk, ⊤};
+ghost use Rattle.std.specs.Prelude.{◌≡◌, ◌≤◌, ℕ, [], length, true, is_some, None, replicate, IfOk, ⊤};
 ghost use Rattle.faults.specs.Faults.{Rose};
 ghost use Rattle.core_bank.specs.Bank.{AreWords};
 ghost use Rattle.drum_slots.specs.Kept.{Serves};
@@ -14,9 +14,10 @@ ghost use Rattle.supervisor.specs.Counts.{IsCounted};
 ghost use Rattle.ctss_top.specs.Played.{IsPlayed, Counts, Faulted, HasCores, Reaches, IsPart, Stops};
 
 use core_bank::Bank;
-use ctss_types::{Account, NoMemory, Record, RunFault, Script};
+use ctss_types::{NoMemory, Record, RunFault, Script};
 use drum_slots::Slots;
 use image_map::no_sizes;
+use live_run::quotas_of;
 use medium::Medium;
 use std::alloc::Global;
 use supervisor::Supervisor;
@@ -29,17 +30,6 @@ pub enum Played {
     Done(Record),
     /// The drum failed. The record has no files.
     Stopped(Record),
-}
-
-/// How many blocks each account may have.
-fn quotas_of(alloc: Global, accounts: &[Account]) -> Result<Vec<u8>, NoMemory>
-    ensures { IfOk result (λ q. q.items ≡ map (λ a. a.blocks) accounts.now) }
-{
-    let mut quotas = Vec::new(alloc);
-    for account in accounts {
-        quotas.push(account.blocks)?;
-    }
-    Ok(quotas)
 }
 
 /// All events of a script are given to its supervisor.

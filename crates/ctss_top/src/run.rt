@@ -8,19 +8,22 @@ ghost use Rattle.text_model.specs.Made.{made_script};
 ghost use Rattle.text_model.specs.Reading.{script_of, IsInRange};
 ghost use Rattle.drum_slots.specs.Kept.{Serves};
 ghost use Rattle.supervisor.specs.Counts.{IsCounted};
+ghost use Rattle.console_link.specs.Links.{LinkSeen};
 ghost use Rattle.ctss_top.specs.Outcomes.{bare, IsOneOf};
 ghost use Rattle.ctss_top.specs.Played.{IsStopped};
-ghost use Rattle.ctss_top.specs.Modes.{ModeAsked, runs_script, reads_script, text_for};
+ghost use Rattle.ctss_top.specs.Modes.{ModeAsked, runs_script, replays, text_for};
 ghost use Rattle.ctss_top.specs.Asm.{DeckIsWritten};
 ghost use Rattle.ctss_top.specs.Devices.{InputSeen, output_seen, drum_seen, devices, seen};
-ghost use Rattle.ctss_top.specs.Top.{IsRun, RunIsStopped, ScriptIsRefused, IsRefusal, HasCause, LeavesDrum, IsCutOff};
+ghost use Rattle.ctss_top.specs.Top.{IsRun, RunIsStopped, ScriptIsRefused, IsRefusal, HasCause, LeavesUnasked, IsCutOff};
 ghost use Rattle.ctss_top.specs.Top.{IsSilent, IsAllowed, statuses_for};
 
 use crate::asm::asm;
+use crate::live::{live_text, serve_consoles};
 use crate::outcome::Outcome;
 use crate::record::{Played, record_script};
 use crate::write::{refuse_script, refuse_words, write_out};
 use command_line::ArgList;
+use console_link::Link;
 use ctss_io::{ReadEnd, Sink, Source, read_bytes};
 use ctss_types::{Bytes, NoMemory, Record, Script};
 use made_script::make_script;
@@ -39,12 +42,13 @@ fn text_for(alloc: Global, mode: Mode, script: &Script, run: &Record) -> Result<
         Mode::Replay => report(alloc, script, run, false),
         Mode::Dump => report(alloc, script, run, true),
         Mode::Load(n) => summary(alloc, n, script, run),
+        Mode::Serve { .. } => live_text(alloc, script, run),
         Mode::Asm => unreachable!(),
     }
 }
 
 /// The text of a run is written.
-fn write_run<K: Sink>(
+pub(crate) fn write_run<K: Sink>(
     alloc: Global,
     mode: Mode,
     script: &Script,
@@ -124,24 +128,26 @@ fn replay<S: Source, K: Sink, D: Medium>(
     sink: &mut K,
     drum: &mut D,
 ) -> Outcome
-    requires mode { reads_script mode ≡ true }
+    requires mode { replays mode ≡ true }
     requires serves { Serves (D.rows drum.old) (D.record_count drum.old) (D.words_each drum.old) 3840 }
     ensures status { IsOneOf result.status (0 ∷ 2 ∷ 3 ∷ 4 ∷ 5 ∷ 8 ∷ []) }
-    ensures done { result.status ≡ 0 → IsRun mode (seen S.Source K.Sink D.Medium script.old sink.old drum.old)
-        (seen S.Source K.Sink D.Medium script.new sink.new drum.new) result }
-    ensures refused { result.status ≡ 2 → ScriptIsRefused (seen S.Source K.Sink D.Medium script.old sink.old drum.old)
-        (seen S.Source K.Sink D.Medium script.new sink.new drum.new) result }
-    ensures cause { HasCause (seen S.Source K.Sink D.Medium script.old sink.old drum.old)
-        (seen S.Source K.Sink D.Medium script.new sink.new drum.new) result }
-    ensures stopped { (words : List (List ℕ)) → mode_of words ≡ Some mode → result.status ≡ 5
-        → RunIsStopped words (seen S.Source K.Sink D.Medium script.old sink.old drum.old)
-        (seen S.Source K.Sink D.Medium script.new sink.new drum.new) result }
-    ensures part { (words : List (List ℕ)) → mode_of words ≡ Some mode → result.status ≡ 4
-        → IsCutOff words (seen S.Source K.Sink D.Medium script.old sink.old drum.old)
-        (seen S.Source K.Sink D.Medium script.new sink.new drum.new) result }
-    ensures silent { IsOneOf result.status (3 ∷ 8 ∷ []) → IsSilent result.status
-        (seen S.Source K.Sink D.Medium script.old sink.old drum.old)
-        (seen S.Source K.Sink D.Medium script.new sink.new drum.new) result }
+    ensures done { (link : LinkSeen) → result.status ≡ 0
+        → IsRun mode (seen S.Source K.Sink D.Medium script.old sink.old drum.old link)
+        (seen S.Source K.Sink D.Medium script.new sink.new drum.new link) result }
+    ensures refused { (link : LinkSeen) → result.status ≡ 2
+        → ScriptIsRefused mode (seen S.Source K.Sink D.Medium script.old sink.old drum.old link)
+        (seen S.Source K.Sink D.Medium script.new sink.new drum.new link) result }
+    ensures cause { (link : LinkSeen) → HasCause (seen S.Source K.Sink D.Medium script.old sink.old drum.old link)
+        (seen S.Source K.Sink D.Medium script.new sink.new drum.new link) result }
+    ensures stopped { (words : List (List ℕ)) (link : LinkSeen) → mode_of words ≡ Some mode → result.status ≡ 5
+        → RunIsStopped words (seen S.Source K.Sink D.Medium script.old sink.old drum.old link)
+        (seen S.Source K.Sink D.Medium script.new sink.new drum.new link) result }
+    ensures part { (words : List (List ℕ)) (link : LinkSeen) → mode_of words ≡ Some mode → result.status ≡ 4
+        → IsCutOff words (seen S.Source K.Sink D.Medium script.old sink.old drum.old link)
+        (seen S.Source K.Sink D.Medium script.new sink.new drum.new link) result }
+    ensures silent { (link : LinkSeen) → IsOneOf result.status (3 ∷ 8 ∷ []) → IsSilent result.status
+        (seen S.Source K.Sink D.Medium script.old sink.old drum.old link)
+        (seen S.Source K.Sink D.Medium script.new sink.new drum.new link) result }
     ensures told { WhereTold (S.left script.old) (λ bytes. IsOneOf result.status (statuses_for (script_of bytes))) }
 {
     let bytes = match read_bytes(alloc, script) {
@@ -163,21 +169,21 @@ fn replay<S: Source, K: Sink, D: Medium>(
 fn load<K: Sink, D: Medium>(alloc: Global, n: u32, sink: &mut K, drum: &mut D) -> Outcome
     requires serves { Serves (D.rows drum.old) (D.record_count drum.old) (D.words_each drum.old) 3840 }
     ensures status { IsOneOf result.status (0 ∷ 4 ∷ 5 ∷ 8 ∷ []) }
-    ensures done { (input : InputSeen) → result.status ≡ 0
-        → IsRun (Mode.Load n) (devices input (output_seen K.Sink sink.old) (drum_seen D.Medium drum.old))
-        (devices input (output_seen K.Sink sink.new) (drum_seen D.Medium drum.new)) result }
-    ensures cause { (input : InputSeen)
-        → HasCause (devices input (output_seen K.Sink sink.old) (drum_seen D.Medium drum.old))
-        (devices input (output_seen K.Sink sink.new) (drum_seen D.Medium drum.new)) result }
-    ensures stopped { (words : List (List ℕ)) (input : InputSeen) → mode_of words ≡ Some (Mode.Load n)
-        → result.status ≡ 5 → RunIsStopped words (devices input (output_seen K.Sink sink.old) (drum_seen D.Medium drum.old))
-        (devices input (output_seen K.Sink sink.new) (drum_seen D.Medium drum.new)) result }
-    ensures part { (words : List (List ℕ)) (input : InputSeen) → mode_of words ≡ Some (Mode.Load n)
-        → result.status ≡ 4 → IsCutOff words (devices input (output_seen K.Sink sink.old) (drum_seen D.Medium drum.old))
-        (devices input (output_seen K.Sink sink.new) (drum_seen D.Medium drum.new)) result }
-    ensures silent { (input : InputSeen) → result.status ≡ 8
-        → IsSilent 8 (devices input (output_seen K.Sink sink.old) (drum_seen D.Medium drum.old))
-        (devices input (output_seen K.Sink sink.new) (drum_seen D.Medium drum.new)) result }
+    ensures done { (input : InputSeen) (link : LinkSeen) → result.status ≡ 0
+        → IsRun (Mode.Load n) (devices input (output_seen K.Sink sink.old) (drum_seen D.Medium drum.old) link)
+        (devices input (output_seen K.Sink sink.new) (drum_seen D.Medium drum.new) link) result }
+    ensures cause { (input : InputSeen) (link : LinkSeen)
+        → HasCause (devices input (output_seen K.Sink sink.old) (drum_seen D.Medium drum.old) link)
+        (devices input (output_seen K.Sink sink.new) (drum_seen D.Medium drum.new) link) result }
+    ensures stopped { (words : List (List ℕ)) (input : InputSeen) (link : LinkSeen) → mode_of words ≡ Some (Mode.Load n)
+        → result.status ≡ 5 → RunIsStopped words (devices input (output_seen K.Sink sink.old) (drum_seen D.Medium drum.old) link)
+        (devices input (output_seen K.Sink sink.new) (drum_seen D.Medium drum.new) link) result }
+    ensures part { (words : List (List ℕ)) (input : InputSeen) (link : LinkSeen) → mode_of words ≡ Some (Mode.Load n)
+        → result.status ≡ 4 → IsCutOff words (devices input (output_seen K.Sink sink.old) (drum_seen D.Medium drum.old) link)
+        (devices input (output_seen K.Sink sink.new) (drum_seen D.Medium drum.new) link) result }
+    ensures silent { (input : InputSeen) (link : LinkSeen) → result.status ≡ 8
+        → IsSilent 8 (devices input (output_seen K.Sink sink.old) (drum_seen D.Medium drum.old) link)
+        (devices input (output_seen K.Sink sink.new) (drum_seen D.Medium drum.new) link) result }
 {
     match make_script(alloc, n) {
         Ok(script) => perform(alloc, Mode::Load(n), &script, sink, drum),
@@ -190,48 +196,54 @@ fn load<K: Sink, D: Medium>(alloc: Global, n: u32, sink: &mut K, drum: &mut D) -
 /// - `replay` reads a script from `input`, runs it and writes its report to `output`;
 /// - `dump` does the same, with the words of each file in the report;
 /// - `load N` runs the script that is made of a number and writes a summary;
-/// - `asm` reads cards and writes their deck.
-pub fn run_ctss<S: Source, K: Sink, D: Medium>(
+/// - `asm` reads cards and writes their deck;
+/// - `serve --port P --turns T` reads a script without events, has people connect over `link` for so many turns, and writes the script
+///   with what they did and its report.
+pub fn run_ctss<S: Source, K: Sink, D: Medium, L: Link>(
     alloc: Global,
     words: &ArgList,
     input: &mut S,
     output: &mut K,
     drum: &mut D,
+    link: &mut L,
 ) -> Outcome
     requires drum { Serves (D.rows drum.old) (D.record_count drum.old) (D.words_each drum.old) 3840 }
     ensures headline { (mode : ModeAsked) → mode_of words.now ≡ Some mode → runs_script mode ≡ true
-        → result.status ≡ 0 → IsRun mode (seen S.Source K.Sink D.Medium input.old output.old drum.old)
-        (seen S.Source K.Sink D.Medium input.new output.new drum.new) result }
+        → result.status ≡ 0 → IsRun mode (seen S.Source K.Sink D.Medium input.old output.old drum.old (L.seen link.old))
+        (seen S.Source K.Sink D.Medium input.new output.new drum.new (L.seen link.new)) result }
     ensures deck { mode_of words.now ≡ Some Mode.Asm → result.status ≡ 0
-        → DeckIsWritten (seen S.Source K.Sink D.Medium input.old output.old drum.old)
-        (seen S.Source K.Sink D.Medium input.new output.new drum.new) result }
-    ensures refusals { IsRefusal words.now (seen S.Source K.Sink D.Medium input.old output.old drum.old)
-        (seen S.Source K.Sink D.Medium input.new output.new drum.new) result }
+        → DeckIsWritten (seen S.Source K.Sink D.Medium input.old output.old drum.old (L.seen link.old))
+        (seen S.Source K.Sink D.Medium input.new output.new drum.new (L.seen link.new)) result }
+    ensures refusals { IsRefusal words.now (seen S.Source K.Sink D.Medium input.old output.old drum.old (L.seen link.old))
+        (seen S.Source K.Sink D.Medium input.new output.new drum.new (L.seen link.new)) result }
 
     // The faults: only where the object's count rose.
-    ensures causes { HasCause (seen S.Source K.Sink D.Medium input.old output.old drum.old)
-        (seen S.Source K.Sink D.Medium input.new output.new drum.new) result }
+    ensures causes { HasCause (seen S.Source K.Sink D.Medium input.old output.old drum.old (L.seen link.old))
+        (seen S.Source K.Sink D.Medium input.new output.new drum.new (L.seen link.new)) result }
     ensures cut_off { result.status ≡ 4 → IsCutOff words.now
-        (seen S.Source K.Sink D.Medium input.old output.old drum.old)
-        (seen S.Source K.Sink D.Medium input.new output.new drum.new) result }
+        (seen S.Source K.Sink D.Medium input.old output.old drum.old (L.seen link.old))
+        (seen S.Source K.Sink D.Medium input.new output.new drum.new (L.seen link.new)) result }
 
-    // With a drum that failed nothing is written, and the run is that of whole steps; with a read that failed and where
-    // memory lacked nothing is written.
+    // With a drum that failed nothing is written, and the run is that of whole steps; with a read or a listener that failed
+    // and where memory lacked nothing is written.
     ensures stopped { result.status ≡ 5 → RunIsStopped words.now
-        (seen S.Source K.Sink D.Medium input.old output.old drum.old)
-        (seen S.Source K.Sink D.Medium input.new output.new drum.new) result }
-    ensures silent { IsOneOf result.status (3 ∷ 8 ∷ []) → IsSilent result.status
-        (seen S.Source K.Sink D.Medium input.old output.old drum.old)
-        (seen S.Source K.Sink D.Medium input.new output.new drum.new) result }
-    ensures apart { LeavesDrum words.now (seen S.Source K.Sink D.Medium input.old output.old drum.old)
-        (seen S.Source K.Sink D.Medium input.new output.new drum.new) }
-    ensures allowed { IsAllowed words.now (seen S.Source K.Sink D.Medium input.old output.old drum.old) result }
+        (seen S.Source K.Sink D.Medium input.old output.old drum.old (L.seen link.old))
+        (seen S.Source K.Sink D.Medium input.new output.new drum.new (L.seen link.new)) result }
+    ensures silent { IsOneOf result.status (3 ∷ 7 ∷ 8 ∷ []) → IsSilent result.status
+        (seen S.Source K.Sink D.Medium input.old output.old drum.old (L.seen link.old))
+        (seen S.Source K.Sink D.Medium input.new output.new drum.new (L.seen link.new)) result }
+    ensures apart { LeavesUnasked words.now (seen S.Source K.Sink D.Medium input.old output.old drum.old (L.seen link.old))
+        (seen S.Source K.Sink D.Medium input.new output.new drum.new (L.seen link.new)) }
+    ensures allowed { IsAllowed words.now (seen S.Source K.Sink D.Medium input.old output.old drum.old (L.seen link.old)) result }
 {
     match words.mode() {
         Ok(Some(Mode::Replay)) => replay(alloc, Mode::Replay, input, output, drum),
         Ok(Some(Mode::Dump)) => replay(alloc, Mode::Dump, input, output, drum),
         Ok(Some(Mode::Load(n))) => load(alloc, n, output, drum),
         Ok(Some(Mode::Asm)) => asm(alloc, input, output),
+        Ok(Some(Mode::Serve { port, turns })) => {
+            serve_consoles(alloc, port, turns, input, output, drum, link)
+        }
         Ok(None) => refuse_words(alloc, output),
         Err(_) => Outcome::bare(alloc, 8, 0, 0),
     }

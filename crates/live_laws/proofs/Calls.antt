@@ -8,8 +8,8 @@ use Rattle.live_core.specs.Core.{CoreCall, Took, Went}
 use Rattle.user_cores.specs.Cores.{CoresState}
 use Rattle.supervisor.specs.Seen.{run_with}
 use Rattle.supervisor.specs.Whole.{Whole, run_of}
-use Rattle.live_run.specs.Calls.{Takes, Follows}
-use Rattle.live_laws.specs.Parts.{run_in, calls_of, run_over, CallsAreRuns}
+use Rattle.live_run.specs.Calls.{Takes, Follows, run_over}
+use Rattle.live_laws.specs.Parts.{run_in, calls_of, CallsAreRuns}
 
 -- to give an event changes no user, so it is the same with words and without
 given_joined : (f : ℕ → List ℕ) (e : Timed) (r : Run) → joined f (given e r) ≡ given e (joined f r)
@@ -30,7 +30,7 @@ taken e old new t =
     ∙ given_joined old.cores.memory.words e (run_of old)
 
 -- events, and then other calls
-all_taken : (es : List Timed) (calls : List CoreCall) (old new : Whole) → Follows (map Took es ++ calls) old new
+pub all_taken : (es : List Timed) (calls : List CoreCall) (old new : Whole) → Follows (map Took es ++ calls) old new
     → (mid : Whole) × (run_over mid ≡ given_all es (run_over old)) × (mid.cores.memory.tells ≡ old.cores.memory.tells) × Follows calls mid new
 all_taken [] calls old new h = (old, sym (given_none (run_over old)), refl, h)
 all_taken (e ∷ es) calls old new h =

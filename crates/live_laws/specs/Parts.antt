@@ -5,11 +5,10 @@ use Rattle.ctss_types.specs.declared.script.Script.{Script}
 use Rattle.ctss_types.specs.declared.script.Timed.{Timed}
 use Rattle.time_sharing.specs.Record.{AreLate}
 use Rattle.system_model.specs.Run.{Run, run_to, given_all, ended}
-use Rattle.system_model.specs.Joined.{joined}
 use Rattle.system_model.specs.Record.{start_of, record_of, record_from}
 use Rattle.live_core.specs.Core.{CoreCall, Took, Went}
-use Rattle.supervisor.specs.Whole.{Whole, run_of}
-use Rattle.live_run.specs.Calls.{Follows}
+use Rattle.supervisor.specs.Whole.{Whole}
+use Rattle.live_run.specs.Calls.{Follows, run_over}
 
 -- events that are given, and the limit to which the run then goes
 pub record Part : Type 0 where
@@ -43,10 +42,6 @@ LiveRunsAreReplays =
 abbrev pub calls_of : List Part → List CoreCall
 calls_of [] = []
 calls_of (p ∷ parts) = map Took p.events ++ Went p.limit None ∷ calls_of parts
-
--- the run with its users' words
-abbrev pub run_over : Whole → Run
-run_over s = joined s.cores.memory.words (run_of s)
 
 -- Behind these calls, none of which met a fault, the supervisor's run is the run in these parts; where the drum tells its records.
 abbrev pub CallsAreRuns : Type 0

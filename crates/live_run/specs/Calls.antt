@@ -5,9 +5,10 @@ use Rattle.ctss_types.specs.declared.fault.RunFault.{RunFault}
 use Rattle.ctss_types.specs.declared.script.Timed.{Timed}
 use Rattle.live_core.specs.Core.{CoreSeen, CoreCall, Took, Went}
 use Rattle.plan_model.specs.Loads.{Places}
-use Rattle.system_model.specs.Run.{given}
+use Rattle.system_model.specs.Run.{Run, given}
+use Rattle.system_model.specs.Joined.{joined}
 use Rattle.supervisor.specs.Seen.{run_with}
-use Rattle.supervisor.specs.Whole.{Whole, Agrees, Advances}
+use Rattle.supervisor.specs.Whole.{Whole, Agrees, Advances, run_of}
 
 -- an event was put behind those that are left, and all else stays
 pub record Takes (e : Timed) (old new : Whole) : Type 0 where
@@ -28,6 +29,10 @@ Makes (Went limit fault) old new = Advances limit (result_of fault) old new
 abbrev pub Follows : List CoreCall → Whole → Whole → Type 0
 Follows [] old new = new ≡ old
 Follows (call ∷ calls) old new = (mid : Whole) × Makes call old mid × Follows calls mid new
+
+-- the run with its users' words
+abbrev pub run_over : Whole → Run
+run_over s = joined s.cores.memory.words (run_of s)
 
 -- what is seen of it; there is no disk yet
 abbrev pub seen_of : Whole → CoreSeen

@@ -1,5 +1,6 @@
 ghost use Rattle.drum_slots.specs.Kept.{Serves};
 
+use console_link::MemoryLink;
 use ctss_io::{MemorySink, MemorySource};
 use ctss_top::{ArgList, Outcome, run_ctss};
 use medium::{Medium, MemoryMedium};
@@ -12,6 +13,11 @@ pub(crate) fn words(alloc: Global, word: &str) -> Result<ArgList, Fail> {
     let mut words = ArgList::new(alloc);
     words.add(word)?;
     Ok(words)
+}
+
+/// A link to which nobody connects.
+pub(crate) fn no_link(alloc: Global) -> Result<MemoryLink, Fail> {
+    Ok(MemoryLink::new(alloc, &[], &[], &[], 0, 0)?)
 }
 
 /// Tries what a word makes of a text over this drum: the status, and all that is written.
@@ -28,7 +34,8 @@ pub(crate) fn gives<D: Medium>(
 {
     let mut input = MemorySource::new(alloc, text, 4096, &[])?;
     let mut output = MemorySink::new(alloc, 8000, 4096, &[])?;
-    let outcome = run_ctss(alloc, words, &mut input, &mut output, drum);
+    let mut link = no_link(alloc)?;
+    let outcome = run_ctss(alloc, words, &mut input, &mut output, drum, &mut link);
     assert_eq!(rt; outcome.status, status);
     assert_eq!(rt; output.bytes(), want);
     Ok(outcome)

@@ -1,6 +1,6 @@
 ghost use Rattle.std.specs.Prelude.{◌≤◌};
 
-use crate::play::{gives, replays, words};
+use crate::play::{gives, no_link, replays, words};
 use ctss_io::{MemorySink, MemorySource};
 use ctss_top::run_ctss;
 use medium::MemoryMedium;
@@ -45,7 +45,15 @@ fn in_pieces(rt: &impl Abort, alloc: Global, piece: usize) -> Result<(), Fail>
     let mut script = MemorySource::new(alloc, ONE_USER, piece, &[])?;
     let mut report = MemorySink::new(alloc, 5000, piece, &[])?;
     let mut drum = MemoryMedium::new(alloc, 3840, 256, &[], &[], 0)?;
-    let outcome = run_ctss(alloc, &words, &mut script, &mut report, &mut drum);
+    let mut link = no_link(alloc)?;
+    let outcome = run_ctss(
+        alloc,
+        &words,
+        &mut script,
+        &mut report,
+        &mut drum,
+        &mut link,
+    );
     assert_eq!(rt; outcome.status, 0);
     assert_eq!(rt; report.bytes(), ONE_USER_REPORT);
     Ok(())
@@ -77,7 +85,15 @@ fn faulty(
     let mut script = MemorySource::new(alloc, ONE_USER, 64, reads)?;
     let mut report = MemorySink::new(alloc, 5000, 5, puts)?;
     let mut drum = MemoryMedium::new(alloc, 3840, 256, &[], &[], 0)?;
-    let outcome = run_ctss(alloc, &words, &mut script, &mut report, &mut drum);
+    let mut link = no_link(alloc)?;
+    let outcome = run_ctss(
+        alloc,
+        &words,
+        &mut script,
+        &mut report,
+        &mut drum,
+        &mut link,
+    );
     assert_eq!(rt; outcome.status, status);
     assert_eq!(rt; report.bytes(), want);
     Ok(())

@@ -2,7 +2,7 @@ use Rattle.std.proofs.Common.{List, take_all, ◌∙◌, ap}
 use Rattle.plan_model.specs.Loads.{no_places}
 use Rattle.time_sharing.specs.System.{Timed}
 use Rattle.system_model.specs.Run.{given, given_all}
-use Rattle.ctss_top.proofs.Fits.{fits}
+use Rattle.live_run.proofs.Fits.{fits}
 use Rattle.ctss_top.proofs.Runs.{at_start, all_given, console_of, seated, one_more}
 use Rattle.ctss_top.proofs.record.opened.Goals as goal
 

@@ -7,7 +7,8 @@ use Rattle.system_model.specs.Run.{Run}
 use Rattle.supervisor.specs.Counts.{IsCounted}
 use Rattle.supervisor.specs.Steps.{Ends}
 use Rattle.ctss_top.specs.Played.{Reaches, IsPart, Stops}
-use Rattle.ctss_top.proofs.Playing.{has_cores, quota_most, no_entry}
+use Rattle.live_run.proofs.Starts.{quota_most}
+use Rattle.ctss_top.proofs.Playing.{has_cores, no_entry}
 use Rattle.system_model.specs.Record.{start_of}
 use Rattle.ctss_top.proofs.record.run_script.Goals as goal
 

@@ -1,14 +1,16 @@
-use Rattle.std.proofs.Common.{◌∙◌, ap, rules}
+use Rattle.std.proofs.Common.{◌∙◌, ℕ, List, length, replicate, ap, sym, rules}
 use Rattle.image_map.specs.State.{DrumState}
 use Rattle.image_map.specs.Image.{state}
 use Rattle.user_cores.specs.Memory.{Memory}
 use Rattle.user_cores.specs.Works.{memory_in}
-use Rattle.ctss_top.proofs.Playing.{tied_first, played, counted_from, stops_from}
+use Rattle.live_run.proofs.Starts.{tied_first}
+use Rattle.ctss_top.proofs.Playing.{played, counted_from, stops_from}
 use Rattle.ctss_top.proofs.record.run_to.Goals as goal
 
 pub advance-ended-requires-clause-agrees : goal.advance-ended-requires-clause-agrees
 advance-ended-requires-clause-agrees g c =
-    tied_first c.args.supervisor.now c.args.slots.quotas.items _ c.requires.cores c.first_cores-cores.ensures.sizes c.first_cores-cores.ensures.quotas
+    tied_first c.args.supervisor.now.users _ (c.first_cores-cores.ensures.quotas ∙ c.requires.cores.quotas_are) c.requires.cores.empty
+    (c.first_cores-cores.ensures.sizes ∙ ap (λ (q : List ℕ). replicate (length q) 0) (sym c.first_cores-cores.ensures.quotas))
 
 pub returns-clause-ended : goal.returns-clause-ended
 returns-clause-ended g c = λ told.

@@ -1,0 +1,138 @@
+//! Live consoles: a base script comes in, and the script of what people did goes out with its report.
+ghost use Rattle.std.specs.Prelude.{◌≡◌, ◌≤◌, ◌∷◌, ◌++◌, [], ℕ, List, Some, IfOk};
+ghost use Rattle.faults.specs.Faults.{WhereTold};
+ghost use Rattle.text_model.specs.Canonical.{script_text_of};
+ghost use Rattle.text_model.specs.Report.{report_of};
+ghost use Rattle.text_model.specs.Reading.{IsInRange};
+ghost use Rattle.text_model.specs.Words.{mode_of};
+ghost use Rattle.script_read.specs.Bases.{base_of};
+ghost use Rattle.drum_slots.specs.Kept.{Serves};
+ghost use Rattle.ctss_top.specs.Outcomes.{IsOneOf};
+ghost use Rattle.ctss_top.specs.Modes.{IsSpelled};
+ghost use Rattle.ctss_top.specs.Devices.{InputSeen, output_seen, drum_seen, devices, seen};
+ghost use Rattle.ctss_top.specs.Top.{IsRun, RunIsStopped, ScriptIsRefused, HasCause, IsCutOff, IsSilent, statuses_live};
+
+use crate::outcome::Outcome;
+use crate::run::write_run;
+use crate::write::refuse_script;
+use console_link::Link;
+use ctss_io::{ReadEnd, Sink, Source, read_bytes};
+use ctss_types::{Bytes, NoMemory, Record, Script, Sequence};
+use live_serve::{Served, ServingFault, serve};
+use medium::Medium;
+use report_text::report;
+use script_read::{ScriptFault, read_base, script_text};
+use std::alloc::Global;
+use text_model::Mode;
+
+/// A script's text, and behind it the report of its record.
+pub(crate) fn live_text(alloc: Global, script: &Script, run: &Record) -> Result<Bytes, NoMemory>
+    ensures { IfOk result (λ text. text ≡ script_text_of script.now ++ report_of script.now run.now false) }
+{
+    let mut text = script_text(alloc, script)?.into_vec();
+    let report = report(alloc, script, run, false)?;
+    text.extend_from_slice(report.as_slice())?;
+    Ok(Sequence::from_vec(text))
+}
+
+/// People are served over a base script, and the text of what they did is written.
+fn host<K: Sink, D: Medium, L: Link>(
+    alloc: Global,
+    base: Script,
+    port: u16,
+    turns: u32,
+    sink: &mut K,
+    drum: &mut D,
+    link: &mut L,
+) -> Outcome
+    requires turns { turns ≤ 100000 }
+    requires range { IsInRange base }
+    requires serves { Serves (D.rows drum.old) (D.record_count drum.old) (D.words_each drum.old) 3840 }
+    ensures status { IsOneOf result.status (0 ∷ 4 ∷ 5 ∷ 7 ∷ 8 ∷ []) }
+    ensures done { (was now : InputSeen) → IsSpelled (Mode.Serve port turns) was.left now.left base → result.status ≡ 0
+        → IsRun (Mode.Serve port turns)
+        (devices was (output_seen K.Sink sink.old) (drum_seen D.Medium drum.old) (L.seen link.old))
+        (devices now (output_seen K.Sink sink.new) (drum_seen D.Medium drum.new) (L.seen link.new)) result }
+    ensures part { (words : List (List ℕ)) (was now : InputSeen) → mode_of words ≡ Some (Mode.Serve port turns)
+        → IsSpelled (Mode.Serve port turns) was.left now.left base → result.status ≡ 4 → IsCutOff words
+        (devices was (output_seen K.Sink sink.old) (drum_seen D.Medium drum.old) (L.seen link.old))
+        (devices now (output_seen K.Sink sink.new) (drum_seen D.Medium drum.new) (L.seen link.new)) result }
+    ensures stopped { (words : List (List ℕ)) (was now : InputSeen) → mode_of words ≡ Some (Mode.Serve port turns)
+        → IsSpelled (Mode.Serve port turns) was.left now.left base → result.status ≡ 5 → RunIsStopped words
+        (devices was (output_seen K.Sink sink.old) (drum_seen D.Medium drum.old) (L.seen link.old))
+        (devices now (output_seen K.Sink sink.new) (drum_seen D.Medium drum.new) (L.seen link.new)) result }
+    ensures cause { (input : InputSeen) → HasCause
+        (devices input (output_seen K.Sink sink.old) (drum_seen D.Medium drum.old) (L.seen link.old))
+        (devices input (output_seen K.Sink sink.new) (drum_seen D.Medium drum.new) (L.seen link.new)) result }
+    ensures silent { (was now : InputSeen) → IsOneOf result.status (7 ∷ 8 ∷ []) → IsSilent result.status
+        (devices was (output_seen K.Sink sink.old) (drum_seen D.Medium drum.old) (L.seen link.old))
+        (devices now (output_seen K.Sink sink.new) (drum_seen D.Medium drum.new) (L.seen link.new)) result }
+{
+    match serve(alloc, &base, port, turns, drum, link) {
+        Ok(Served::Done { events, record }) => {
+            let live = Script {
+                params: base.params,
+                accounts: base.accounts,
+                files: base.files,
+                events,
+                end: 1000 * u64::from(turns),
+            };
+            write_run(alloc, Mode::Serve { port, turns }, &live, record, sink)
+        }
+        Ok(Served::Stopped(run)) => Outcome {
+            status: 5,
+            card: 0,
+            cause: 0,
+            run,
+        },
+        Err(ServingFault::Link) => Outcome::bare(alloc, 7, 0, 0),
+        Err(ServingFault::NoMemory) => Outcome::bare(alloc, 8, 0, 0),
+    }
+}
+
+/// A base script is read, people are served over it, and the text of what they did is written.
+pub(crate) fn serve_consoles<S: Source, K: Sink, D: Medium, L: Link>(
+    alloc: Global,
+    port: u16,
+    turns: u32,
+    input: &mut S,
+    sink: &mut K,
+    drum: &mut D,
+    link: &mut L,
+) -> Outcome
+    requires turns { turns ≤ 100000 }
+    requires serves { Serves (D.rows drum.old) (D.record_count drum.old) (D.words_each drum.old) 3840 }
+    ensures status { IsOneOf result.status (0 ∷ 2 ∷ 3 ∷ 4 ∷ 5 ∷ 7 ∷ 8 ∷ []) }
+    ensures done { result.status ≡ 0 → IsRun (Mode.Serve port turns)
+        (seen S.Source K.Sink D.Medium input.old sink.old drum.old (L.seen link.old))
+        (seen S.Source K.Sink D.Medium input.new sink.new drum.new (L.seen link.new)) result }
+    ensures refused { result.status ≡ 2 → ScriptIsRefused (Mode.Serve port turns)
+        (seen S.Source K.Sink D.Medium input.old sink.old drum.old (L.seen link.old))
+        (seen S.Source K.Sink D.Medium input.new sink.new drum.new (L.seen link.new)) result }
+    ensures cause { HasCause (seen S.Source K.Sink D.Medium input.old sink.old drum.old (L.seen link.old))
+        (seen S.Source K.Sink D.Medium input.new sink.new drum.new (L.seen link.new)) result }
+    ensures stopped { (words : List (List ℕ)) → mode_of words ≡ Some (Mode.Serve port turns) → result.status ≡ 5
+        → RunIsStopped words (seen S.Source K.Sink D.Medium input.old sink.old drum.old (L.seen link.old))
+        (seen S.Source K.Sink D.Medium input.new sink.new drum.new (L.seen link.new)) result }
+    ensures part { (words : List (List ℕ)) → mode_of words ≡ Some (Mode.Serve port turns) → result.status ≡ 4
+        → IsCutOff words (seen S.Source K.Sink D.Medium input.old sink.old drum.old (L.seen link.old))
+        (seen S.Source K.Sink D.Medium input.new sink.new drum.new (L.seen link.new)) result }
+    ensures silent { IsOneOf result.status (3 ∷ 7 ∷ 8 ∷ []) → IsSilent result.status
+        (seen S.Source K.Sink D.Medium input.old sink.old drum.old (L.seen link.old))
+        (seen S.Source K.Sink D.Medium input.new sink.new drum.new (L.seen link.new)) result }
+    ensures told { WhereTold (S.left input.old) (λ bytes. IsOneOf result.status (statuses_live (base_of bytes))) }
+{
+    let bytes = match read_bytes(alloc, input) {
+        Ok(bytes) => bytes,
+        Err(ReadEnd::TooLong) => return refuse_script(alloc, sink, 0, 8),
+        Err(ReadEnd::Fault) => return Outcome::bare(alloc, 3, 0, 0),
+        Err(ReadEnd::NoMemory) => return Outcome::bare(alloc, 8, 0, 0),
+    };
+    match read_base(alloc, &bytes) {
+        Ok(base) => host(alloc, base, port, turns, sink, drum, link),
+        Err(ScriptFault::Refused(refusal)) => {
+            refuse_script(alloc, sink, refusal.card, refusal.cause.number())
+        }
+        Err(ScriptFault::NoMemory) => Outcome::bare(alloc, 8, 0, 0),
+    }
+}

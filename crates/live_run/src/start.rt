@@ -1,0 +1,69 @@
+//! The start of a run.
+ghost use Rattle.std.specs.Prelude.{◌≡◌, IfOk, is_some, map};
+ghost use Rattle.drum_slots.specs.Kept.{Serves};
+ghost use Rattle.image_map.specs.Image.{state, seen};
+ghost use Rattle.text_model.specs.Reading.{IsInRange};
+ghost use Rattle.supervisor.specs.Whole.{whole_of};
+ghost use Rattle.live_run.specs.Calls.{IsReady};
+ghost use Rattle.live_run.specs.Starts.{HasFirstCores, Begins};
+
+use crate::run::LiveRun;
+use core_bank::Bank;
+use ctss_types::{Account, NoMemory, Script};
+use drum_slots::Slots;
+use image_map::{Image, no_sizes};
+use medium::Medium;
+use std::alloc::Global;
+use supervisor::Supervisor;
+use user_cores::first_cores;
+
+/// How many blocks each account may have.
+pub fn quotas_of(alloc: Global, accounts: &[Account]) -> Result<Vec<u8>, NoMemory>
+    ensures { IfOk result (λ q. q.items ≡ map (λ a. a.blocks) accounts.now) }
+{
+    let mut quotas = Vec::new(alloc);
+    for account in accounts {
+        quotas.push(account.blocks)?;
+    }
+    Ok(quotas)
+}
+
+/// The cores of a script's accounts over a drum, where no user has a block yet.
+fn cores_of<'a, D: Medium>(
+    alloc: Global,
+    script: &Script,
+    drum: &'a mut D,
+) -> Result<Image<'a, D>, NoMemory>
+    requires range { IsInRange script.now }
+    requires serves { Serves (D.rows drum.old) (D.record_count drum.old) (D.words_each drum.old) 3840 }
+    ensures seen { IfOk result (λ c. (state c).drum ≡ seen D.Medium drum.entry) }
+    ensures works { IfOk result (λ c. ⟦<Image<'a, D> as user_cores::Cores>⟧.Works c) }
+    ensures first { IfOk result (λ c. HasFirstCores script.now.accounts (is_some (D.rows drum.old))
+        (⟦<Image<'a, D> as user_cores::Cores>⟧.state c)) }
+{
+    let accounts = script.accounts.as_slice();
+    let quotas = quotas_of(alloc, accounts)?;
+    let slots = Slots::new(alloc, script.params.drum, &quotas)?;
+    let bank = Bank::new(alloc)?;
+    let sizes = no_sizes(alloc, accounts.len())?;
+    Ok(first_cores(drum, slots, bank, sizes))
+}
+
+/// The run of a script's accounts and files over a drum of at least 3840 records of 256 words, before its first event.
+pub fn begin<'a, D: Medium>(
+    alloc: Global,
+    script: &Script,
+    drum: &'a mut D,
+) -> Result<LiveRun<Image<'a, D>>, NoMemory>
+    requires range { IsInRange script.now }
+    requires serves { Serves (D.rows drum.old) (D.record_count drum.old) (D.words_each drum.old) 3840 }
+    ensures seen { IfOk result (λ r. (state r.cores).drum ≡ seen D.Medium drum.entry) }
+    ensures works { IfOk result (λ r. ⟦<Image<'a, D> as user_cores::Cores>⟧.Works r.cores) }
+    ensures ready { IfOk result (λ r. IsReady (whole_of r.supervisor (⟦<Image<'a, D> as user_cores::Cores>⟧.state r.cores))) }
+    ensures begins { IfOk result (λ r. Begins script.now (is_some (D.rows drum.old))
+        (whole_of r.supervisor (⟦<Image<'a, D> as user_cores::Cores>⟧.state r.cores))) }
+{
+    let supervisor = Supervisor::new(alloc, script)?;
+    let cores = cores_of(alloc, script, drum)?;
+    Ok(LiveRun::new(supervisor, cores))
+}

@@ -1,0 +1,55 @@
+-- claim: what passes over a link from its opening to the closing of all connections, and what the core is given of it.
+use Rattle.std.specs.Prelude.{◌≡◌, ℕ, ◌<◌, Bool, false, List, [], ◌∷◌, ◌++◌, length, map, replicate, Option, Some, None}
+use Rattle.ctss_types.specs.declared.script.Timed.{Timed}
+use Rattle.console_link.specs.Links.{LinkSeen, Done, DidOpen, DidClose}
+use Rattle.console_server.specs.declared.fault.ServeFault.{ServeFault}
+use Rattle.live_core.specs.Core.{CoreCall, Took}
+use Rattle.console_server.specs.Readings.{DidAll}
+use Rattle.console_server.specs.Turns.{Talk, Desk}
+use Rattle.console_server.specs.History.{heard_in, events_in}
+use Rattle.console_server.specs.Server.{ends_with}
+use Rattle.console_server.specs.Conversation.{TurnSeen, AreTurns, calls_of_turns, events_of_turns, desk_behind}
+
+-- 32 consoles, none of which has a connection
+abbrev pub empty_desk : Desk
+empty_desk = record { seats = replicate 32 None; failed = replicate 32 false }
+
+-- the close of each connection that has a console
+abbrev pub close_of : Option Talk → List Done
+close_of None = []
+close_of (Some t) = DidClose t.id ∷ []
+
+abbrev pub closes_of_desk : List (Option Talk) → List Done
+closes_of_desk [] = []
+closes_of_desk (seat ∷ seats) = close_of seat ++ closes_of_desk seats
+
+-- The calls of these turns and of the closing behind them.
+abbrev pub calls_of_talk : List (List ℕ) → List TurnSeen → List Done
+calls_of_talk texts turns = calls_of_turns texts empty_desk turns ++ closes_of_desk (desk_behind texts empty_desk turns).seats
+
+-- The listener was opened, so many turns were done with 32 consoles that had shown nothing, and all connections were closed. The run was given
+-- these events.
+pub record IsTalk (count : ℕ) (events : List Timed) (a b : LinkSeen) : Type 0 where
+  pub turns : List TurnSeen
+  pub many : length turns ≡ count
+  pub lawful : AreTurns (replicate 32 []) empty_desk turns
+  pub link : DidAll (DidOpen false ∷ calls_of_talk (replicate 32 []) turns) a b
+  pub events_are : events ≡ events_in (events_of_turns 0 (replicate 32 []) empty_desk turns)
+
+-- a core behind all its turns, of consoles that had shown these texts
+pub record TalkIsDone {C : Type 0} (goes : C → List CoreCall → C → Type 0) (texts : List (List ℕ)) (count : ℕ) (events : List Timed) (a b : LinkSeen) (old new : C) : Type 0 where
+  pub turns : List TurnSeen
+  pub many : length turns ≡ count
+  pub lawful : AreTurns texts empty_desk turns
+  pub link : DidAll (calls_of_talk texts turns) a b
+  pub core : goes old (heard_in 0 (events_of_turns 0 texts empty_desk turns)) new
+  pub events_are : events ≡ events_in (events_of_turns 0 texts empty_desk turns)
+
+-- a core behind some of its turns and one that failed
+pub record TalkIsCut {C : Type 0} (goes : C → List CoreCall → C → Type 0) (texts : List (List ℕ)) (count : ℕ) (fault : ServeFault) (old new : C) : Type 0 where
+  pub turns : List TurnSeen
+  pub few : length turns < count
+  pub lawful : AreTurns texts empty_desk turns
+  pub events : List Timed
+  pub at_limit : Bool
+  pub core : goes old (heard_in 0 (events_of_turns 0 texts empty_desk turns) ++ (map Took events ++ ends_with (length turns) fault at_limit)) new

@@ -1,0 +1,15 @@
+//! Live consoles over a run of the supervisor: people connect, what they do is given to the run turn by turn, and the run's
+//! record is that of a script with these events.
+//!
+//! The definitions stand in `specs/`: `Talks` (what passes over the link) and `Live` (the record, or what a run leaves that the
+//! drum stopped).
+#![tactic(auto)]
+
+mod ending;
+mod fault;
+mod serve;
+mod talk;
+
+pub use ending::Served;
+pub use fault::ServingFault;
+pub use serve::serve;

@@ -1,21 +1,18 @@
 -- One more turn behind others.
 use Rattle.std.specs.Prelude.{map, length, None}
 use Rattle.std.specs.List.{AllZip}
-use Rattle.std.proofs.Common.{◌≡◌, ℕ, suc, ◌+◌, ◌*◌, ◌<◌, ◌≤◌, List, [], ◌∷◌, ◌++◌, refl, sym, ◌∙◌, ap, subst, arith, length-append}
+use Rattle.std.proofs.Common.{◌≡◌, ℕ, suc, ◌+◌, ◌*◌, List, [], ◌∷◌, ◌++◌, refl, sym, ◌∙◌, ap, subst, arith, length-append}
 use Rattle.std.proofs.lemmas.List.{append_assoc, append-nil}
 use Rattle.ctss_types.specs.declared.script.Timed.{Timed}
 use Rattle.console_link.specs.Links.{LinkSeen, Done}
-use Rattle.console_server.specs.declared.fault.ServeFault.{ServeFault}
-use Rattle.console_server.specs.declared.fault.ServeFault.TheVariants as serve
 use Rattle.live_core.specs.Core.{CoreSeen, CoreCall, Took, Went, Grows}
 use Rattle.console_server.specs.Readings.{DidAll, Nothing}
 use Rattle.console_server.specs.Turns.{Desk, IsTurn, calls_of_turn, events_of_turn, desk_after}
 use Rattle.console_server.specs.Seats.{StandAll}
 use Rattle.console_server.specs.History.{heard_in, events_in}
-use Rattle.console_server.specs.Server.{ServerState, IsDeskOf, TurnIsDone, TurnIsCut, IsCause, ends_with}
-use Rattle.console_server.specs.Conversation.{TurnSeen, AreTurns, calls_of_turns, events_of_turns, desk_behind, texts_behind, TurnsAreDone, TurnsAreCut}
+use Rattle.console_server.specs.Server.{ServerState, IsDeskOf, TurnIsDone}
+use Rattle.console_server.specs.Conversation.{TurnSeen, AreTurns, calls_of_turns, events_of_turns, desk_behind, texts_behind, TurnsAreDone}
 use Rattle.console_server.proofs.Following.{did_both}
-use Rattle.console_server.proofs.CutLaws.{rose_later}
 
 plus_none : (m : ℕ) → m ≡ m + 0
 plus_none m = omega arith
@@ -70,13 +67,6 @@ lawful_end : (texts : List (List ℕ)) (desk : Desk) (turns : List TurnSeen) (t 
 lawful_end texts desk [] t before here grows = (here, (grows, tt))
 lawful_end texts desk (u ∷ turns) t before here grows = (before.0, (before.1.0, lawful_end u.shown (desk_after texts desk u.answers) turns t before.1.1 here grows))
 
--- a count of faults that a later turn raised has risen from the first turn on
-pub cause_later : (fault : ServeFault) (a b c : LinkSeen) (p q r : CoreSeen) → a.faults ≤ b.faults → p.drum_faults ≤ q.drum_faults → p.disk_faults ≤ q.disk_faults → IsCause fault b c q r → IsCause fault a c p r
-cause_later serve.Link a b c p q r listener drum disk rose = rose_later a.faults b.faults c.faults listener rose
-cause_later serve.Drum a b c p q r listener drum disk rose = rose_later p.drum_faults q.drum_faults r.drum_faults drum rose
-cause_later serve.Disk a b c p q r listener drum disk rose = rose_later p.disk_faults q.disk_faults r.disk_faults disk rose
-cause_later serve.NoMemory a b c p q r listener drum disk rose = tt
-
 module _ {C L : Type 0} (goes : C → List CoreCall → C → Type 0) (none : (a : C) → goes a [] a) (on : (a b c : C) (hs gs : List CoreCall) → goes a hs b → goes b gs c → goes a (hs ++ gs) c) (see : C → CoreSeen) (look : L → LinkSeen) where
   pub turns_none : (desk : Desk) (o : ServerState C L) → IsDeskOf o desk → TurnsAreDone goes see look 0 desk o o
   turns_none desk o d = record {
@@ -124,15 +114,3 @@ module _ {C L : Type 0} (goes : C → List CoreCall → C → Type 0) (none : (a
         seats = subst (λ (k : Desk). StandAll q.seats k.seats) (sym (desk_end texts desk s.turns t)) (subst (λ (ts : List (List ℕ)). StandAll q.seats (desk_after ts here d.turn).seats) s.shown d.seats_are);
         failed = subst (λ (k : Desk). q.failed ≡ k.failed) (sym (desk_end texts desk s.turns t)) (subst (λ (ts : List (List ℕ)). q.failed ≡ (desk_after ts here d.turn).failed) s.shown d.failed_are);
       }
-
-  -- the turn behind those that were done failed
-  pub turns_cut : (n count : ℕ) (desk : Desk) (fault : ServeFault) (o p q : ServerState C L) → n < count → TurnsAreDone goes see look n desk o p → TurnIsCut goes n fault p q → TurnsAreCut goes see count desk fault o q
-  turns_cut n count desk fault o p q lt s d = record {
-    turns = s.turns;
-    few = omega (arith, s.many, lt);
-    lawful = s.lawful;
-    events = d.events;
-    at_limit = d.at_limit;
-    core = subst (λ (k : ℕ). goes o.core (heard_in 0 (events_of_turns 0 (see o.core).texts desk s.turns) ++ (map Took d.events ++ ends_with k fault d.at_limit)) q.core) (sym s.many) (on o.core p.core q.core _ _ s.core d.core);
-    noted = d.noted ∙ ap (λ (l : List Timed). l ++ d.events) s.noted;
-  }

@@ -1,8 +1,7 @@
 -- What a turn leaves that was not done to its end.
 use Rattle.std.specs.Prelude.{Bool, map, length, get_or, set, take, drop, replicate, Option, Some, None}
-use Rattle.std.proofs.Common.{◌≡◌, ℕ, zero, suc, ◌+◌, ◌<◌, ◌≤◌, List, [], ◌∷◌, ◌++◌, refl, sym, ◌∙◌, ap, subst, arith}
+use Rattle.std.proofs.Common.{◌≡◌, ℕ, zero, suc, ◌+◌, ◌<◌, List, [], ◌∷◌, ◌++◌, refl, sym, ◌∙◌, ap, subst, arith}
 use Rattle.std.proofs.lemmas.List.{append_assoc, append-nil, take_more}
-use Rattle.faults.specs.Faults.{Rose}
 use Rattle.ctss_types.specs.declared.script.Timed.{Timed}
 use Rattle.console_link.specs.Links.{LinkSeen, Done, Did, DidClose}
 use Rattle.live_core.specs.Core.{CoreCall, Took}
@@ -80,9 +79,6 @@ seat_same (s ∷ now) [] zero lt same = ap (λ (l : List (Option Task)). get_or 
 seat_same (s ∷ now) [] (suc i) lt same = seat_same now [] i (omega arith) (same ∙ sym (drop_none i))
 seat_same (s ∷ now) (t ∷ all) zero lt same = ap (λ (l : List (Option Task)). get_or l 0 None) same
 seat_same (s ∷ now) (t ∷ all) (suc i) lt same = seat_same now all i (omega arith) same
-
-pub rose_later : (old mid new : ℕ) → old ≤ mid → Rose mid new → Rose old new
-rose_later old mid new le rose = omega (arith, le, rose)
 
 -- consoles without a connection
 abbrev no_task : Option Task

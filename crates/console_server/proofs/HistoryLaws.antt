@@ -1,42 +1,116 @@
 -- One more turn behind others.
-use Rattle.std.specs.Prelude.{map, length, Bool, Option, None}
-use Rattle.std.proofs.Common.{◌≡◌, ℕ, suc, ◌+◌, ◌*◌, List, [], ◌∷◌, ◌++◌, sym, ◌∙◌, ap, subst, arith}
+use Rattle.std.specs.Prelude.{map, length, None}
+use Rattle.std.specs.List.{AllZip}
+use Rattle.std.proofs.Common.{◌≡◌, ℕ, suc, ◌+◌, ◌*◌, List, [], ◌∷◌, ◌++◌, refl, sym, ◌∙◌, ap, subst, arith, length-append}
 use Rattle.std.proofs.lemmas.List.{append_assoc, append-nil}
 use Rattle.ctss_types.specs.declared.script.Timed.{Timed}
-use Rattle.console_link.specs.Links.{LinkSeen}
-use Rattle.console_server.specs.declared.tasks.Task.{Task}
-use Rattle.live_core.specs.Core.{CoreSeen, CoreCall, Took, Went}
-use Rattle.console_server.specs.Turns.{Desk, events_of_turn}
-use Rattle.console_server.specs.Done.{IsDone}
+use Rattle.console_link.specs.Links.{LinkSeen, Done}
+use Rattle.live_core.specs.Core.{CoreSeen, CoreCall, Took, Went, Grows}
+use Rattle.console_server.specs.Readings.{DidAll, Nothing}
+use Rattle.console_server.specs.Turns.{Desk, IsTurn, calls_of_turn, events_of_turn, desk_after}
+use Rattle.console_server.specs.Seats.{StandAll}
 use Rattle.console_server.specs.History.{heard_in, events_in}
+use Rattle.console_server.specs.Server.{ServerState, IsDeskOf, TurnIsDone}
+use Rattle.console_server.specs.Conversation.{TurnSeen, AreTurns, calls_of_turns, events_of_turns, desk_behind, texts_behind, TurnsAreDone}
+use Rattle.console_server.proofs.Following.{did_both}
+
+plus_none : (m : ℕ) → m ≡ m + 0
+plus_none m = omega arith
+
+plus_suc : (a b : ℕ) → suc a + b ≡ a + suc b
+plus_suc a b = omega arith
 
 heard_end : (n : ℕ) (given : List (List Timed)) (es : List Timed) → heard_in n (given ++ es ∷ []) ≡ heard_in n given ++ (map Took es ++ Went (1000 * (n + length given + 1)) None ∷ [])
 heard_end n [] es = ap (λ (k : ℕ). map Took es ++ Went (1000 * (k + 1)) None ∷ []) (plus_none n)
-  where
-    plus_none : (m : ℕ) → m ≡ m + 0
-    plus_none m = omega arith
 heard_end n (x ∷ given) es =
     ap (λ (l : List CoreCall). map Took x ++ Went (1000 * (n + 1)) None ∷ l) (heard_end (suc n) given es ∙ ap (λ (k : ℕ). heard_in (suc n) given ++ (map Took es ++ Went (1000 * (k + 1)) None ∷ [])) (plus_suc n (length given)))
     ∙ sym (append_assoc (map Took x) (Went (1000 * (n + 1)) None ∷ heard_in (suc n) given) (map Took es ++ Went (1000 * (n + length (x ∷ given) + 1)) None ∷ []))
-  where
-    plus_suc : (a b : ℕ) → suc a + b ≡ a + suc b
-    plus_suc a b = omega arith
 
 events_end : (given : List (List Timed)) (es : List Timed) → events_in (given ++ es ∷ []) ≡ events_in given ++ es
 events_end [] es = append-nil es
 events_end (x ∷ given) es = ap (λ (l : List Timed). x ++ l) (events_end given es) ∙ sym (append_assoc x (events_in given) es)
 
-module _ {C : Type 0} (goes : C → List CoreCall → C → Type 0) (on : (a b c : C) (hs gs : List CoreCall) → goes a hs b → goes b gs c → goes a (hs ++ gs) c) (see : C → CoreSeen) where
-  -- the core after n turns, and after one more
-  pub turn_more : (n : ℕ) (given : List (List Timed)) (desk : Desk) (a b : LinkSeen) (o p q : C) (x y : List Timed) (seats : List (Option Task)) (failed : List Bool) → length given ≡ n → goes o (heard_in 0 given) p →
-      (d : IsDone goes see n desk a b p q x y seats failed) → goes o (heard_in 0 (given ++ events_of_turn (1000 * n) (see p).texts desk d.turn ∷ [])) q
-  turn_more n given desk a b o p q x y seats failed len before d =
-      let es = events_of_turn (1000 * n) (see p).texts desk d.turn in
-      let number : n ≡ 0 + length given = omega (arith, len) in
-      subst (λ (l : List CoreCall). goes o l q) (sym (heard_end 0 given es ∙ ap (λ (k : ℕ). heard_in 0 given ++ (map Took es ++ Went (1000 * (k + 1)) None ∷ [])) (sym number)))
-      (on o p q _ _ before d.core)
+-- what one turn more adds to the texts, the desk, the calls and the events
+texts_end : (texts : List (List ℕ)) (turns : List TurnSeen) (t : TurnSeen) → texts_behind texts (turns ++ t ∷ []) ≡ t.shown
+texts_end texts [] t = refl
+texts_end texts (u ∷ turns) t = texts_end u.shown turns t
 
-  pub events_more : (n : ℕ) (given : List (List Timed)) (desk : Desk) (a b : LinkSeen) (p q : C) (x y : List Timed) (seats : List (Option Task)) (failed : List Bool) → x ≡ events_in given →
-      (d : IsDone goes see n desk a b p q x y seats failed) → y ≡ events_in (given ++ events_of_turn (1000 * n) (see p).texts desk d.turn ∷ [])
-  events_more n given desk a b p q x y seats failed is d =
-      d.noted ∙ ap (λ (l : List Timed). l ++ events_of_turn (1000 * n) (see p).texts desk d.turn) is ∙ sym (events_end given (events_of_turn (1000 * n) (see p).texts desk d.turn))
+desk_end : (texts : List (List ℕ)) (desk : Desk) (turns : List TurnSeen) (t : TurnSeen) →
+    desk_behind texts desk (turns ++ t ∷ []) ≡ desk_after (texts_behind texts turns) (desk_behind texts desk turns) t.answers
+desk_end texts desk [] t = refl
+desk_end texts desk (u ∷ turns) t = desk_end u.shown (desk_after texts desk u.answers) turns t
+
+calls_end : (texts : List (List ℕ)) (desk : Desk) (turns : List TurnSeen) (t : TurnSeen) →
+    calls_of_turns texts desk (turns ++ t ∷ []) ≡ calls_of_turns texts desk turns ++ calls_of_turn (texts_behind texts turns) (desk_behind texts desk turns) t.answers
+calls_end texts desk [] t = append-nil (calls_of_turn texts desk t.answers)
+calls_end texts desk (u ∷ turns) t =
+    let here = calls_of_turn texts desk u.answers in
+    let after = desk_after texts desk u.answers in
+    ap (λ (l : List Done). here ++ l) (calls_end u.shown after turns t)
+    ∙ sym (append_assoc here (calls_of_turns u.shown after turns) (calls_of_turn (texts_behind u.shown turns) (desk_behind u.shown after turns) t.answers))
+
+turns_end : (n : ℕ) (texts : List (List ℕ)) (desk : Desk) (turns : List TurnSeen) (t : TurnSeen) →
+    events_of_turns n texts desk (turns ++ t ∷ []) ≡ events_of_turns n texts desk turns ++ events_of_turn (1000 * (n + length turns)) (texts_behind texts turns) (desk_behind texts desk turns) t.answers ∷ []
+turns_end n texts desk [] t = ap (λ (k : ℕ). events_of_turn (1000 * k) texts desk t.answers ∷ []) (plus_none n)
+turns_end n texts desk (u ∷ turns) t =
+    let after = desk_after texts desk u.answers in
+    ap (λ (l : List (List Timed)). events_of_turn (1000 * n) texts desk u.answers ∷ l)
+    (turns_end (suc n) u.shown after turns t
+    ∙ ap (λ (k : ℕ). events_of_turns (suc n) u.shown after turns ++ events_of_turn (1000 * k) (texts_behind u.shown turns) (desk_behind u.shown after turns) t.answers ∷ []) (plus_suc n (length turns)))
+
+turns_long : (n : ℕ) (texts : List (List ℕ)) (desk : Desk) (turns : List TurnSeen) → length (events_of_turns n texts desk turns) ≡ length turns
+turns_long n texts desk [] = refl
+turns_long n texts desk (u ∷ turns) = ap suc (turns_long (suc n) u.shown (desk_after texts desk u.answers) turns)
+
+lawful_end : (texts : List (List ℕ)) (desk : Desk) (turns : List TurnSeen) (t : TurnSeen) → AreTurns texts desk turns →
+    IsTurn (texts_behind texts turns) t.shown (desk_behind texts desk turns) t.answers → AllZip Grows (texts_behind texts turns) t.shown → AreTurns texts desk (turns ++ t ∷ [])
+lawful_end texts desk [] t before here grows = (here, (grows, tt))
+lawful_end texts desk (u ∷ turns) t before here grows = (before.0, (before.1.0, lawful_end u.shown (desk_after texts desk u.answers) turns t before.1.1 here grows))
+
+module _ {C L : Type 0} (goes : C → List CoreCall → C → Type 0) (none : (a : C) → goes a [] a) (on : (a b c : C) (hs gs : List CoreCall) → goes a hs b → goes b gs c → goes a (hs ++ gs) c) (see : C → CoreSeen) (look : L → LinkSeen) where
+  pub turns_none : (desk : Desk) (o : ServerState C L) → IsDeskOf o desk → TurnsAreDone goes see look 0 desk o o
+  turns_none desk o d = record {
+    turns = [];
+    many = refl;
+    lawful = tt;
+    link = Nothing (look o.link.now);
+    core = none o.core;
+    noted = sym (append-nil o.events);
+    shown = refl;
+    seats = d.seats;
+    failed = sym d.failed;
+  }
+
+  -- the desk behind the turns that were done is that of the tasks and flags
+  pub desk_is : (n : ℕ) (desk : Desk) (o p : ServerState C L) → (s : TurnsAreDone goes see look n desk o p) → IsDeskOf p (desk_behind (see o.core).texts desk s.turns)
+  desk_is n desk o p s = record { seats = s.seats; failed = sym s.failed }
+
+  pub turns_more : (n : ℕ) (desk : Desk) (o p q : ServerState C L) → (s : TurnsAreDone goes see look n desk o p) → TurnIsDone goes see look n (desk_behind (see o.core).texts desk s.turns) p q →
+      TurnsAreDone goes see look (n + 1) desk o q
+  turns_more n desk o p q s d =
+      let texts = (see o.core).texts in
+      let here = desk_behind texts desk s.turns in
+      let t : TurnSeen = record { answers = d.turn; shown = (see q.core).texts } in
+      let given = events_of_turns 0 texts desk s.turns in
+      let es = events_of_turn (1000 * n) (texts_behind texts s.turns) here d.turn in
+      let number : 0 + length s.turns ≡ n = omega (arith, s.many) in
+      let events : events_of_turns 0 texts desk (s.turns ++ t ∷ []) ≡ given ++ es ∷ [] =
+      turns_end 0 texts desk s.turns t ∙ ap (λ (k : ℕ). given ++ events_of_turn (1000 * k) (texts_behind texts s.turns) here d.turn ∷ []) number in
+      let place : 0 + length given ≡ n = omega (arith, turns_long 0 texts desk s.turns, s.many) in
+      let calls : heard_in 0 (events_of_turns 0 texts desk (s.turns ++ t ∷ [])) ≡ heard_in 0 given ++ (map Took es ++ Went (1000 * (n + 1)) None ∷ []) =
+      ap (heard_in 0) events ∙ heard_end 0 given es ∙ ap (λ (k : ℕ). heard_in 0 given ++ (map Took es ++ Went (1000 * (k + 1)) None ∷ [])) place in
+      let core : goes p.core (map Took es ++ Went (1000 * (n + 1)) None ∷ []) q.core =
+      subst (λ (ts : List (List ℕ)). goes p.core (map Took (events_of_turn (1000 * n) ts here d.turn) ++ Went (1000 * (n + 1)) None ∷ []) q.core) s.shown d.core in
+      let noted : q.events ≡ p.events ++ es = subst (λ (ts : List (List ℕ)). q.events ≡ p.events ++ events_of_turn (1000 * n) ts here d.turn) s.shown d.noted in
+      record {
+        turns = s.turns ++ t ∷ [];
+        many = length-append s.turns (t ∷ []) ∙ ap (λ (k : ℕ). k + 1) s.many;
+        lawful = lawful_end texts desk s.turns t s.lawful (subst (λ (ts : List (List ℕ)). IsTurn ts t.shown here d.turn) s.shown d.lawful) (subst (λ (ts : List (List ℕ)). AllZip Grows ts t.shown) s.shown d.went.texts);
+        link = subst (λ (ds : List Done). DidAll ds (look o.link.now) (look q.link.now)) (sym (calls_end texts desk s.turns t))
+            (did_both _ _ _ _ _ s.link (subst (λ (ts : List (List ℕ)). DidAll (calls_of_turn ts here d.turn) (look p.link.now) (look q.link.now)) s.shown d.link));
+        core = subst (λ (l : List CoreCall). goes o.core l q.core) (sym calls) (on o.core p.core q.core _ _ s.core core);
+        noted = noted ∙ ap (λ (l : List Timed). l ++ es) s.noted ∙ append_assoc o.events (events_in given) es ∙ ap (λ (l : List Timed). o.events ++ l) (sym (ap events_in events ∙ events_end given es));
+        shown = sym (texts_end texts s.turns t);
+        seats = subst (λ (k : Desk). StandAll q.seats k.seats) (sym (desk_end texts desk s.turns t)) (subst (λ (ts : List (List ℕ)). StandAll q.seats (desk_after ts here d.turn).seats) s.shown d.seats_are);
+        failed = subst (λ (k : Desk). q.failed ≡ k.failed) (sym (desk_end texts desk s.turns t)) (subst (λ (ts : List (List ℕ)). q.failed ≡ (desk_after ts here d.turn).failed) s.shown d.failed_are);
+      }

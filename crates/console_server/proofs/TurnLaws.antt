@@ -6,7 +6,7 @@ use Rattle.std.proofs.lemmas.List.{append_assoc, append-nil, map-append, take_al
 use Rattle.ctss_types.specs.declared.script.Timed.{Timed}
 use Rattle.console_link.specs.Links.{LinkSeen, Done, Did, DidWait}
 use Rattle.console_server.specs.declared.tasks.Task.{Task}
-use Rattle.live_core.specs.Core.{CoreSeen, CoreCall, Took, Went}
+use Rattle.live_core.specs.Core.{CoreSeen, CoreCall, Took, Went, WentTo}
 use Rattle.console_server.specs.Given.{IsGiven}
 use Rattle.console_server.specs.Readings.{DidAll, Then}
 use Rattle.console_server.specs.Turns.{Talk, Desk, hangs, dials, seated, calls_accepted, last_accept, all_calls_heard, all_events_heard, all_seats_after, AreHeard, all_calls_told, all_seats_told, AreTold}
@@ -44,10 +44,11 @@ module _ {C : Type 0} (goes : C → List CoreCall → C → Type 0) (none : (a :
       (acc : AreAccepted goes (1000 * number) (see p).texts desk.seats b c q r y z one) →
       (hs : SeatsAreHeard goes (1000 * number) (length (seated (see p).texts desk.seats acc.ids)) (seated (see p).texts desk.seats acc.ids) c d r s z w two) →
       goes s (Went (1000 * (number + 1)) None ∷ []) t →
+      WentTo None (see p) (see t) →
       (ts : SeatsAreTold (see t).texts (length (all_seats_after (seated (see p).texts desk.seats acc.ids) hs.heard)) (all_seats_after (seated (see p).texts desk.seats acc.ids) hs.heard) d e three failed) →
       length failed ≡ length (all_seats_after (seated (see p).texts desk.seats acc.ids) hs.heard) →
       IsDone goes see number desk a e p t x w three failed
-  turn_done number desk a b c d e p q r s t x y z w one two three failed waited hung acc hs went ts long =
+  turn_done number desk a b c d e p q r s t x y z w one two three failed waited hung acc hs last went ts long =
       let tick = 1000 * number in
       let texts = (see p).texts in
       let first = seated texts desk.seats acc.ids in
@@ -75,8 +76,9 @@ module _ {C : Type 0} (goes : C → List CoreCall → C → Type 0) (none : (a :
           told = subst (λ (l : List (Option Talk)). AreTold (see t).texts 0 l ts.told) all_second ts.lawful;
         };
         link = Then (DidWait 10 false) _ a b e waited taken_calls;
-        core = subst (λ (l : List CoreCall). goes p l t) events (on p q t _ _ hung.core (on q r t _ _ acc.core.core (on r s t _ _ heard_events.core went)));
+        core = subst (λ (l : List CoreCall). goes p l t) events (on p q t _ _ hung.core (on q r t _ _ acc.core.core (on r s t _ _ heard_events.core last)));
         noted = heard_events.noted ∙ ap (λ (l : List Timed). l ++ gs) (acc.core.noted ∙ ap (λ (l : List Timed). l ++ fs) hung.noted) ∙ append_assoc (x ++ es) fs gs ∙ append_assoc x es (fs ++ gs);
+        went = went;
         seats_are = subst (λ (l : List (Option Talk)). StandAll three l) (append-nil (all_seats_told second ts.told)) ((λ (l : StandAll three (all_seats_told (take (length second) second) ts.told ++ drop (length second) second)). subst (λ (k : List (Option Talk)). StandAll three (all_seats_told second ts.told ++ k)) (drop-length second) (subst (λ (k : List (Option Talk)). StandAll three (all_seats_told k ts.told ++ drop (length second) second)) all_second l)) ts.stands);
         failed_are = sym (take_all (length second) failed (omega (arith, long))) ∙ ts.flags;
       }
@@ -94,3 +96,6 @@ module _ {C : Type 0} (goes : C → List CoreCall → C → Type 0) (none : (a :
 
   pub accepted_as : (tick : ℕ) (s t : CoreSeen) (desk : List (Option Talk)) (a b : LinkSeen) (p q : C) (x y : List Timed) (now : List (Option Task)) → s ≡ t → AreAccepted goes tick s.texts desk a b p q x y now → AreAccepted goes tick t.texts desk a b p q x y now
   accepted_as tick s t desk a b p q x y now is h = subst (λ (u : CoreSeen). AreAccepted goes tick u.texts desk a b p q x y now) is h
+
+  pub went_as : (s t u : CoreSeen) → s ≡ t → WentTo None s u → WentTo None t u
+  went_as s t u is h = subst (λ (v : CoreSeen). WentTo None v u) is h

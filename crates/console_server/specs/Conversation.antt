@@ -1,11 +1,10 @@
 -- claim: turns one after another: their calls, their events, and the desk behind them, by what the link answered.
-use Rattle.std.specs.Prelude.{◌≡◌, ℕ, suc, ◌+◌, ◌*◌, ◌<◌, Bool, List, [], ◌∷◌, ◌++◌, length, take, map, Option}
+use Rattle.std.specs.Prelude.{◌≡◌, ℕ, suc, ◌*◌, ◌<◌, Bool, List, [], ◌∷◌, ◌++◌, length, map}
 use Rattle.std.specs.List.{AllZip}
 use Rattle.ctss_types.specs.declared.script.Timed.{Timed}
 use Rattle.console_link.specs.Links.{LinkSeen, Done}
 use Rattle.live_core.specs.Core.{CoreSeen, CoreCall, Took, Grows}
 use Rattle.console_server.specs.declared.fault.ServeFault.{ServeFault}
-use Rattle.console_server.specs.declared.tasks.Task.{Task}
 use Rattle.console_server.specs.Readings.{DidAll}
 use Rattle.console_server.specs.Turns.{Desk, TurnAnswers, IsTurn, calls_of_turn, events_of_turn, desk_after}
 use Rattle.console_server.specs.Seats.{StandAll}

@@ -3,7 +3,7 @@ use Rattle.std.specs.Prelude.{◌≡◌, ℕ, ◌+◌, ◌*◌, Bool, List, [], 
 use Rattle.ctss_types.specs.declared.script.Timed.{Timed}
 use Rattle.console_link.specs.Links.{LinkSeen}
 use Rattle.console_server.specs.declared.tasks.Task.{Task}
-use Rattle.live_core.specs.Core.{CoreSeen, CoreCall, Took, Went}
+use Rattle.live_core.specs.Core.{CoreSeen, CoreCall, Took, Went, WentTo}
 use Rattle.console_server.specs.Readings.{DidAll}
 use Rattle.console_server.specs.Turns.{Desk, TurnAnswers, IsTurn, calls_of_turn, events_of_turn, desk_after}
 use Rattle.console_server.specs.Seats.{StandAll}
@@ -15,5 +15,6 @@ pub record IsDone {C : Type 0} (goes : C → List CoreCall → C → Type 0) (se
   pub link : DidAll (calls_of_turn (see core_had).texts desk turn) link_had link_has
   pub core : goes core_had (map Took (events_of_turn (1000 * number) (see core_had).texts desk turn) ++ Went (1000 * (number + 1)) None ∷ []) core_has
   pub noted : has ≡ had ++ events_of_turn (1000 * number) (see core_had).texts desk turn
+  pub went : WentTo None (see core_had) (see core_has)
   pub seats_are : StandAll seats (desk_after (see core_had).texts desk turn).seats
   pub failed_are : failed ≡ (desk_after (see core_had).texts desk turn).failed

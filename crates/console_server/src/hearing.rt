@@ -28,6 +28,7 @@ pub(crate) fn hear<C: LiveCore, L: Link>(
     ensures left { SeatIsOpen (L.seen link.new).is_open seat.new }
     ensures others { (k : ℕ) → IsNotOf seat.old k → (L.seen link.new).is_open k ≡ (L.seen link.old).is_open k }
     ensures keeps { KeepsSeat seat.old seat.new }
+    ensures listener { (L.seen link.new).faults ≡ (L.seen link.old).faults }
     ensures ready { (C.seen book.new.core).is_ended ≡ false }
     ensures same { C.seen book.new.core ≡ C.seen book.old.core }
     ensures sound { C.Sound book.new.core }
@@ -67,6 +68,7 @@ pub(crate) fn hear_all<C: LiveCore, L: Link>(
     ensures ok { (desk : List (Option Talk)) → StandAll seats.old.items desk → OnOk result (SeatsAreHeard C.Goes tick (length desk) desk (L.seen link.old) (L.seen link.new) book.old.core book.new.core book.old.events.items book.new.events.items seats.new.items) }
     ensures err { (desk : List (Option Talk)) → StandAll seats.old.items desk → OnErr result (IsGivenSome C.Goes book.old.core book.new.core book.old.events.items book.new.events.items) }
     ensures seated { AreSeated (L.seen link.new).is_open seats.new.items }
+    ensures listener { (L.seen link.new).faults ≡ (L.seen link.old).faults }
     ensures many { length seats.new.items ≡ length seats.old.items }
     ensures ready { (C.seen book.new.core).is_ended ≡ false }
     ensures same { C.seen book.new.core ≡ C.seen book.old.core }

@@ -1,7 +1,9 @@
 //! A server over a core and a link.
-ghost use Rattle.std.specs.Prelude.{◌≡◌, ◌<◌, false, [], ℕ, length, replicate, None, IfOk, OnOk, IfErr};
+ghost use Rattle.std.specs.Prelude.{◌≡◌, ◌<◌, ◌≤◌, false, [], ℕ, length, replicate, None, IfOk, OnOk, IfErr};
+ghost use Rattle.live_core.specs.Core.{WentTo};
 ghost use Rattle.console_server.specs.Readings.{DidAll};
 ghost use Rattle.console_server.specs.Turns.{Desk};
+ghost use Rattle.console_server.specs.Conversation.{TurnsAreDone, TurnsAreCut};
 ghost use Rattle.console_server.specs.Server.{state, HasTables, IsReady, IsDeskOf, TurnIsDone, TurnIsCut, IsCause, closes};
 
 use crate::book::Book;
@@ -80,6 +82,8 @@ impl<'a, C: LiveCore + Drop, L: Link> Server<'a, C, L> {
         ensures cause { IfErr result (λ fault. IsCause fault
             (L.seen (state self.old).link.now) (L.seen (state self.new).link.now)
             (C.seen (state self.old).core) (C.seen (state self.new).core)) }
+        ensures listener { (L.seen (state self.old).link.now).faults ≤ (L.seen (state self.new).link.now).faults }
+        ensures went { OnOk result (WentTo None (C.seen (state self.old).core) (C.seen (state self.new).core)) }
         ensures tables { HasTables L.seen (state self.new) }
         ensures ready { OnOk result (IsReady C.seen C.Sound (state self.new)) }
         ensures same { (state self.new).link.ghost_name ≡ (state self.old).link.ghost_name }
@@ -91,6 +95,28 @@ impl<'a, C: LiveCore + Drop, L: Link> Server<'a, C, L> {
             &mut self.failed,
             number,
         )
+    }
+
+    /// So many turns, the first of which is number 0. After a fault only `finish` may be called.
+    pub fn turns(&mut self, count: u64) -> Result<(), ServeFault>
+        requires count { count ≤ 100000 }
+        requires tables { HasTables L.seen (state self.old) }
+        requires ready { IsReady C.seen C.Sound (state self.old) }
+        ensures done { (desk : Desk) → IsDeskOf (state self.old) desk
+            → OnOk result (TurnsAreDone C.Goes C.seen L.seen count desk (state self.old) (state self.new)) }
+        ensures cut { (desk : Desk) → IsDeskOf (state self.old) desk
+            → IfErr result (λ fault. TurnsAreCut C.Goes C.seen count desk fault (state self.old) (state self.new)) }
+        ensures cause { IfErr result (λ fault. IsCause fault
+            (L.seen (state self.old).link.now) (L.seen (state self.new).link.now)
+            (C.seen (state self.old).core) (C.seen (state self.new).core)) }
+        ensures tables { HasTables L.seen (state self.new) }
+        ensures ready { OnOk result (IsReady C.seen C.Sound (state self.new)) }
+        ensures same { (state self.new).link.ghost_name ≡ (state self.old).link.ghost_name }
+    {
+        'turns: for number in 0..count {
+            self.turn(number)?;
+        }
+        Ok(())
     }
 
     /// Closes all consoles' connections, and gives back the core, the events that it was given, and the link.

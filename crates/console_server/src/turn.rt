@@ -1,6 +1,7 @@
 //! One turn.
-ghost use Rattle.std.specs.Prelude.{Err, ◌∷◌, ◌≡◌, ◌≤◌, ◌<◌, ◌+◌, ◌*◌, false, ℕ, [], List, length, Option, OnOk, OnErr, IfErr};
+ghost use Rattle.std.specs.Prelude.{Err, ◌∷◌, ◌≡◌, ◌≤◌, ◌<◌, ◌+◌, ◌*◌, false, ℕ, [], List, length, Option, None, OnOk, OnErr, IfErr};
 ghost use Rattle.faults.specs.Faults.{Rose};
+ghost use Rattle.live_core.specs.Core.{WentTo};
 ghost use Rattle.console_server.specs.Given.{IsGiven, IsGivenSome};
 ghost use Rattle.console_server.specs.Turns.{Talk, Desk, hangs};
 ghost use Rattle.console_server.specs.Seats.{AreSeated, StandAll};
@@ -75,6 +76,8 @@ pub(crate) fn do_turn<C: LiveCore, L: Link>(
     ensures done { (desk : Desk) → StandAll seats.old.items desk.seats → desk.failed ≡ failed.old.items → OnOk result (IsDone C.Goes C.seen number desk (L.seen link.old) (L.seen link.new) book.old.core book.new.core book.old.events.items book.new.events.items seats.new.items failed.new.items) }
     ensures cut { (desk : Desk) → StandAll seats.old.items desk.seats → IfErr result (λ fault. IsCut C.Goes number fault book.old.core book.new.core book.old.events.items book.new.events.items) }
     ensures cause { IfErr result (λ fault. IsCause fault (L.seen link.old) (L.seen link.new) (C.seen book.old.core) (C.seen book.new.core)) }
+    ensures listener { (L.seen link.old).faults ≤ (L.seen link.new).faults }
+    ensures went { OnOk result (WentTo None (C.seen book.old.core) (C.seen book.new.core)) }
     ensures ready { OnOk result ((C.seen book.new.core).is_ended ≡ false) }
     ensures sound { OnOk result (C.Sound book.new.core) }
     ensures seated { AreSeated (L.seen link.new).is_open seats.new.items }

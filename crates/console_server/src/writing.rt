@@ -23,6 +23,7 @@ pub(crate) fn send<L: Link>(link: &mut L, id: u32, text: &[u8]) -> Sent
     ensures sent { (rest : List ℕ) → text.now ≡ take 4096 rest → IsSent id rest result.lost result.count (L.seen link.old) (L.seen link.new) }
     ensures within { result.count ≤ length text.now }
     ensures same { (k : ℕ) → (L.seen link.new).is_open k ≡ (L.seen link.old).is_open k }
+    ensures listener { (L.seen link.new).faults ≡ (L.seen link.old).faults }
 {
     let mut count = 0usize;
     'writing: while count < text.len() {
@@ -49,6 +50,7 @@ pub(crate) fn tell<C: LiveCore, L: Link>(
     ensures left { SeatIsOpen (L.seen link.new).is_open seat.new }
     ensures others { (k : ℕ) → IsNotOf seat.old k → (L.seen link.new).is_open k ≡ (L.seen link.old).is_open k }
     ensures keeps { KeepsSeat seat.old seat.new }
+    ensures listener { (L.seen link.new).faults ≡ (L.seen link.old).faults }
 {
     let Some(mut task) = seat.take() else {
         return false;
@@ -77,6 +79,7 @@ pub(crate) fn tell_all<C: LiveCore, L: Link>(
     requires seated { AreSeated (L.seen link.old).is_open seats.old.items }
     ensures told { (desk : List (Option Talk)) → StandAll seats.old.items desk → SeatsAreTold (C.seen core.now).texts (length desk) desk (L.seen link.old) (L.seen link.new) seats.new.items failed.new.items }
     ensures seated { AreSeated (L.seen link.new).is_open seats.new.items }
+    ensures listener { (L.seen link.new).faults ≡ (L.seen link.old).faults }
     ensures many { length seats.new.items ≡ length seats.old.items }
     ensures flags { length failed.new.items ≡ length failed.old.items }
 {

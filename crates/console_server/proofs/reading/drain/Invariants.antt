@@ -9,6 +9,7 @@ invariant-reading g l = record {
   buffer : length l.buffer ≡ 1024;
   here : (g.L.Link.seen l.link).is_open l.id ≡ true;
   same : (k : ℕ) → (g.L.Link.seen l.link).is_open k ≡ (g.L.Link.seen l.fn.link).is_open k;
+  listener : (g.L.Link.seen l.link).faults ≡ (g.L.Link.seen l.fn.link).faults;
   sofar : (piece : List ℕ) → l.fn.wire ≡ half_of piece → ReadSoFar g.C.LiveCore.Goes l.tick l.console l.id piece l.left (g.L.Link.seen l.fn.link) (g.L.Link.seen l.link) l.fn.book.core l.book.core l.fn.book.events.items l.book.events.items l.wire;
   ready : (g.C.LiveCore.seen l.book.core).is_ended ≡ false;
   core : g.C.LiveCore.seen l.book.core ≡ g.C.LiveCore.seen l.fn.book.core;

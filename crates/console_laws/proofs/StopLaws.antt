@@ -8,16 +8,16 @@ use Rattle.console_link.specs.declared.link.LinkGot.{LinkGot}
 use Rattle.console_link.specs.declared.link.LinkGot.TheVariants as got
 use Rattle.console_link.specs.Links.{LinkSeen, Passed, Did, DidRead, Rises, is_failed, not_yet}
 use Rattle.console_server.specs.Readings.{Gave, bytes_of, did_read, DidAll, Nothing, Then, MayStop, IsReading}
-use Rattle.console_server.specs.Stops.{WhyStopped, Full, NotReady, Faulty, IsOver}
+use Rattle.console_laws.specs.Stops.{WhyStopped, Full, NotReady, Faulty, IsOver}
 
-same_number : (n : ℕ) → nat_eq n n ≡ true
+pub same_number : (n : ℕ) → nat_eq n n ≡ true
 same_number n = grind (arith, nat_tests)
 
-rises : (must : Bool) (old new : ℕ) → Rises true must old new → old ≤ new
+pub rises : (must : Bool) (old new : ℕ) → Rises true must old new → old ≤ new
 rises true old new h = h.0
 rises false old new h = h
 
-rose_later : (old mid new : ℕ) → old ≤ mid → Rose mid new → Rose old new
+pub rose_later : (old mid new : ℕ) → old ≤ mid → Rose mid new → Rose old new
 rose_later old mid new le rose = omega (arith, le, rose)
 
 rose_before : (old mid new : ℕ) → Rose old mid → mid ≤ new → Rose old new

@@ -1,0 +1,150 @@
+-- What a turn adds to a console's visits.
+use Rattle.std.specs.Prelude.{Bool, true, false, nat_eq, if◌then◌else◌, map, length, get_or, Option, Some, None}
+use Rattle.std.specs.List.{All, flat_map}
+use Rattle.std.proofs.Common.{◌≡◌, ◌≢◌, ℕ, zero, suc, ◌+◌, ◌-◌, ◌<◌, ◌≤◌, List, [], ◌∷◌, ◌++◌, refl, sym, ◌∙◌, ap, subst, arith}
+use Rattle.std.proofs.lemmas.Bool.Decides.{nat_tests}
+use Rattle.std.proofs.lemmas.List.{append_assoc, append-nil}
+use Rattle.std.proofs.lemmas.List.Elements.{All-append, All-cons, All-nil}
+use Rattle.ctss_types.specs.declared.script.Event.{Event}
+use Rattle.ctss_types.specs.declared.script.Event.TheVariants.{Dial, Hang}
+use Rattle.ctss_types.specs.declared.script.Timed.{Timed}
+use Rattle.console_wire.specs.Items.{items_from, piece_from}
+use Rattle.console_wire.proofs.Cuts.{items_of_both, piece_of_both}
+use Rattle.console_server.specs.Readings.{Gave, bytes_of, timed, all_timed}
+use Rattle.console_server.specs.Turns.{Talk, Desk, TurnAnswers, IsTurn, HeardOf, Told, Wrote, IsToldOf, if_over, end_of, talk_of, events_heard, all_events_heard, seat_after, free_from, put_first, seats_with, dial, dials, seated, seat_told, hangs, seats_to_read, seats_to_write, events_of_turn, desk_after}
+use Rattle.console_server.specs.Visits.{Visit, events_of_visit, events_at}
+use Rattle.console_laws.proofs.Watching.{Watch, hung, ended, ended_if, new_visit, come, all_come, with_bytes, read, read_at, heard_at, watched, none_heard, none_told, said, IsTalkOf, IsNow, OnNow, Watched}
+use Rattle.console_laws.proofs.AtConsole.{at_both, all_here, hang_if, hangs_at, heard_there, seat_heard, seat_sent, lost_at, free_seat, put_here, put_there, dial_here, dial_there}
+
+fm_both : (xs ys : List Visit) → flat_map events_of_visit (xs ++ ys) ≡ flat_map events_of_visit xs ++ flat_map events_of_visit ys
+fm_both [] ys = refl
+fm_both (x ∷ xs) ys = ap (λ (l : List Event). events_of_visit x ++ l) (fm_both xs ys) ∙ sym (append_assoc (events_of_visit x) (flat_map events_of_visit xs) (flat_map events_of_visit ys))
+
+all_one : (P : Visit → Type 0) (v : Visit) → P v → All P (v ∷ [])
+all_one P v h = All-cons P v [] h (All-nil P)
+
+items_none : items_from [] [] ≡ []
+unfolding items_from
+items_none = refl
+
+piece_none : piece_from [] [] ≡ []
+unfolding piece_from
+piece_none = refl
+
+module _ (console : ℕ) (P : Visit → Type 0) (keeps : (v w : Visit) → v.turn ≡ w.turn → v.place ≡ w.place → P v → P w) where
+  -- its end is heard
+  is_ended : (events : List Event) (past : List Visit) (v : Visit) → All (λ (x : Visit). x.hung ≡ true) past → events ≡ flat_map events_of_visit past ++ said (Some v) → All P past → P v → Watched P None false (events ++ Hang ∷ []) (ended past (Some v))
+  is_ended events past v all is places place =
+      record {
+        hung = All-append (λ (x : Visit). x.hung ≡ true) past (hung v ∷ []) all (all_one (λ (x : Visit). x.hung ≡ true) (hung v) refl);
+        heard = ap (λ (l : List Event). l ++ Hang ∷ []) is
+            ∙ append_assoc (flat_map events_of_visit past) (said (Some v)) (Hang ∷ [])
+            ∙ sym (append-nil (flat_map events_of_visit (past ++ hung v ∷ [])) ∙ fm_both past (hung v ∷ []) ∙ ap (λ (l : List Event). flat_map events_of_visit past ++ l) (append-nil (events_of_visit (hung v))));
+        now = tt;
+        places = All-append P past (hung v ∷ []) places (all_one P (hung v) (keeps v (hung v) refl refl place));
+        place = tt;
+      }
+
+  -- the last turn's writes lost it
+  pub hang_step : (seat : Option Talk) (lost : Bool) (events : List Event) (w : Watch) → Watched P seat lost events w → Watched P seat false (events ++ hang_if lost) (ended_if lost w)
+  hang_step seat false events w h = record { hung = h.hung; heard = append-nil events ∙ h.heard; now = h.now; places = h.places; place = h.place }
+  hang_step None true events w h = by_now w.now refl h.now h.heard h.place
+    where
+      by_now : (now : Option Visit) → w.now ≡ now → IsNow None true now → events ≡ flat_map events_of_visit w.past ++ said now → OnNow P now → Watched P None false (events ++ Hang ∷ []) (ended w.past w.now)
+      by_now None is fits heard place = absurd fits
+      by_now (Some v) is fits heard place = subst (λ (o : Option Visit). Watched P None false (events ++ Hang ∷ []) (ended w.past o)) (sym is) (is_ended events w.past v h.hung heard h.places place)
+  hang_step (Some t) true events w h = absurd (by_now w.now h.now)
+    where
+      by_now : (now : Option Visit) → IsNow (Some t) true now → ⊥
+      by_now None fits = fits
+      by_now (Some v) fits = fits
+
+  -- it was read
+  pub read_step : (tick : ℕ) (seat : Option Talk) (reads : List Gave) (over : Bool) (events : List Event) (w : Watch) → Watched P seat false events w →
+      Watched P (seat_after seat reads over) false (events ++ events_at console (events_heard tick console seat reads over)) (read seat reads over w)
+  read_step tick None reads over events w h = record { hung = h.hung; heard = append-nil events ∙ h.heard; now = h.now; places = h.places; place = h.place }
+  read_step tick (Some t) reads over events w h = by_now w.now h.now h.heard h.place
+    where
+      items : List Event
+      items = items_from t.piece (bytes_of reads)
+      at_end : (over' : Bool) → events_at console (events_heard tick console (Some t) reads over') ≡ items ++ if_over over' (Hang ∷ [])
+      at_end true = at_both console (all_timed tick console items) (timed tick console Hang ∷ []) ∙ (λ i. all_here console tick items i ++ all_here console tick (Hang ∷ []) i)
+      at_end false = at_both console (all_timed tick console items) [] ∙ (λ i. all_here console tick items i ++ [])
+      by_now : (now : Option Visit) → IsNow (Some t) false now → events ≡ flat_map events_of_visit w.past ++ said now → OnNow P now →
+          Watched P (seat_after (Some t) reads over) false (events ++ events_at console (events_heard tick console (Some t) reads over)) (ended_if over (record { past = w.past; now = with_bytes (bytes_of reads) now }))
+      by_now None fits heard place = absurd fits
+      by_now (Some v) fits heard place = by_over over
+        where
+          more : Visit
+          more = record v { bytes = v.bytes ++ bytes_of reads }
+          heard_more : events ++ items ≡ flat_map events_of_visit w.past ++ said (Some more)
+          heard_more =
+              ap (λ (l : List Event). l ++ items) heard
+              ∙ append_assoc (flat_map events_of_visit w.past) (said (Some v)) items
+              ∙ ap (λ (l : List Event). flat_map events_of_visit w.past ++ (Dial ∷ l)) (ap (λ (p : List ℕ). items_from [] v.bytes ++ items_from p (bytes_of reads)) fits.piece ∙ sym (items_of_both [] v.bytes (bytes_of reads)))
+          by_over : (o : Bool) → Watched P (seat_after (Some t) reads o) false (events ++ events_at console (events_heard tick console (Some t) reads o)) (ended_if o (record { past = w.past; now = Some more }))
+          by_over true =
+              subst (λ (l : List Event). Watched P None false l (ended w.past (Some more))) (append_assoc events items (Hang ∷ []) ∙ ap (λ (l : List Event). events ++ l) (sym (at_end true)))
+              (is_ended (events ++ items) w.past more h.hung heard_more h.places (keeps v more refl refl place))
+          by_over false =
+              record {
+                hung = h.hung;
+                heard = ap (λ (l : List Event). events ++ l) (at_end false ∙ append-nil items) ∙ heard_more;
+                now = record { hung = fits.hung; id = fits.id; piece = ap (λ (p : List ℕ). piece_from p (bytes_of reads)) fits.piece ∙ sym (piece_of_both [] v.bytes (bytes_of reads)) };
+                places = h.places;
+                place = keeps v more refl refl place;
+              }
+
+  -- its text was sent
+  pub told_step : (text : List ℕ) (seat : Option Talk) (puts : List Wrote) (lost : Bool) (events : List Event) (w : Watch) → IsToldOf text seat puts lost → Watched P seat false events w → Watched P (seat_told seat puts lost) lost events w
+  told_step text None puts lost events w lawful h = subst (λ (l : Bool). Watched P None l events w) (sym lawful.1) h
+  told_step text (Some t) puts lost events w lawful h = record { hung = h.hung; heard = h.heard; now = by_now lost w.now h.now; places = h.places; place = h.place }
+    where
+      by_now : (l : Bool) (now : Option Visit) → IsNow (Some t) false now → IsNow (seat_told (Some t) puts l) l now
+      by_now true None fits = fits
+      by_now true (Some v) fits = fits.hung
+      by_now false None fits = fits
+      by_now false (Some v) fits = record { hung = fits.hung; id = fits.id; piece = fits.piece }
+
+  module _ (one : 1 ≤ console) (turn : ℕ) (texts : List (List ℕ)) (new : (id : ℕ) → P (new_visit console turn texts id)) where
+    at_one : console ≡ 1 + (console - 1)
+    at_one = omega (arith, one)
+
+    -- one new connection
+    come_step : (tick id : ℕ) (seats : List (Option Talk)) (events : List Event) (w : Watch) → Watched P (get_or seats (console - 1) None) false events w →
+        Watched P (get_or (seats_with texts id seats) (console - 1) None) false (events ++ events_at console (dial tick (free_from 1 seats))) (come console turn texts (free_from 1 seats) id w)
+    come_step tick id seats events w h = by_free (free_from 1 seats) refl
+      where
+        seat : Option Talk
+        seat = get_or seats (console - 1) None
+        Goal : Option ℕ → Type 0
+        Goal free = Watched P (get_or (put_first (talk_of texts free id) seats) (console - 1) None) false (events ++ events_at console (dial tick free)) (come console turn texts free id w)
+        still : (t : Talk) → ((c : ℕ) → free_from 1 seats ≡ Some c → c ≢ 1 + (console - 1)) → Watched P (get_or (put_first t seats) (console - 1) None) false (events ++ []) w
+        still t apart =
+            subst (λ (s : Option Talk). Watched P s false (events ++ []) w) (sym (put_there 1 (console - 1) t seats apart))
+            (record { hung = h.hung; heard = append-nil events ∙ h.heard; now = h.now; places = h.places; place = h.place })
+        here : Watched P None false events w → Watched P (Some (talk_of texts (Some console) id)) false (events ++ Dial ∷ []) (record w { now = Some (new_visit console turn texts id) })
+        here k = by_now w.now k.now k.heard
+          where
+            by_now : (now : Option Visit) → IsNow None false now → events ≡ flat_map events_of_visit w.past ++ said now → Watched P (Some (talk_of texts (Some console) id)) false (events ++ Dial ∷ []) (record w { now = Some (new_visit console turn texts id) })
+            by_now None fits heard =
+                record {
+                  hung = h.hung;
+                  heard = ap (λ (l : List Event). l ++ Dial ∷ []) (heard ∙ append-nil (flat_map events_of_visit w.past)) ∙ ap (λ (l : List Event). flat_map events_of_visit w.past ++ (Dial ∷ l)) (sym items_none);
+                  now = record { hung = refl; id = refl; piece = sym piece_none };
+                  places = h.places;
+                  place = new id;
+                }
+            by_now (Some v) fits heard = absurd fits
+        by_free : (free : Option ℕ) → free_from 1 seats ≡ free → Goal free
+        by_free None is = still (talk_of texts None id) (λ c some. absurd (differ c (sym is ∙ some)))
+          where
+            differ : (c : ℕ) → None ≡ Some c → ⊥
+            differ c e = cc
+        by_free (Some c) is = by_test (nat_eq c console) refl
+          where
+            by_test : (t : Bool) → nat_eq c console ≡ t → Goal (Some c)
+            by_test true e =
+                let same : c ≡ console = same_of c console e in
+                subst (λ (n : ℕ). Goal (Some n)) (sym same) ?
+            by_test false e = ?

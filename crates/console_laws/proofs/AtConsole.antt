@@ -8,7 +8,7 @@ use Rattle.ctss_types.specs.declared.script.Event.TheVariants.{Dial, Hang}
 use Rattle.ctss_types.specs.declared.script.Timed.{Timed}
 use Rattle.console_wire.specs.Items.{items_from}
 use Rattle.console_server.specs.Readings.{Gave, bytes_of, timed, all_timed}
-use Rattle.console_server.specs.Turns.{Talk, HeardOf, Told, Wrote, if_over, events_heard, all_events_heard, seat_after, all_seats_after, AreHeard, free_from, put_first, dial, seat_told, all_seats_told, AreTold, losses, hangs}
+use Rattle.console_server.specs.Turns.{Talk, HeardOf, Told, Wrote, if_over, events_heard, all_events_heard, seat_after, all_seats_after, AreHeard, free_from, put_first, dial, seat_told, all_seats_told, IsToldOf, AreTold, losses, hangs}
 use Rattle.console_server.specs.Visits.{events_at}
 use Rattle.console_server.proofs.DeskLaws.{false_is}
 use Rattle.console_laws.proofs.Watching.{none_heard, none_told}
@@ -126,6 +126,17 @@ seat_sent texts place i [] (t ∷ ts) are = false_is are
 seat_sent texts place i (s ∷ seats) [] are = false_is are
 seat_sent texts place zero (s ∷ seats) (t ∷ ts) are = refl
 seat_sent texts place (suc i) (s ∷ seats) (t ∷ ts) are = seat_sent texts (suc place) i seats ts are.1
+
+pub told_lawful : (texts : List (List ℕ)) (place i n : ℕ) (seats : List (Option Talk)) (ts : List Told) → n ≡ place + i → AreTold texts place seats ts →
+    IsToldOf (get_or texts n []) (get_or seats i None) (get_or ts i none_told).puts (get_or ts i none_told).lost
+told_lawful texts place i n [] [] is are = (refl, refl)
+told_lawful texts place i n [] (t ∷ ts) is are = false_is are
+told_lawful texts place i n (s ∷ seats) [] is are = false_is are
+told_lawful texts place zero n (s ∷ seats) (t ∷ ts) is are = subst (λ (m : ℕ). IsToldOf (get_or texts m []) s t.puts t.lost) here are.0
+  where
+    here : place ≡ n
+    here = omega (arith, is)
+told_lawful texts place (suc i) n (s ∷ seats) (t ∷ ts) is are = told_lawful texts (suc place) i n seats ts (omega (arith, is)) are.1
 
 pub lost_at : (i : ℕ) (ts : List Told) → get_or (losses ts) i false ≡ (get_or ts i none_told).lost
 lost_at i [] = refl

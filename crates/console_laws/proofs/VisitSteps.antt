@@ -14,11 +14,20 @@ use Rattle.console_server.specs.Readings.{Gave, bytes_of, timed, all_timed}
 use Rattle.console_server.specs.Turns.{Talk, Desk, TurnAnswers, IsTurn, HeardOf, Told, Wrote, IsToldOf, if_over, end_of, talk_of, events_heard, all_events_heard, seat_after, free_from, put_first, seats_with, dial, dials, seated, seat_told, hangs, seats_to_read, seats_to_write, events_of_turn, desk_after}
 use Rattle.console_server.specs.Visits.{Visit, events_of_visit, events_at}
 use Rattle.console_laws.proofs.Watching.{Watch, hung, ended, ended_if, new_visit, come, all_come, with_bytes, read, read_at, heard_at, watched, none_heard, none_told, said, IsTalkOf, IsNow, OnNow, Watched}
-use Rattle.console_laws.proofs.AtConsole.{at_both, all_here, hang_if, hangs_at, heard_there, seat_heard, seat_sent, lost_at, free_seat, put_here, put_there, dial_here, dial_there}
+use Rattle.console_laws.proofs.AtConsole.{at_both, all_here, hang_if, hangs_at, heard_there, seat_heard, seat_sent, told_lawful, lost_at, free_seat, put_here, put_there, dial_here, dial_there}
 
 fm_both : (xs ys : List Visit) → flat_map events_of_visit (xs ++ ys) ≡ flat_map events_of_visit xs ++ flat_map events_of_visit ys
 fm_both [] ys = refl
 fm_both (x ∷ xs) ys = ap (λ (l : List Event). events_of_visit x ++ l) (fm_both xs ys) ∙ sym (append_assoc (events_of_visit x) (flat_map events_of_visit xs) (flat_map events_of_visit ys))
+
+same_of : (c n : ℕ) → nat_eq c n ≡ true → c ≡ n
+same_of c n e = grind (arith, nat_tests)
+
+not_same : (c n : ℕ) → nat_eq c n ≡ false → c ≢ n
+not_same c n e = grind (arith, nat_tests)
+
+some_is : (k c : ℕ) → Some k ≡ Some c → k ≡ c
+some_is k c is = cc
 
 all_one : (P : Visit → Type 0) (v : Visit) → P v → All P (v ∷ [])
 all_one P v h = All-cons P v [] h (All-nil P)
@@ -117,6 +126,8 @@ module _ (console : ℕ) (P : Visit → Type 0) (keeps : (v w : Visit) → v.tur
       where
         seat : Option Talk
         seat = get_or seats (console - 1) None
+        came : Watch → Watch
+        came x = record x { now = Some (new_visit console turn texts id) }
         Goal : Option ℕ → Type 0
         Goal free = Watched P (get_or (put_first (talk_of texts free id) seats) (console - 1) None) false (events ++ events_at console (dial tick free)) (come console turn texts free id w)
         still : (t : Talk) → ((c : ℕ) → free_from 1 seats ≡ Some c → c ≢ 1 + (console - 1)) → Watched P (get_or (put_first t seats) (console - 1) None) false (events ++ []) w
@@ -145,6 +156,67 @@ module _ (console : ℕ) (P : Visit → Type 0) (keeps : (v w : Visit) → v.tur
           where
             by_test : (t : Bool) → nat_eq c console ≡ t → Goal (Some c)
             by_test true e =
-                let same : c ≡ console = same_of c console e in
-                subst (λ (n : ℕ). Goal (Some n)) (sym same) ?
-            by_test false e = ?
+                let same_console : c ≡ console = same_of c console e in
+                let free : get_or seats (console - 1) None ≡ None = free_seat 1 c (console - 1) seats is (same_console ∙ at_one) in
+                let events_are : events_at console (dial tick (Some c)) ≡ Dial ∷ [] = ap (λ (n : ℕ). events_at console (dial tick (Some n))) same_console ∙ dial_here console tick in
+                let seat_is : get_or (put_first (talk_of texts (Some c) id) seats) (console - 1) None ≡ Some (talk_of texts (Some console) id) =
+                put_here 1 c (console - 1) (talk_of texts (Some c) id) seats is (same_console ∙ at_one) ∙ ap (λ (n : ℕ). Some (talk_of texts (Some n) id)) same_console in
+                let watch_is : come console turn texts (Some c) id w ≡ came w = ap (λ (t : Bool). if t then came w else w) e in
+                subst (λ (o : Option Talk). Watched P o false (events ++ events_at console (dial tick (Some c))) (come console turn texts (Some c) id w)) (sym seat_is)
+                (subst (λ (l : List Event). Watched P (Some (talk_of texts (Some console) id)) false (events ++ l) (come console turn texts (Some c) id w)) (sym events_are)
+                (subst (λ (x : Watch). Watched P (Some (talk_of texts (Some console) id)) false (events ++ Dial ∷ []) x) (sym watch_is)
+                (here (subst (λ (o : Option Talk). Watched P o false events w) free h))))
+            by_test false e =
+                let apart : c ≢ console = not_same c console e in
+                let elsewhere : (d : ℕ) → free_from 1 seats ≡ Some d → d ≢ 1 + (console - 1) = λ d some at. apart (some_is c d (sym is ∙ some) ∙ at ∙ sym at_one) in
+                let watch_is : come console turn texts (Some c) id w ≡ w = ap (λ (t : Bool). if t then came w else w) e in
+                subst (λ (l : List Event). Watched P (get_or (put_first (talk_of texts (Some c) id) seats) (console - 1) None) false (events ++ l) (come console turn texts (Some c) id w)) (sym (dial_there console c tick apart))
+                (subst (λ (x : Watch). Watched P (get_or (put_first (talk_of texts (Some c) id) seats) (console - 1) None) false (events ++ []) x) (sym watch_is) (still (talk_of texts (Some c) id) elsewhere))
+
+    -- all new connections of a turn
+    all_come_step : (tick : ℕ) (seats : List (Option Talk)) (ids : List ℕ) (events : List Event) (w : Watch) → Watched P (get_or seats (console - 1) None) false events w →
+        Watched P (get_or (seated texts seats ids) (console - 1) None) false (events ++ events_at console (dials tick texts seats ids)) (all_come console turn texts seats ids w)
+    all_come_step tick seats [] events w h = subst (λ (l : List Event). Watched P (get_or seats (console - 1) None) false l w) (sym (append-nil events)) h
+    all_come_step tick seats (id ∷ ids) events w h =
+        let first = dial tick (free_from 1 seats) in
+        let rest = dials tick texts (seats_with texts id seats) ids in
+        subst (λ (l : List Event). Watched P (get_or (seated texts (seats_with texts id seats) ids) (console - 1) None) false l (all_come console turn texts (seats_with texts id seats) ids (come console turn texts (free_from 1 seats) id w)))
+        (append_assoc events (events_at console first) (events_at console rest) ∙ ap (λ (l : List Event). events ++ l) (sym (at_both console first rest)))
+        (all_come_step tick (seats_with texts id seats) ids (events ++ events_at console first) (come console turn texts (free_from 1 seats) id w) (come_step tick id seats events w h))
+
+    -- a whole turn
+    pub turn_step : (tick : ℕ) (shown : List (List ℕ)) (desk : Desk) (answers : TurnAnswers) (events : List Event) (w : Watch) → IsTurn texts shown desk answers →
+        Watched P (get_or desk.seats (console - 1) None) (get_or desk.failed (console - 1) false) events w →
+        Watched P (get_or (desk_after texts desk answers).seats (console - 1) None) (get_or (desk_after texts desk answers).failed (console - 1) false)
+        (events ++ events_at console (events_of_turn tick texts desk answers)) (watched console turn texts desk answers w)
+    turn_step tick shown desk answers events w lawful h =
+        let i = console - 1 in
+        let lost = get_or desk.failed i false in
+        let first = seats_to_read texts desk answers in
+        let second = seats_to_write texts desk answers in
+        let heard = heard_at console answers in
+        let told = get_or answers.told i none_told in
+        let hung_events = hangs tick 1 desk.failed in
+        let dialled = dials tick texts desk.seats answers.accepts in
+        let said_events = all_events_heard tick 1 first answers.heard in
+        let one_events = events ++ hang_if lost in
+        let two_events = one_events ++ events_at console dialled in
+        let three_events = two_events ++ events_at console (events_heard tick console (get_or first i None) heard.reads heard.over) in
+        let w1 = ended_if lost w in
+        let w2 = all_come console turn texts desk.seats answers.accepts w1 in
+        let w3 = read_at console texts desk answers w2 in
+        let h1 : Watched P (get_or desk.seats i None) false one_events w1 = hang_step (get_or desk.seats i None) lost events w h in
+        let h2 : Watched P (get_or first i None) false two_events w2 = all_come_step tick desk.seats answers.accepts one_events w1 h1 in
+        let h3 : Watched P (seat_after (get_or first i None) heard.reads heard.over) false three_events w3 = read_step tick (get_or first i None) heard.reads heard.over two_events w2 h2 in
+        let h4 : Watched P (get_or second i None) false three_events w3 = subst (λ (o : Option Talk). Watched P o false three_events w3) (sym (seat_heard i first answers.heard lawful.heard)) h3 in
+        let zero_plus : i ≡ 0 + i = omega arith in
+        let h5 : Watched P (seat_told (get_or second i None) told.puts told.lost) told.lost three_events w3 =
+        told_step (get_or shown i []) (get_or second i None) told.puts told.lost three_events w3 (told_lawful shown 0 i i second answers.told zero_plus lawful.told) h4 in
+        let events_are : three_events ≡ events ++ events_at console (events_of_turn tick texts desk answers) =
+        (λ j. ((events ++ sym (hangs_at console 1 i tick desk.failed at_one) j) ++ events_at console dialled) ++ sym (heard_there console 1 i tick first answers.heard at_one lawful.heard) j)
+        ∙ append_assoc (events ++ events_at console hung_events) (events_at console dialled) (events_at console said_events)
+        ∙ append_assoc events (events_at console hung_events) (events_at console dialled ++ events_at console said_events)
+        ∙ ap (λ (l : List Event). events ++ l) (ap (λ (l : List Event). events_at console hung_events ++ l) (sym (at_both console dialled said_events)) ∙ sym (at_both console hung_events (dialled ++ said_events))) in
+        subst (λ (l : List Event). Watched P (get_or (desk_after texts desk answers).seats i None) (get_or (desk_after texts desk answers).failed i false) l w3) events_are
+        (subst (λ (l : Bool). Watched P (get_or (desk_after texts desk answers).seats i None) l three_events w3) (sym (lost_at i answers.told))
+        (subst (λ (o : Option Talk). Watched P o told.lost three_events w3) (sym (seat_sent shown 0 i second answers.told lawful.told)) h5))

@@ -5,3 +5,5 @@ pub mod OwnCounts
 pub mod Watching
 pub mod AtConsole
 pub mod VisitSteps
+pub mod Passing
+pub mod KeptSteps

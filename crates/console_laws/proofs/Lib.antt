@@ -7,3 +7,4 @@ pub mod AtConsole
 pub mod VisitSteps
 pub mod Passing
 pub mod KeptSteps
+pub mod Visiting

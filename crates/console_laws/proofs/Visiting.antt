@@ -1,0 +1,120 @@
+-- The visits of many turns.
+use Rattle.std.specs.Prelude.{Bool, true, false, ◌^◌, replicate, map, length, take, drop, get_or, Option, Some, None}
+use Rattle.std.specs.List.{All, AllZip, flat_map}
+use Rattle.std.proofs.Common.{◌≡◌, ℕ, zero, suc, ◌+◌, ◌-◌, ◌*◌, ◌<◌, ◌≤◌, List, [], ◌∷◌, ◌++◌, refl, sym, ◌∙◌, ap, subst, arith, ◌⊎◌, inl, inr}
+use Rattle.std.proofs.lemmas.List.{append_assoc, append-nil, take_at, get_or-replicate, get_or_past}
+use Rattle.std.proofs.lemmas.List.Elements.{All-append, All-cons, All-nil, All-get_or}
+use Rattle.ctss_types.specs.declared.script.Event.{Event}
+use Rattle.ctss_types.specs.declared.script.Event.TheVariants.{Dial, Hang}
+use Rattle.ctss_types.specs.declared.script.Timed.{Timed}
+use Rattle.console_wire.specs.Items.{items_from}
+use Rattle.console_link.specs.Links.{LinkSeen, Passed}
+use Rattle.live_core.specs.Core.{Grows}
+use Rattle.console_server.specs.Readings.{DidAll, Nothing}
+use Rattle.console_server.specs.Turns.{Talk, Desk, TurnAnswers, if_over, end_of, calls_of_turn, events_of_turn, desk_after}
+use Rattle.console_server.specs.History.{events_in}
+use Rattle.console_server.specs.Conversation.{TurnSeen, AreTurns, calls_of_turns, events_of_turns, desk_behind, texts_behind}
+use Rattle.console_server.specs.Visits.{Visit, OneAtATime, events_of_visit, events_at, AreVisits}
+use Rattle.console_laws.specs.VisitLaws.{EventsAreVisits}
+use Rattle.console_laws.proofs.Watching.{Watch, new_visit, watched, all_watched, said, IsNow, OnNow, Watched}
+use Rattle.console_laws.proofs.AtConsole.{at_both}
+use Rattle.console_laws.proofs.VisitSteps.{turn_step}
+use Rattle.console_laws.proofs.Passing.{tells_still, did_split, OnSeat, WasGiven}
+use Rattle.console_laws.proofs.KeptSteps.{Begins, Carried, IsOver, IsOn, Kept, kept_turn}
+
+-- the texts
+
+grows_on : (a b c : List ℕ) → Grows a b → Grows b c → Grows a c
+grows_on a b c one two = (one.0 ++ two.0, two.1 ∙ ap (λ (l : List ℕ). l ++ two.0) one.1 ∙ append_assoc a one.0 two.0)
+
+grows_none : (a : List ℕ) → Grows a a
+grows_none a = ([], sym (append-nil a))
+
+-- each console's text grows
+grows_at : (i : ℕ) (xs ys : List (List ℕ)) → AllZip Grows xs ys → Grows (get_or xs i []) (get_or ys i [])
+grows_at i [] [] h = grows_none []
+grows_at i [] (y ∷ ys) h = absurd h
+grows_at i (x ∷ xs) [] h = absurd h
+grows_at zero (x ∷ xs) (y ∷ ys) h = h.0
+grows_at (suc i) (x ∷ xs) (y ∷ ys) h = grows_at i xs ys h.1
+
+grows_behind : (i : ℕ) (texts : List (List ℕ)) (desk : Desk) (turns : List TurnSeen) → AreTurns texts desk turns → Grows (get_or texts i []) (get_or (texts_behind texts turns) i [])
+grows_behind i texts desk [] h = grows_none (get_or texts i [])
+grows_behind i texts desk (t ∷ turns) h =
+    grows_on (get_or texts i []) (get_or t.shown i []) (get_or (texts_behind t.shown turns) i []) (grows_at i texts t.shown h.1.0) (grows_behind i t.shown (desk_after texts desk t.answers) turns h.1.1)
+
+-- what is left of all turns, and the texts there, one turn on
+
+no_turn : {X : Type 0} (t : TurnSeen) (turns : List TurnSeen) → t ∷ turns ≡ [] → X
+no_turn {X} t turns is = absurd (subst IsCons is tt)
+  where
+    IsCons : List TurnSeen → Type 0
+    IsCons [] = ⊥
+    IsCons (x ∷ xs) = Unit {0}
+
+same_first : (t x : TurnSeen) (turns xs : List TurnSeen) → t ∷ turns ≡ x ∷ xs → t ≡ x
+same_first t x turns xs is = cc
+
+same_rest : (t x : TurnSeen) (turns xs : List TurnSeen) → t ∷ turns ≡ x ∷ xs → turns ≡ xs
+same_rest t x turns xs is = cc
+
+left_next : (n : ℕ) (t : TurnSeen) (turns all : List TurnSeen) → t ∷ turns ≡ drop n all → turns ≡ drop (suc n) all
+left_next zero t turns [] is = no_turn t turns is
+left_next zero t turns (x ∷ all) is = same_rest t x turns all is
+left_next (suc n) t turns [] is = no_turn t turns is
+left_next (suc n) t turns (x ∷ all) is = left_next n t turns all is
+
+texts_next : (n : ℕ) (texts : List (List ℕ)) (t : TurnSeen) (turns all : List TurnSeen) → t ∷ turns ≡ drop n all → t.shown ≡ texts_behind texts (take (suc n) all)
+texts_next zero texts t turns [] is = no_turn t turns is
+texts_next zero texts t turns (x ∷ all) is = ap (λ (s : TurnSeen). s.shown) (same_first t x turns all is)
+texts_next (suc n) texts t turns [] is = no_turn t turns is
+texts_next (suc n) texts t turns (x ∷ all) is = texts_next n x.shown t turns all is
+
+module _ (console : ℕ) (one : 1 ≤ console) (start : List (List ℕ)) (all : List TurnSeen) (short : length (get_or (texts_behind start all) (console - 1) []) < 2 ^ 64) where
+  IsPlace : Visit → Type 0
+  IsPlace v = v.place ≡ end_of (texts_behind start (take v.turn all)) (Some console)
+
+  place_kept : (v w : Visit) → v.turn ≡ w.turn → v.place ≡ w.place → IsPlace v → IsPlace w
+  unfolding IsPlace
+  place_kept v w turn place is = sym place ∙ is ∙ ap (λ (n : ℕ). end_of (texts_behind start (take n all)) (Some console)) turn
+
+  new_place : (n id : ℕ) (texts : List (List ℕ)) → texts ≡ texts_behind start (take n all) → IsPlace (new_visit console n texts id)
+  unfolding IsPlace
+  new_place n id texts is = ap (λ (l : List (List ℕ)). end_of l (Some console)) is
+
+  -- what the core hears at the console
+  heard_turns : (n : ℕ) (texts : List (List ℕ)) (desk : Desk) (turns : List TurnSeen) (events : List Event) (w : Watch) → turns ≡ drop n all → texts ≡ texts_behind start (take n all) → AreTurns texts desk turns →
+      Watched IsPlace (get_or desk.seats (console - 1) None) (get_or desk.failed (console - 1) false) events w →
+      Watched IsPlace (get_or (desk_behind texts desk turns).seats (console - 1) None) (get_or (desk_behind texts desk turns).failed (console - 1) false)
+      (events ++ events_at console (events_in (events_of_turns n texts desk turns))) (all_watched console n texts desk turns w)
+  heard_turns n texts desk [] events w left at lawful h =
+      subst (λ (l : List Event). Watched IsPlace (get_or desk.seats (console - 1) None) (get_or desk.failed (console - 1) false) l w) (sym (append-nil events)) h
+  heard_turns n texts desk (t ∷ turns) events w left at lawful h =
+      let next = desk_after texts desk t.answers in
+      let here = events_of_turn (1000 * n) texts desk t.answers in
+      let rest = events_in (events_of_turns (suc n) t.shown next turns) in
+      let w1 = watched console n texts desk t.answers w in
+      let h1 = turn_step console IsPlace place_kept one n texts (λ id. new_place n id texts at) (1000 * n) t.shown desk t.answers events w lawful.0 h in
+      subst (λ (l : List Event). Watched IsPlace (get_or (desk_behind t.shown next turns).seats (console - 1) None) (get_or (desk_behind t.shown next turns).failed (console - 1) false) l (all_watched console (suc n) t.shown next turns w1))
+      (append_assoc events (events_at console here) (events_at console rest) ∙ ap (λ (l : List Event). events ++ l) (sym (at_both console here rest)))
+      (heard_turns (suc n) t.shown next turns (events ++ events_at console here) w1 (left_next n t turns all left) (texts_next n start t turns all left) lawful.1.1 h1)
+
+  -- what passes over its connections
+  kept_turns : (n : ℕ) (texts : List (List ℕ)) (desk : Desk) (turns : List TurnSeen) (a b : LinkSeen) (events : List Event) (w : Watch) → turns ≡ drop n all → texts ≡ texts_behind start (take n all) → AreTurns texts desk turns →
+      texts_behind texts turns ≡ texts_behind start all → a.tells ≡ true → DidAll (calls_of_turns texts desk turns) a b →
+      Watched IsPlace (get_or desk.seats (console - 1) None) (get_or desk.failed (console - 1) false) events w → Kept console (get_or (texts_behind start all) (console - 1) []) a desk.seats w →
+      Kept console (get_or (texts_behind start all) (console - 1) []) b (desk_behind texts desk turns).seats (all_watched console n texts desk turns w)
+  kept_turns n texts desk [] a b events w left at lawful whole tells (Nothing _) h k = k
+  kept_turns n texts desk (t ∷ turns) a b events w left at lawful whole tells did h k =
+      let next = desk_after texts desk t.answers in
+      let here = events_of_turn (1000 * n) texts desk t.answers in
+      let w1 = watched console n texts desk t.answers w in
+      let h1 = turn_step console IsPlace place_kept one n texts (λ id. new_place n id texts at) (1000 * n) t.shown desk t.answers events w lawful.0 h in
+      let parts = did_split (calls_of_turn texts desk t.answers) (calls_of_turns t.shown next turns) a b did in
+      let i = console - 1 in
+      let last = get_or (texts_behind start all) i [] in
+      let grown : Grows (get_or texts i []) last = subst (λ (l : List (List ℕ)). Grows (get_or texts i []) (get_or l i [])) whole (grows_behind i texts desk (t ∷ turns) lawful) in
+      let grown_next : Grows (get_or t.shown i []) last = subst (λ (l : List (List ℕ)). Grows (get_or t.shown i []) (get_or l i [])) whole (grows_behind i t.shown next turns lawful.1.1) in
+      let k1 = kept_turn console last one n texts grown t.shown desk t.answers a parts.0 w grown_next short tells lawful.0 parts.1 h.now k in
+      kept_turns (suc n) t.shown next turns parts.0 b (events ++ events_at console here) w1 (left_next n t turns all left) (texts_next n start t turns all left) lawful.1.1 whole
+      (tells_still (calls_of_turn texts desk t.answers) a parts.0 tells parts.1) parts.2 h1 k1

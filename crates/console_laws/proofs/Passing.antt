@@ -32,6 +32,10 @@ pub tells_still : (ds : List Done) (a b : LinkSeen) → a.tells ≡ true → Did
 tells_still [] a b tells (Nothing _) = tells
 tells_still (d ∷ ds) a b tells (Then _ _ _ m _ did rest) = tells_still ds m b (did.tells ∙ tells) rest
 
+pub tells_same : (ds : List Done) (a b : LinkSeen) → DidAll ds a b → b.tells ≡ a.tells
+tells_same [] a b (Nothing _) = refl
+tells_same (d ∷ ds) a b (Then _ _ _ m _ did rest) = tells_same ds m b rest ∙ did.tells
+
 pub did_split : (ds es : List Done) (a c : LinkSeen) → DidAll (ds ++ es) a c → (b : LinkSeen) × DidAll ds a b × DidAll es b c
 did_split [] es a c all = (a, Nothing a, all)
 did_split (d ∷ ds) es a c (Then _ _ _ m _ did rest) =

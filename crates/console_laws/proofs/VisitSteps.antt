@@ -16,7 +16,7 @@ use Rattle.console_server.specs.Visits.{Visit, events_of_visit, events_at}
 use Rattle.console_laws.proofs.Watching.{Watch, hung, ended, ended_if, new_visit, come, all_come, with_bytes, read, read_at, heard_at, watched, none_heard, none_told, said, IsTalkOf, IsNow, OnNow, Watched}
 use Rattle.console_laws.proofs.AtConsole.{at_both, all_here, hang_if, hangs_at, heard_there, seat_heard, seat_sent, told_lawful, lost_at, free_seat, put_here, put_there, dial_here, dial_there}
 
-fm_both : (xs ys : List Visit) → flat_map events_of_visit (xs ++ ys) ≡ flat_map events_of_visit xs ++ flat_map events_of_visit ys
+pub fm_both : (xs ys : List Visit) → flat_map events_of_visit (xs ++ ys) ≡ flat_map events_of_visit xs ++ flat_map events_of_visit ys
 fm_both [] ys = refl
 fm_both (x ∷ xs) ys = ap (λ (l : List Event). events_of_visit x ++ l) (fm_both xs ys) ∙ sym (append_assoc (events_of_visit x) (flat_map events_of_visit xs) (flat_map events_of_visit ys))
 

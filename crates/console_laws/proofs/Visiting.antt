@@ -18,8 +18,8 @@ use Rattle.console_server.specs.Visits.{Visit, OneAtATime, events_of_visit, even
 use Rattle.console_laws.specs.VisitLaws.{EventsAreVisits}
 use Rattle.console_laws.proofs.Watching.{Watch, new_visit, watched, all_watched, said, IsNow, OnNow, Watched}
 use Rattle.console_laws.proofs.AtConsole.{at_both}
-use Rattle.console_laws.proofs.VisitSteps.{turn_step}
-use Rattle.console_laws.proofs.Passing.{tells_still, did_split, OnSeat, WasGiven}
+use Rattle.console_laws.proofs.VisitSteps.{fm_both, turn_step}
+use Rattle.console_laws.proofs.Passing.{tells_still, tells_same, did_split, OnSeat, WasGiven}
 use Rattle.console_laws.proofs.KeptSteps.{Begins, Carried, IsOver, IsOn, Kept, kept_turn}
 
 -- the texts
@@ -71,15 +71,13 @@ texts_next (suc n) texts t turns [] is = no_turn t turns is
 texts_next (suc n) texts t turns (x ∷ all) is = texts_next n x.shown t turns all is
 
 module _ (console : ℕ) (one : 1 ≤ console) (start : List (List ℕ)) (all : List TurnSeen) (short : length (get_or (texts_behind start all) (console - 1) []) < 2 ^ 64) where
-  IsPlace : Visit → Type 0
+  abbrev IsPlace : Visit → Type 0
   IsPlace v = v.place ≡ end_of (texts_behind start (take v.turn all)) (Some console)
 
   place_kept : (v w : Visit) → v.turn ≡ w.turn → v.place ≡ w.place → IsPlace v → IsPlace w
-  unfolding IsPlace
   place_kept v w turn place is = sym place ∙ is ∙ ap (λ (n : ℕ). end_of (texts_behind start (take n all)) (Some console)) turn
 
   new_place : (n id : ℕ) (texts : List (List ℕ)) → texts ≡ texts_behind start (take n all) → IsPlace (new_visit console n texts id)
-  unfolding IsPlace
   new_place n id texts is = ap (λ (l : List (List ℕ)). end_of l (Some console)) is
 
   -- what the core hears at the console
@@ -118,3 +116,100 @@ module _ (console : ℕ) (one : 1 ≤ console) (start : List (List ℕ)) (all : 
       let k1 = kept_turn console last one n texts grown t.shown desk t.answers a parts.0 w grown_next short tells lawful.0 parts.1 h.now k in
       kept_turns (suc n) t.shown next turns parts.0 b (events ++ events_at console here) w1 (left_next n t turns all left) (texts_next n start t turns all left) lawful.1.1 whole
       (tells_still (calls_of_turn texts desk t.answers) a parts.0 tells parts.1) parts.2 h1 k1
+
+-- all visits, in order
+
+abbrev as_list : Option Visit → List Visit
+as_list None = []
+as_list (Some v) = v ∷ []
+
+abbrev nothing_watched : Watch
+nothing_watched = record { past = []; now = None }
+
+not_over : (seat : Option Talk) (lost : Bool) (v : Visit) → IsNow seat lost (Some v) → v.hung ≡ false
+not_over None true v h = h
+not_over None false v h = absurd h
+not_over (Some t) true v h = absurd h
+not_over (Some t) false v h = h.hung
+
+said_is : (seat : Option Talk) (lost : Bool) (now : Option Visit) → IsNow seat lost now → said now ≡ flat_map events_of_visit (as_list now)
+said_is seat lost None h = refl
+said_is seat lost (Some v) h =
+    ap (λ (l : List Event). Dial ∷ l) (sym (append-nil (items_from [] v.bytes)) ∙ ap (λ (t : Bool). items_from [] v.bytes ++ if_over t (Hang ∷ [])) (sym (not_over seat lost v h)))
+    ∙ sym (append-nil (events_of_visit v))
+
+in_order : (past : List Visit) (now : Option Visit) → All (λ (v : Visit). v.hung ≡ true) past → OneAtATime (past ++ as_list now)
+in_order [] None h = tt
+in_order [] (Some v) h = tt
+in_order (u ∷ []) None h = tt
+in_order (u ∷ []) (Some v) h = (h 0 u (omega arith), tt)
+in_order (u ∷ v ∷ past) now h = (h 0 u (omega arith), in_order (v ∷ past) now (λ k d lt. h (suc k) d (omega (arith, lt))))
+
+all_visits : (P : Visit → Type 0) (past : List Visit) (now : Option Visit) → All P past → OnNow P now → All P (past ++ as_list now)
+all_visits P past None h k = All-append P past [] h (All-nil P)
+all_visits P past (Some v) h k = All-append P past (v ∷ []) h (All-cons P v [] k (All-nil P))
+
+now_more : (P Q : Visit → Type 0) (o : Option Visit) → ((v : Visit) → P v → Q v) → OnNow P o → OnNow Q o
+now_more P Q None f h = tt
+now_more P Q (Some v) f h = f v h
+
+abbrev no_talk : Option Talk
+no_talk = None
+
+none_at : (n i : ℕ) → get_or (replicate n no_talk) i None ≡ None
+none_at zero i = refl
+none_at (suc n) zero = refl
+none_at (suc n) (suc i) = none_at n i
+
+none_lost : (n i : ℕ) → get_or (replicate n false) i false ≡ false
+none_lost zero i = refl
+none_lost (suc n) zero = refl
+none_lost (suc n) (suc i) = none_lost n i
+
+short_at : (i : ℕ) (texts : List (List ℕ)) → All (λ (text : List ℕ). length text < 2 ^ 64) texts → length (get_or texts i []) < 2 ^ 64
+short_at i [] h = omega arith
+short_at zero (t ∷ texts) h = h 0 t (omega arith)
+short_at (suc i) (t ∷ texts) h = short_at i texts (λ k d lt. h (suc k) d (omega (arith, lt)))
+
+as_taken : (xs whole : List ℕ) → Begins xs whole → xs ≡ take (length xs) whole
+as_taken xs whole h = sym (ap (take (length xs)) h.1 ∙ take_at xs h.0 (length xs) refl)
+
+nothing_heard : (P : Visit → Type 0) → Watched P None false [] nothing_watched
+nothing_heard P = record { hung = All-nil (λ (v : Visit). v.hung ≡ true); heard = refl; now = tt; places = All-nil P; place = tt }
+
+nothing_kept : (console : ℕ) (whole : List ℕ) (s : LinkSeen) (desk : Desk) → desk.seats ≡ replicate 32 None → Kept console whole s desk.seats nothing_watched
+nothing_kept console whole s desk free =
+    record {
+      given = λ j. subst (OnSeat (WasGiven s)) (sym (ap (λ (l : List (Option Talk)). get_or l j None) free ∙ none_at 32 j)) tt;
+      past = All-nil (IsOver console whole s desk.seats);
+      now = tt;
+    }
+
+pub events_are_visits : EventsAreVisits
+events_are_visits console texts desk turns a b one free unlost lawful shorts did =
+    let i = console - 1 in
+    let whole = get_or (texts_behind texts turns) i [] in
+    let short : length whole < 2 ^ 64 = short_at i (texts_behind texts turns) shorts in
+    let P = IsPlace console one texts turns short in
+    let seat : get_or desk.seats i None ≡ None = ap (λ (l : List (Option Talk)). get_or l i None) free ∙ none_at 32 i in
+    let lost : get_or desk.failed i false ≡ false = ap (λ (l : List Bool). get_or l i false) unlost ∙ none_lost 32 i in
+    let start : Watched P (get_or desk.seats i None) (get_or desk.failed i false) [] nothing_watched =
+    subst (λ (o : Option Talk). Watched P o (get_or desk.failed i false) [] nothing_watched) (sym seat)
+    (subst (λ (l : Bool). Watched P None l [] nothing_watched) (sym lost) (nothing_heard P)) in
+    let w = all_watched console 0 texts desk turns nothing_watched in
+    let events = events_in (events_of_turns 0 texts desk turns) in
+    let last_seat = get_or (desk_behind texts desk turns).seats i None in
+    let last_lost = get_or (desk_behind texts desk turns).failed i false in
+    let h : Watched P last_seat last_lost (events_at console events) w = heard_turns console one texts turns short 0 texts desk turns [] nothing_watched refl refl lawful start in
+    let kept : b.tells ≡ true → Kept console whole b (desk_behind texts desk turns).seats w = λ tells.
+    kept_turns console one texts turns short 0 texts desk turns a b [] nothing_watched refl refl lawful refl (sym (tells_same (calls_of_turns texts desk turns) a b did) ∙ tells) did start (nothing_kept console whole a desk free) in
+    (w.past ++ as_list w.now, record {
+      heard = h.heard ∙ ap (λ (l : List Event). flat_map events_of_visit w.past ++ l) (said_is last_seat last_lost w.now h.now) ∙ sym (fm_both w.past (as_list w.now));
+      order = in_order w.past w.now h.hung;
+      places = all_visits P w.past w.now h.places h.place;
+      taken = λ tells. all_visits (λ (v : Visit). (b.passed v.id).taken ≡ v.bytes) w.past w.now
+          (λ k d lt. ((kept tells).past k d lt).carried.taken) (now_more (IsOn console whole b (desk_behind texts desk turns).seats) (λ (v : Visit). (b.passed v.id).taken ≡ v.bytes) w.now (λ v on. on.carried.taken) (kept tells).now);
+      sent = λ tells. all_visits (λ (v : Visit). (b.passed v.id).sent ≡ take (length (b.passed v.id).sent) (drop v.place whole)) w.past w.now
+          (λ k d lt. as_taken _ _ ((kept tells).past k d lt).carried.sent)
+          (now_more (IsOn console whole b (desk_behind texts desk turns).seats) (λ (v : Visit). (b.passed v.id).sent ≡ take (length (b.passed v.id).sent) (drop v.place whole)) w.now (λ v on. as_taken _ _ on.carried.sent) (kept tells).now);
+    })

@@ -1,5 +1,5 @@
 -- claim: what the core hears at a console over many turns is what the console's connections sent, one after another.
-use Rattle.std.specs.Prelude.{◌≡◌, ℕ, ◌<◌, ◌≤◌, ◌^◌, true, false, List, [], length, replicate, None}
+use Rattle.std.specs.Prelude.{◌≡◌, ℕ, ◌<◌, ◌≤◌, ◌^◌, false, List, length, replicate, None}
 use Rattle.std.specs.List.{All}
 use Rattle.console_link.specs.Links.{LinkSeen}
 use Rattle.console_server.specs.Readings.{DidAll}
@@ -8,12 +8,10 @@ use Rattle.console_server.specs.History.{events_in}
 use Rattle.console_server.specs.Conversation.{TurnSeen, AreTurns, calls_of_turns, events_of_turns, texts_behind}
 use Rattle.console_server.specs.Visits.{Visit, AreVisits}
 
--- From a desk without connections on, over a link on which nothing is open and which has given no number: the events at a console are
--- those of its visits.
+-- From a desk without connections on, the events at a console are those of its visits.
 abbrev pub EventsAreVisits : Type 0
 EventsAreVisits =
-    (console : ℕ) (texts : List (List ℕ)) (desk : Desk) (turns : List TurnSeen) (a b : LinkSeen) → 1 ≤ console → console ≤ 32
-    → desk.seats ≡ replicate 32 None → desk.failed ≡ replicate 32 false → length texts ≡ 32 → AreTurns texts desk turns
+    (console : ℕ) (texts : List (List ℕ)) (desk : Desk) (turns : List TurnSeen) (a b : LinkSeen) → 1 ≤ console
+    → desk.seats ≡ replicate 32 None → desk.failed ≡ replicate 32 false → AreTurns texts desk turns
     → All (λ (text : List ℕ). length text < 2 ^ 64) (texts_behind texts turns) → DidAll (calls_of_turns texts desk turns) a b
-    → ((k : ℕ) → a.is_open k ≡ false) → (a.tells ≡ true → a.numbers ≡ [])
     → (visits : List Visit) × AreVisits console texts turns (events_in (events_of_turns 0 texts desk turns)) b visits

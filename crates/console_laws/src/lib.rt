@@ -5,6 +5,7 @@
 #![tactic(auto)]
 
 ghost use Rattle.console_laws.specs.Laws.{FewCalls, CallsAreTold, ReadingStops, WritingStops, OthersLeaveIt, CountsNeverFall};
+ghost use Rattle.console_laws.specs.VisitLaws.{EventsAreVisits};
 
 /// A turn makes few calls.
 #[tactic(auto, using(crate::proofs::CallLaws::few_calls))]
@@ -35,4 +36,9 @@ pub fn writing_stops()
 pub fn own_counts()
     ensures others { OthersLeaveIt }
     ensures rise { CountsNeverFall }
+{}
+
+/// What the core hears at a console over many turns is what the console's connections sent, one after another.
+pub fn events_are_visits()
+    ensures { EventsAreVisits }
 {}

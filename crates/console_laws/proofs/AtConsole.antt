@@ -1,6 +1,6 @@
 -- The events of a turn at one console, and its seat.
 use Rattle.std.specs.Prelude.{Bool, true, false, nat_eq, if◌then◌else◌, map, filter, length, get_or, Option, Some, None}
-use Rattle.std.proofs.Common.{◌≡◌, ◌≢◌, ℕ, zero, suc, ◌+◌, ◌<◌, ◌≤◌, List, [], ◌∷◌, ◌++◌, refl, sym, ◌∙◌, ap, subst, arith}
+use Rattle.std.proofs.Common.{◌≡◌, ◌≢◌, ℕ, zero, suc, ◌+◌, ◌-◌, ◌<◌, ◌≤◌, List, [], ◌∷◌, ◌++◌, refl, sym, ◌∙◌, ap, subst, arith}
 use Rattle.std.proofs.lemmas.Bool.Decides.{nat_tests}
 use Rattle.std.proofs.lemmas.List.{append_assoc, append-nil, map-append}
 use Rattle.ctss_types.specs.declared.script.Event.{Event}
@@ -19,7 +19,27 @@ same n = grind (arith, nat_tests)
 pub other : (k n : ℕ) → k ≢ n → nat_eq k n ≡ false
 other k n h = grind (arith, nat_tests)
 
-pub filter_both : {X : Type 0} (p : X → Bool) (xs ys : List X) → filter p (xs ++ ys) ≡ filter p xs ++ filter p ys
+pub same_of : (c n : ℕ) → nat_eq c n ≡ true → c ≡ n
+same_of c n e = grind (arith, nat_tests)
+
+pub not_same : (c n : ℕ) → nat_eq c n ≡ false → c ≢ n
+not_same c n e = grind (arith, nat_tests)
+
+pub some_is : (k c : ℕ) → Some k ≡ Some c → k ≡ c
+some_is k c is = cc
+
+pub none_is : {X : Type 0} (c : ℕ) → None ≡ Some c → X
+none_is {X} c is = absurd (subst IsNone_of is tt)
+  where
+    IsNone_of : Option ℕ → Type 0
+    IsNone_of None = Unit {0}
+    IsNone_of (Some m) = ⊥
+
+-- consoles are numbered from 1, places from 0
+pub number_of : (console : ℕ) → 1 ≤ console → console ≡ 1 + (console - 1)
+number_of console one = omega (arith, one)
+
+filter_both : {X : Type 0} (p : X → Bool) (xs ys : List X) → filter p (xs ++ ys) ≡ filter p xs ++ filter p ys
 filter_both p [] ys = refl
 filter_both p (x ∷ xs) ys = elim (p x) as (λ b. (if b then x ∷ filter p (xs ++ ys) else filter p (xs ++ ys)) ≡ (if b then x ∷ filter p xs else filter p xs) ++ filter p ys) [
   | true ↦ ap (λ l. x ∷ l) (filter_both p xs ys)
@@ -144,16 +164,6 @@ lost_at zero (t ∷ ts) = refl
 lost_at (suc i) (t ∷ ts) = lost_at i ts
 
 -- new connections
-
-some_is : (k c : ℕ) → Some k ≡ Some c → k ≡ c
-some_is k c is = cc
-
-none_is : {X : Type 0} (c : ℕ) → None ≡ Some c → X
-none_is {X} c is = absurd (subst IsNone_of is tt)
-  where
-    IsNone_of : Option ℕ → Type 0
-    IsNone_of None = Unit {0}
-    IsNone_of (Some m) = ⊥
 
 free_ge : (k c : ℕ) (seats : List (Option Talk)) → free_from k seats ≡ Some c → k ≤ c
 free_ge k c [] is = none_is c is

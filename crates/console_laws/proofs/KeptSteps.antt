@@ -15,7 +15,7 @@ use Rattle.console_server.specs.Readings.{Gave, bytes_of, DidAll, Nothing, Then}
 use Rattle.console_server.specs.Turns.{Talk, Desk, TurnAnswers, IsTurn, HeardOf, Told, Wrote, sent_of, MayPut, IsPutting, IsToldOf, AreHeard, AreTold, end_of, talk_of, free_from, put_first, seats_with, seated, seat_after, all_seats_after, seat_told, all_seats_told, calls_of_new, calls_accepted, last_accept, all_calls_heard, all_calls_told, seats_to_read, seats_to_write, calls_of_turn, desk_after}
 use Rattle.console_server.specs.Visits.{Visit}
 use Rattle.console_laws.proofs.Watching.{Watch, hung, ended, ended_if, new_visit, come, all_come, with_bytes, read, read_at, heard_at, watched, none_heard, none_told, IsNow, OnNow}
-use Rattle.console_laws.proofs.AtConsole.{same, other, seat_heard, seat_sent, told_lawful, free_seat, put_here, put_there}
+use Rattle.console_laws.proofs.AtConsole.{same, other, same_of, not_same, some_is, none_is, number_of, seat_heard, seat_sent, told_lawful, free_seat, put_here, put_there}
 use Rattle.console_laws.proofs.Passing.{passed_all, passed_is, passed_both, tells_still, did_split, WasGiven, given_one, given_still, new_given, new_differs, OnSeat, IsApart, all_heard_off, all_heard_on, all_told_off, all_told_on, on_heard, on_told, on_put}
 
 -- bytes at the beginning of others
@@ -61,12 +61,6 @@ begins_longer place ys text whole rest grows begins is = by_place (decide place 
           where
             not_cons : (y : ℕ) (zs : List ℕ) → [] ≡ y ∷ zs → ⊥
             not_cons y zs f = cc
-
-same_of : (c n : ℕ) → nat_eq c n ≡ true → c ≡ n
-same_of c n e = grind (arith, nat_tests)
-
-not_same : (c n : ℕ) → nat_eq c n ≡ false → c ≢ n
-not_same c n e = grind (arith, nat_tests)
 
 module _ (console : ℕ) (whole : List ℕ) where
   -- what passed over a visit's connection
@@ -114,6 +108,17 @@ module _ (console : ℕ) (whole : List ℕ) where
   now_still P Q None f h = tt
   now_still P Q (Some v) f h = f v h
 
+  over_still : (a b : LinkSeen) (seats next : List (Option Talk)) → ((k : ℕ) → WasGiven a k → WasGiven b k) → ((k : ℕ) → ((j : ℕ) → IsApart k (get_or seats j None)) → b.passed k ≡ a.passed k) →
+      ((k j : ℕ) → IsApart k (get_or seats j None) → IsApart k (get_or next j None)) → (v : Visit) → IsOver a seats v → IsOver b next v
+  over_still a b seats next given quiet apart v o = record { carried = carried_still a b v given (quiet v.id o.apart) o.carried; apart = λ j. apart v.id j (o.apart j) }
+
+  apart_all : (seats : List (Option Talk)) (k : ℕ) → get_or seats (console - 1) None ≡ None → ((j : ℕ) → j ≢ console - 1 → IsApart k (get_or seats j None)) → (j : ℕ) → IsApart k (get_or seats j None)
+  apart_all seats k none apart j = by_seat (cases_eq j (console - 1))
+    where
+      by_seat : (j ≡ console - 1) ⊎ (j ≢ console - 1) → IsApart k (get_or seats j None)
+      by_seat (inl is) = subst (IsApart k) (sym (ap (λ (n : ℕ). get_or seats n None) is ∙ none)) tt
+      by_seat (inr ne) = apart j ne
+
   -- calls over which nothing passes
   pub quiet_step : (ds : List Done) (a b : LinkSeen) (seats : List (Option Talk)) (w : Watch) → a.tells ≡ true → DidAll ds a b → ((k : ℕ) (p : Passed) → passed_all ds k p ≡ p) → Kept a seats w → Kept b seats w
   quiet_step ds a b seats w tells did quiet h =
@@ -121,24 +126,17 @@ module _ (console : ℕ) (whole : List ℕ) where
       let same_passed : (k : ℕ) → b.passed k ≡ a.passed k = λ k. passed_is ds k a b tells did ∙ quiet k (a.passed k) in
       record {
         given = λ j. on_more (WasGiven a) (WasGiven b) (get_or seats j None) given (h.given j);
-        past = λ k d lt. over_still given same_passed (get_or w.past k d) (h.past k d lt);
+        past = λ k d lt. over_still a b seats seats given (λ n apart. same_passed n) (λ n j apart. apart) (get_or w.past k d) (h.past k d lt);
         now = now_still (IsOn a seats) (IsOn b seats) w.now (λ v n. record { carried = carried_still a b v given (same_passed v.id) n.carried; apart = n.apart; seat = seat_still a b v (get_or seats (console - 1) None) (same_passed v.id) n.seat }) h.now;
       }
-    where
-      over_still : ((k : ℕ) → WasGiven a k → WasGiven b k) → ((k : ℕ) → b.passed k ≡ a.passed k) → (v : Visit) → IsOver a seats v → IsOver b seats v
-      over_still given same_passed v o = record { carried = carried_still a b v given (same_passed v.id) o.carried; apart = o.apart }
 
   -- a visit's end is heard
   is_over : (s : LinkSeen) (seats : List (Option Talk)) (v : Visit) → get_or seats (console - 1) None ≡ None → IsOn s seats v → IsOver s seats (hung v)
   is_over s seats v none on =
       record {
         carried = record { given = on.carried.given; taken = on.carried.taken; sent = on.carried.sent };
-        apart = λ j. by_seat j (cases_eq j (console - 1));
+        apart = apart_all seats v.id none on.apart;
       }
-    where
-      by_seat : (j : ℕ) → (j ≡ console - 1) ⊎ (j ≢ console - 1) → IsApart v.id (get_or seats j None)
-      by_seat j (inl is) = subst (IsApart v.id) (sym (ap (λ (n : ℕ). get_or seats n None) is ∙ none)) tt
-      by_seat j (inr ne) = on.apart j ne
 
   end_step : (s : LinkSeen) (seats : List (Option Talk)) (past : List Visit) (now : Option Visit) → get_or seats (console - 1) None ≡ None → ((j : ℕ) → OnSeat (WasGiven s) (get_or seats j None)) → All (IsOver s seats) past → OnNow (IsOn s seats) now → Kept s seats (ended past now)
   end_step s seats past None none given all on = record { given = given; past = all; now = tt }
@@ -153,17 +151,6 @@ module _ (console : ℕ) (whole : List ℕ) where
       no_seat None now k = refl
       no_seat (Some t) None k = absurd k
       no_seat (Some t) (Some v) k = absurd k
-
-  over_still : (a b : LinkSeen) (seats next : List (Option Talk)) → ((k : ℕ) → WasGiven a k → WasGiven b k) → ((k : ℕ) → ((j : ℕ) → IsApart k (get_or seats j None)) → b.passed k ≡ a.passed k) →
-      ((k j : ℕ) → IsApart k (get_or seats j None) → IsApart k (get_or next j None)) → (v : Visit) → IsOver a seats v → IsOver b next v
-  over_still a b seats next given quiet apart v o = record { carried = carried_still a b v given (quiet v.id o.apart) o.carried; apart = λ j. apart v.id j (o.apart j) }
-
-  apart_all : (seats : List (Option Talk)) (k : ℕ) → get_or seats (console - 1) None ≡ None → ((j : ℕ) → j ≢ console - 1 → IsApart k (get_or seats j None)) → (j : ℕ) → IsApart k (get_or seats j None)
-  apart_all seats k none apart j = by_seat (cases_eq j (console - 1))
-    where
-      by_seat : (j ≡ console - 1) ⊎ (j ≢ console - 1) → IsApart k (get_or seats j None)
-      by_seat (inl is) = subst (IsApart k) (sym (ap (λ (n : ℕ). get_or seats n None) is ∙ none)) tt
-      by_seat (inr ne) = apart j ne
 
   module _ (a b : LinkSeen) (tells : a.tells ≡ true) (seats : List (Option Talk)) where
     -- the consoles were read
@@ -327,9 +314,6 @@ module _ (console : ℕ) (whole : List ℕ) where
                       plus n p m l e = omega (arith, e)
 
   module _ (one : 1 ≤ console) (turn : ℕ) (texts : List (List ℕ)) (grows : Grows (get_or texts (console - 1) []) whole) where
-    at_one : console ≡ 1 + (console - 1)
-    at_one = omega (arith, one)
-
     end_within : end_of texts (Some console) ≤ length whole
     end_within = fits (length (get_or texts (console - 1) [])) (length grows.0) (length whole) (ap length grows.1 ∙ length-append (get_or texts (console - 1) []) grows.0)
       where
@@ -383,17 +367,15 @@ module _ (console : ℕ) (whole : List ℕ) where
             now = record {
               carried = record { given = new_given id a b tells did; taken = ap (λ (p : Passed). p.taken) nothing_yet; sent = (drop (end_of texts (Some console)) whole, ap (λ (p : Passed). p.sent ++ drop (end_of texts (Some console)) whole) (sym nothing_yet)) };
               apart = λ j ne. subst (IsApart id) (sym (put_there 1 j (talk_of texts (Some c) id) seats (elsewhere j ne))) (given_apart (get_or seats j None) (h.given j));
-              seat = subst (IsSeatOf b (new_visit console turn texts id)) (sym (put_here 1 c (console - 1) (talk_of texts (Some c) id) seats free (is ∙ at_one))) seat;
+              seat = subst (IsSeatOf b (new_visit console turn texts id)) (sym (put_here 1 c (console - 1) (talk_of texts (Some c) id) seats free (is ∙ number_of console one))) seat;
             };
           }
         where
           given_apart : (o : Option Talk) → OnSeat (WasGiven a) o → IsApart id o
           given_apart None was = tt
           given_apart (Some t) was = λ e. new_differs id t.id a b tells did was (sym e)
-          some_is : (d e : ℕ) → Some d ≡ Some e → d ≡ e
-          some_is d e f = cc
           elsewhere : (j : ℕ) → j ≢ console - 1 → (d : ℕ) → free_from 1 seats ≡ Some d → d ≢ 1 + j
-          elsewhere j ne d some at = ne (same_place (sym at ∙ some_is d c (sym some ∙ free) ∙ is ∙ at_one))
+          elsewhere j ne d some at = ne (same_place (sym at ∙ some_is d c (sym some ∙ free) ∙ is ∙ number_of console one))
             where
               same_place : 1 + j ≡ 1 + (console - 1) → j ≡ console - 1
               same_place e = omega (arith, e)
@@ -408,12 +390,8 @@ module _ (console : ℕ) (whole : List ℕ) where
       kept_come : (w : Watch) → Kept a seats w → Kept b (seats_with texts id seats) (come console turn texts (free_from 1 seats) id w)
       kept_come w h = by_free (free_from 1 seats) refl
         where
-          some_is : (d e : ℕ) → Some d ≡ Some e → d ≡ e
-          some_is d e f = cc
-          none_is : (c : ℕ) → None ≡ Some c → ⊥
-          none_is c e = cc
           by_free : (free : Option ℕ) → free_from 1 seats ≡ free → Kept b (put_first (talk_of texts free id) seats) (come console turn texts free id w)
-          by_free None is = come_elsewhere (talk_of texts None id) w refl (λ c some. absurd (none_is c (sym is ∙ some))) h
+          by_free None is = come_elsewhere (talk_of texts None id) w refl (λ c some. none_is c (sym is ∙ some)) h
           by_free (Some c) is = by_test (nat_eq c console) refl
             where
               by_test : (t : Bool) → nat_eq c console ≡ t → Kept b (put_first (talk_of texts (Some c) id) seats) (come console turn texts (Some c) id w)
@@ -421,7 +399,7 @@ module _ (console : ℕ) (whole : List ℕ) where
                   subst (λ (x : Watch). Kept b (put_first (talk_of texts (Some c) id) seats) x) (sym (ap (λ (t : Bool). if t then came w else w) e)) (come_here c w is (same_of c console e) h)
               by_test false e =
                   subst (λ (x : Watch). Kept b (put_first (talk_of texts (Some c) id) seats) x) (sym (ap (λ (t : Bool). if t then came w else w) e))
-                  (come_elsewhere (talk_of texts (Some c) id) w refl (λ d some at. not_same c console e (some_is c d (sym is ∙ some) ∙ at ∙ sym at_one)) h)
+                  (come_elsewhere (talk_of texts (Some c) id) w refl (λ d some at. not_same c console e (some_is c d (sym is ∙ some) ∙ at ∙ sym (number_of console one))) h)
 
     close_quiet : (console' : Option ℕ) (id k : ℕ) (p : Passed) → passed_all (calls_of_new console' id) k p ≡ p
     close_quiet None id k p = refl

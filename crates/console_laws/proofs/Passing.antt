@@ -11,6 +11,7 @@ use Rattle.console_server.specs.Readings.{Gave, bytes_of, did_read, DidAll, Noth
 use Rattle.console_server.specs.Turns.{Talk, HeardOf, Told, Wrote, sent_of, if_over, calls_heard, all_calls_heard, all_seats_after, AreHeard, seat_after, put_first, calls_told, all_calls_told, all_seats_told, seat_told, AreTold, calls_of_new, last_accept}
 use Rattle.console_server.specs.Writings.{did_write}
 use Rattle.console_server.proofs.DeskLaws.{false_is}
+use Rattle.console_laws.specs.Laws.{ReadsAreTaken, WritesAreSent}
 use Rattle.console_laws.proofs.Watching.{none_heard, none_told}
 use Rattle.console_laws.proofs.AtConsole.{same, other}
 
@@ -121,6 +122,9 @@ all_heard_off k (s ∷ seats) (h ∷ hs) p apart =
 not_some : (t : Talk) → None ≡ Some t → ⊥
 not_some t is = cc
 
+pub reads_are_taken : ReadsAreTaken
+reads_are_taken id reads a b tells did = ap (λ (p : Passed). p.taken) (passed_is (map (did_read id) reads) id a b tells did ∙ reads_on id reads (a.passed id))
+
 abbrev with_taken : Passed → List ℕ → Passed
 with_taken p bytes = record p { taken = p.taken ++ bytes }
 
@@ -169,6 +173,9 @@ all_told_off k (s ∷ seats) (t ∷ ts) p apart =
     passed_both (calls_told s t.puts t.lost) (all_calls_told seats ts) k p
     ∙ all_told_off k seats ts (passed_all (calls_told s t.puts t.lost) k p) (λ j. apart (suc j))
     ∙ told_off k s t.puts t.lost p (apart 0)
+
+pub writes_are_sent : WritesAreSent
+writes_are_sent id puts a b tells did = ap (λ (p : Passed). p.sent) (passed_is (map (did_write id) puts) id a b tells did ∙ puts_on id puts (a.passed id))
 
 abbrev with_sent : Passed → List ℕ → Passed
 with_sent p bytes = record p { sent = p.sent ++ bytes }

@@ -14,20 +14,11 @@ use Rattle.console_server.specs.Readings.{Gave, bytes_of, timed, all_timed}
 use Rattle.console_server.specs.Turns.{Talk, Desk, TurnAnswers, IsTurn, HeardOf, Told, Wrote, IsToldOf, if_over, end_of, talk_of, events_heard, all_events_heard, seat_after, free_from, put_first, seats_with, dial, dials, seated, seat_told, hangs, seats_to_read, seats_to_write, events_of_turn, desk_after}
 use Rattle.console_server.specs.Visits.{Visit, events_of_visit, events_at}
 use Rattle.console_laws.proofs.Watching.{Watch, hung, ended, ended_if, new_visit, come, all_come, with_bytes, read, read_at, heard_at, watched, none_heard, none_told, said, IsTalkOf, IsNow, OnNow, Watched}
-use Rattle.console_laws.proofs.AtConsole.{at_both, all_here, hang_if, hangs_at, heard_there, seat_heard, seat_sent, told_lawful, lost_at, free_seat, put_here, put_there, dial_here, dial_there}
+use Rattle.console_laws.proofs.AtConsole.{same_of, not_same, some_is, none_is, number_of, at_both, all_here, hang_if, hangs_at, heard_there, seat_heard, seat_sent, told_lawful, lost_at, free_seat, put_here, put_there, dial_here, dial_there}
 
 pub fm_both : (xs ys : List Visit) → flat_map events_of_visit (xs ++ ys) ≡ flat_map events_of_visit xs ++ flat_map events_of_visit ys
 fm_both [] ys = refl
 fm_both (x ∷ xs) ys = ap (λ (l : List Event). events_of_visit x ++ l) (fm_both xs ys) ∙ sym (append_assoc (events_of_visit x) (flat_map events_of_visit xs) (flat_map events_of_visit ys))
-
-same_of : (c n : ℕ) → nat_eq c n ≡ true → c ≡ n
-same_of c n e = grind (arith, nat_tests)
-
-not_same : (c n : ℕ) → nat_eq c n ≡ false → c ≢ n
-not_same c n e = grind (arith, nat_tests)
-
-some_is : (k c : ℕ) → Some k ≡ Some c → k ≡ c
-some_is k c is = cc
 
 all_one : (P : Visit → Type 0) (v : Visit) → P v → All P (v ∷ [])
 all_one P v h = All-cons P v [] h (All-nil P)
@@ -116,9 +107,6 @@ module _ (console : ℕ) (P : Visit → Type 0) (keeps : (v w : Visit) → v.tur
       by_now false (Some v) fits = record { hung = fits.hung; id = fits.id; piece = fits.piece }
 
   module _ (one : 1 ≤ console) (turn : ℕ) (texts : List (List ℕ)) (new : (id : ℕ) → P (new_visit console turn texts id)) where
-    at_one : console ≡ 1 + (console - 1)
-    at_one = omega (arith, one)
-
     -- one new connection
     come_step : (tick id : ℕ) (seats : List (Option Talk)) (events : List Event) (w : Watch) → Watched P (get_or seats (console - 1) None) false events w →
         Watched P (get_or (seats_with texts id seats) (console - 1) None) false (events ++ events_at console (dial tick (free_from 1 seats))) (come console turn texts (free_from 1 seats) id w)
@@ -148,19 +136,16 @@ module _ (console : ℕ) (P : Visit → Type 0) (keeps : (v w : Visit) → v.tur
                 }
             by_now (Some v) fits heard = absurd fits
         by_free : (free : Option ℕ) → free_from 1 seats ≡ free → Goal free
-        by_free None is = still (talk_of texts None id) (λ c some. absurd (differ c (sym is ∙ some)))
-          where
-            differ : (c : ℕ) → None ≡ Some c → ⊥
-            differ c e = cc
+        by_free None is = still (talk_of texts None id) (λ c some. none_is c (sym is ∙ some))
         by_free (Some c) is = by_test (nat_eq c console) refl
           where
             by_test : (t : Bool) → nat_eq c console ≡ t → Goal (Some c)
             by_test true e =
                 let same_console : c ≡ console = same_of c console e in
-                let free : get_or seats (console - 1) None ≡ None = free_seat 1 c (console - 1) seats is (same_console ∙ at_one) in
+                let free : get_or seats (console - 1) None ≡ None = free_seat 1 c (console - 1) seats is (same_console ∙ number_of console one) in
                 let events_are : events_at console (dial tick (Some c)) ≡ Dial ∷ [] = ap (λ (n : ℕ). events_at console (dial tick (Some n))) same_console ∙ dial_here console tick in
                 let seat_is : get_or (put_first (talk_of texts (Some c) id) seats) (console - 1) None ≡ Some (talk_of texts (Some console) id) =
-                put_here 1 c (console - 1) (talk_of texts (Some c) id) seats is (same_console ∙ at_one) ∙ ap (λ (n : ℕ). Some (talk_of texts (Some n) id)) same_console in
+                put_here 1 c (console - 1) (talk_of texts (Some c) id) seats is (same_console ∙ number_of console one) ∙ ap (λ (n : ℕ). Some (talk_of texts (Some n) id)) same_console in
                 let watch_is : come console turn texts (Some c) id w ≡ came w = ap (λ (t : Bool). if t then came w else w) e in
                 subst (λ (o : Option Talk). Watched P o false (events ++ events_at console (dial tick (Some c))) (come console turn texts (Some c) id w)) (sym seat_is)
                 (subst (λ (l : List Event). Watched P (Some (talk_of texts (Some console) id)) false (events ++ l) (come console turn texts (Some c) id w)) (sym events_are)
@@ -168,7 +153,7 @@ module _ (console : ℕ) (P : Visit → Type 0) (keeps : (v w : Visit) → v.tur
                 (here (subst (λ (o : Option Talk). Watched P o false events w) free h))))
             by_test false e =
                 let apart : c ≢ console = not_same c console e in
-                let elsewhere : (d : ℕ) → free_from 1 seats ≡ Some d → d ≢ 1 + (console - 1) = λ d some at. apart (some_is c d (sym is ∙ some) ∙ at ∙ sym at_one) in
+                let elsewhere : (d : ℕ) → free_from 1 seats ≡ Some d → d ≢ 1 + (console - 1) = λ d some at. apart (some_is c d (sym is ∙ some) ∙ at ∙ sym (number_of console one)) in
                 let watch_is : come console turn texts (Some c) id w ≡ w = ap (λ (t : Bool). if t then came w else w) e in
                 subst (λ (l : List Event). Watched P (get_or (put_first (talk_of texts (Some c) id) seats) (console - 1) None) false (events ++ l) (come console turn texts (Some c) id w)) (sym (dial_there console c tick apart))
                 (subst (λ (x : Watch). Watched P (get_or (put_first (talk_of texts (Some c) id) seats) (console - 1) None) false (events ++ []) x) (sym watch_is) (still (talk_of texts (Some c) id) elsewhere))
@@ -213,7 +198,7 @@ module _ (console : ℕ) (P : Visit → Type 0) (keeps : (v w : Visit) → v.tur
         let h5 : Watched P (seat_told (get_or second i None) told.puts told.lost) told.lost three_events w3 =
         told_step (get_or shown i []) (get_or second i None) told.puts told.lost three_events w3 (told_lawful shown 0 i i second answers.told zero_plus lawful.told) h4 in
         let events_are : three_events ≡ events ++ events_at console (events_of_turn tick texts desk answers) =
-        (λ j. ((events ++ sym (hangs_at console 1 i tick desk.failed at_one) j) ++ events_at console dialled) ++ sym (heard_there console 1 i tick first answers.heard at_one lawful.heard) j)
+        (λ j. ((events ++ sym (hangs_at console 1 i tick desk.failed (number_of console one)) j) ++ events_at console dialled) ++ sym (heard_there console 1 i tick first answers.heard (number_of console one) lawful.heard) j)
         ∙ append_assoc (events ++ events_at console hung_events) (events_at console dialled) (events_at console said_events)
         ∙ append_assoc events (events_at console hung_events) (events_at console dialled ++ events_at console said_events)
         ∙ ap (λ (l : List Event). events ++ l) (ap (λ (l : List Event). events_at console hung_events ++ l) (sym (at_both console dialled said_events)) ∙ sym (at_both console hung_events (dialled ++ said_events))) in

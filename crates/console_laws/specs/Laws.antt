@@ -3,8 +3,8 @@
 use Rattle.std.specs.Prelude.{◌≡◌, ℕ, ◌-◌, ◌≤◌, Bool, true, false, List, ◌++◌, length, map, if◌then◌else◌, Some}
 use Rattle.std.specs.List.{All}
 use Rattle.console_link.specs.Links.{LinkSeen, CallList, Counts, Done, call_of, names, accepts, is_at}
-use Rattle.console_server.specs.Readings.{Gave, did_read, DidAll, IsReading}
-use Rattle.console_server.specs.Turns.{Desk, TurnAnswers, calls_of_turn, IsTurn, Wrote, IsPutting}
+use Rattle.console_server.specs.Readings.{Gave, bytes_of, did_read, DidAll, IsReading}
+use Rattle.console_server.specs.Turns.{Desk, TurnAnswers, calls_of_turn, IsTurn, Wrote, sent_of, IsPutting}
 use Rattle.console_server.specs.Writings.{did_write}
 use Rattle.console_laws.specs.Stops.{WhyStopped, WhyWritingStopped}
 
@@ -53,3 +53,14 @@ pub record AtMost (old new : Counts) : Type 0 where
 -- no calls make a count fall
 abbrev pub CountsNeverFall : Type 0
 CountsNeverFall = (k : ℕ) (ds : List Done) (a b : LinkSeen) → DidAll ds a b → AtMost (a.counts k) (b.counts k)
+
+-- where bytes are told, what reads gave was taken from the connection, and what writes took was sent to it
+abbrev pub ReadsAreTaken : Type 0
+ReadsAreTaken =
+    (id : ℕ) (reads : List Gave) (a b : LinkSeen) → a.tells ≡ true → DidAll (map (did_read id) reads) a b
+    → (b.passed id).taken ≡ (a.passed id).taken ++ bytes_of reads
+
+abbrev pub WritesAreSent : Type 0
+WritesAreSent =
+    (id : ℕ) (puts : List Wrote) (a b : LinkSeen) → a.tells ≡ true → DidAll (map (did_write id) puts) a b
+    → (b.passed id).sent ≡ (a.passed id).sent ++ sent_of puts

@@ -4,7 +4,7 @@
 //! The definitions stand in `specs/`. The functions here do nothing: each carries a law.
 #![tactic(auto)]
 
-ghost use Rattle.console_laws.specs.Laws.{FewCalls, CallsAreTold, ReadingStops, WritingStops, OthersLeaveIt, CountsNeverFall};
+ghost use Rattle.console_laws.specs.Laws.{FewCalls, CallsAreTold, ReadingStops, WritingStops, OthersLeaveIt, CountsNeverFall, ReadsAreTaken, WritesAreSent};
 ghost use Rattle.console_laws.specs.VisitLaws.{EventsAreVisits};
 
 /// A turn makes few calls.
@@ -36,6 +36,13 @@ pub fn writing_stops()
 pub fn own_counts()
     ensures others { OthersLeaveIt }
     ensures rise { CountsNeverFall }
+{}
+
+/// What reads gave was taken from the connection, and what writes took was sent to it.
+#[tactic(auto, using(crate::proofs::Passing::reads_are_taken, crate::proofs::Passing::writes_are_sent))]
+pub fn bytes_pass()
+    ensures taken { ReadsAreTaken }
+    ensures sent { WritesAreSent }
 {}
 
 /// What the core hears at a console over many turns is what the console's connections sent, one after another.

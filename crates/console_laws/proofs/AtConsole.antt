@@ -1,14 +1,14 @@
 -- The events of a turn at one console, and its seat.
-use Rattle.std.specs.Prelude.{Bool, true, false, nat_eq, if◌then◌else◌, map, filter, length, get_or, Option, Some, None}
-use Rattle.std.proofs.Common.{◌≡◌, ◌≢◌, ℕ, zero, suc, ◌+◌, ◌-◌, ◌<◌, ◌≤◌, List, [], ◌∷◌, ◌++◌, refl, sym, ◌∙◌, ap, subst, arith}
+use Rattle.std.specs.Prelude.{Bool, true, false, nat_eq, if◌then◌else◌, map, filter, get_or, Option, Some, None}
+use Rattle.std.proofs.Common.{◌≡◌, ◌≢◌, ℕ, zero, suc, ◌+◌, ◌-◌, ◌<◌, ◌≤◌, List, [], ◌∷◌, ◌++◌, refl, ◌∙◌, ap, subst, arith}
 use Rattle.std.proofs.lemmas.Bool.Decides.{nat_tests}
-use Rattle.std.proofs.lemmas.List.{append_assoc, append-nil, map-append}
+use Rattle.std.proofs.lemmas.List.{append-nil, map-append}
 use Rattle.ctss_types.specs.declared.script.Event.{Event}
 use Rattle.ctss_types.specs.declared.script.Event.TheVariants.{Dial, Hang}
 use Rattle.ctss_types.specs.declared.script.Timed.{Timed}
 use Rattle.console_wire.specs.Items.{items_from}
 use Rattle.console_server.specs.Readings.{Gave, bytes_of, timed, all_timed}
-use Rattle.console_server.specs.Turns.{Talk, HeardOf, Told, Wrote, if_over, events_heard, all_events_heard, seat_after, all_seats_after, AreHeard, free_from, put_first, dial, seat_told, all_seats_told, IsToldOf, AreTold, losses, hangs}
+use Rattle.console_server.specs.Turns.{Talk, HeardOf, Told, if_over, events_heard, all_events_heard, seat_after, all_seats_after, AreHeard, free_from, put_first, dial, seat_told, all_seats_told, IsToldOf, AreTold, losses, hangs}
 use Rattle.console_server.specs.Visits.{events_at}
 use Rattle.console_server.proofs.DeskLaws.{false_is}
 use Rattle.console_laws.proofs.Watching.{none_heard, none_told}

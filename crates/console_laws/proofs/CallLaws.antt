@@ -1,6 +1,6 @@
 -- How many calls a turn makes, and that a link which lists them lists all.
-use Rattle.std.specs.Prelude.{◌*◌, nat_eq, nat_lt, if◌then◌else◌, min, take, drop, map, length, get_or, Bool, true, false, Option, Some, None}
-use Rattle.std.proofs.Common.{◌≡◌, ℕ, suc, ◌+◌, ◌-◌, ◌<◌, ◌≤◌, List, [], ◌∷◌, ◌++◌, refl, sym, ◌∙◌, ap, subst, arith, length-append}
+use Rattle.std.specs.Prelude.{◌*◌, nat_eq, nat_lt, if◌then◌else◌, drop, map, length, get_or, Bool, true, false, Option, Some, None}
+use Rattle.std.proofs.Common.{◌≡◌, ℕ, suc, ◌-◌, ◌≤◌, List, [], ◌∷◌, ◌++◌, refl, sym, ◌∙◌, ap, arith, length-append}
 use Rattle.std.proofs.lemmas.Bool.Decides.{nat_tests}
 use Rattle.std.proofs.lemmas.List.{append_assoc, append-nil, length-map}
 use Rattle.console_link.specs.declared.link.Accepted.TheVariants as accepted
@@ -9,9 +9,9 @@ use Rattle.console_link.specs.declared.link.LinkGot.{LinkGot}
 use Rattle.console_link.specs.declared.link.LinkGot.TheVariants as got
 use Rattle.console_link.specs.declared.link.LinkTook.{LinkTook}
 use Rattle.console_link.specs.declared.link.LinkTook.TheVariants as took
-use Rattle.console_link.specs.Links.{LinkSeen, CallList, Done, Did, DidAccept, DidClose, DidWrite, with_call, call_of}
-use Rattle.console_server.specs.Readings.{Gave, did_read, DidAll, Nothing, Then, MayStop, IsReading}
-use Rattle.console_server.specs.Turns.{Talk, Desk, TurnAnswers, IsTurn, HeardOf, Told, Wrote, MayPut, IsPutting, IsHeard, AreHeard, IsToldOf, AreTold, if_over, free_from, put_first, talk_of, seats_with, calls_of_new, calls_accepted, seated, last_accept, calls_heard, all_calls_heard, all_seats_after, calls_told, all_calls_told, seats_to_read, seats_to_write, calls_of_turn}
+use Rattle.console_link.specs.Links.{CallList, Done, DidAccept, DidClose, DidWrite, with_call, call_of}
+use Rattle.console_server.specs.Readings.{Gave, did_read, Nothing, Then, MayStop, IsReading}
+use Rattle.console_server.specs.Turns.{Talk, HeardOf, Told, Wrote, MayPut, IsPutting, IsHeard, AreHeard, IsToldOf, AreTold, if_over, free_from, put_first, talk_of, seats_with, calls_of_new, calls_accepted, seated, last_accept, calls_heard, all_calls_heard, all_seats_after, calls_told, all_calls_told, seats_to_read, seats_to_write}
 use Rattle.console_server.proofs.DeskLaws.{false_is}
 use Rattle.console_laws.specs.Laws.{FewCalls, CallsAreTold}
 
@@ -117,6 +117,7 @@ told_one list call le = by_test (nat_eq list.room 0) (not_none list.room le)
   where
     not_none : (n : ℕ) → 1 ≤ n → nat_eq n 0 ≡ false
     not_none n h = grind (arith, nat_tests)
+
     by_test : (t : Bool) → t ≡ false → (if t then None else Some (with_more list call)) ≡ Some (with_more list call)
     by_test true is = false_is is
     by_test false is = refl

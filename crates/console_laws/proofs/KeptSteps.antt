@@ -1,22 +1,21 @@
 -- What passed over a console's connections in a turn: what each sent, and what it was sent.
-use Rattle.std.specs.Prelude.{Bool, true, false, nat_eq, nat_lt, min, ◌^◌, if◌then◌else◌, map, length, take, drop, get_or, Option, Some, None}
+use Rattle.std.specs.Prelude.{Bool, true, false, nat_eq, nat_lt, min, ◌^◌, if◌then◌else◌, length, drop, get_or, Option, Some, None}
 use Rattle.std.specs.List.{All}
-use Rattle.std.proofs.Common.{◌≡◌, ◌≢◌, ℕ, zero, suc, ◌+◌, ◌-◌, ◌<◌, ◌≤◌, List, [], ◌∷◌, ◌++◌, refl, sym, ◌∙◌, ap, subst, arith, ◌⊎◌, inl, inr, length-append, length-drop}
+use Rattle.std.proofs.Common.{◌≡◌, ◌≢◌, ℕ, ◌+◌, ◌-◌, ◌<◌, ◌≤◌, List, [], ◌∷◌, ◌++◌, refl, sym, ◌∙◌, ap, subst, arith, ◌⊎◌, inl, inr, length-append, length-drop}
 use Rattle.std.proofs.lemmas.Bool.{cases_eq}
-use Rattle.std.proofs.lemmas.Bool.Decides.{nat_tests}
-use Rattle.std.proofs.lemmas.List.{append_assoc, append-nil, take-append-drop, drop-drop, drop_at, drop-append-le, drop_all}
+use Rattle.std.proofs.lemmas.List.{append_assoc, take-append-drop, drop-drop, drop_at, drop-append-le, drop_all}
 use Rattle.std.proofs.lemmas.List.Elements.{All-append, All-cons, All-nil}
 use Rattle.console_link.specs.declared.link.Accepted.TheVariants as accepted
 use Rattle.console_link.specs.declared.link.LinkTook.{LinkTook}
 use Rattle.console_link.specs.declared.link.LinkTook.TheVariants as took
-use Rattle.console_link.specs.Links.{LinkSeen, Passed, nothing_passed, Done, Did, DidAccept, DidWait, DidClose}
+use Rattle.console_link.specs.Links.{LinkSeen, Passed, nothing_passed, Done, Did, DidAccept, DidWait}
 use Rattle.live_core.specs.Core.{Grows}
 use Rattle.console_server.specs.Readings.{Gave, bytes_of, DidAll, Nothing, Then}
 use Rattle.console_server.specs.Turns.{Talk, Desk, TurnAnswers, IsTurn, HeardOf, Told, Wrote, sent_of, MayPut, IsPutting, IsToldOf, AreHeard, AreTold, end_of, talk_of, free_from, put_first, seats_with, seated, seat_after, all_seats_after, seat_told, all_seats_told, calls_of_new, calls_accepted, last_accept, all_calls_heard, all_calls_told, seats_to_read, seats_to_write, calls_of_turn, desk_after}
 use Rattle.console_server.specs.Visits.{Visit}
-use Rattle.console_laws.proofs.Watching.{Watch, hung, ended, ended_if, new_visit, come, all_come, with_bytes, read, read_at, heard_at, watched, none_heard, none_told, IsNow, OnNow}
-use Rattle.console_laws.proofs.AtConsole.{same, other, same_of, not_same, some_is, none_is, number_of, seat_heard, seat_sent, told_lawful, free_seat, put_here, put_there}
-use Rattle.console_laws.proofs.Passing.{passed_all, passed_is, passed_both, tells_still, did_split, WasGiven, given_one, given_still, new_given, new_differs, OnSeat, IsApart, all_heard_off, all_heard_on, all_told_off, all_told_on, on_heard, on_told, on_put}
+use Rattle.console_laws.proofs.Watching.{Watch, hung, ended, ended_if, new_visit, come, all_come, with_bytes, read, read_at, watched, none_heard, none_told, IsNow, OnNow}
+use Rattle.console_laws.proofs.AtConsole.{same, other, same_of, not_same, some_is, none_is, number_of, seat_heard, seat_sent, told_lawful, put_here, put_there}
+use Rattle.console_laws.proofs.Passing.{passed_all, passed_is, tells_still, did_split, WasGiven, given_one, given_still, new_given, new_differs, OnSeat, IsApart, all_heard_off, all_heard_on, all_told_off, all_told_on, on_heard, on_told, on_put}
 
 -- bytes at the beginning of others
 abbrev pub Begins : List ℕ → List ℕ → Type 0
@@ -50,6 +49,7 @@ begins_longer place ys text whole rest grows begins is = by_place (decide place 
   where
     decide : (a b : ℕ) → (a ≤ b) ⊎ (b ≤ a)
     decide a b = grind arith
+
     by_place : (place ≤ length text) ⊎ (length text ≤ place) → Begins ys rest
     by_place (inl le) =
         (begins.0 ++ grows.0, sym is ∙ ap (drop place) grows.1 ∙ drop-append-le place text grows.0 le ∙ ap (λ (l : List ℕ). l ++ grows.0) begins.1 ∙ append_assoc ys begins.0 grows.0)
@@ -179,10 +179,13 @@ module _ (console : ℕ) (whole : List ℕ) where
         where
           reads : List Gave
           reads = (get_or hs (console - 1) none_heard).reads
+
           given : (j : ℕ) → OnSeat (WasGiven b) (get_or (all_seats_after seats hs) j None)
           given j = on_heard (WasGiven b) j seats hs (on_more (WasGiven a) (WasGiven b) (get_or seats j None) heard_given (h.given j))
+
           past : All (IsOver b (all_seats_after seats hs)) w.past
           past = λ k d lt. over_still a b seats (all_seats_after seats hs) heard_given heard_quiet heard_apart (get_or w.past k d) (h.past k d lt)
+
           by_seat : (o : Option Talk) → get_or seats (console - 1) None ≡ o → get_or (all_seats_after seats hs) (console - 1) None ≡ seat_after (get_or seats (console - 1) None) reads (get_or hs (console - 1) none_heard).over →
               Kept b (all_seats_after seats hs) (read o reads (get_or hs (console - 1) none_heard).over w)
           by_seat None is next = record { given = given; past = past; now = now_still (IsOn a seats) (IsOn b (all_seats_after seats hs)) w.now goes_on h.now }
@@ -214,6 +217,7 @@ module _ (console : ℕ) (whole : List ℕ) where
                   seat_is : (o : Bool) → b.passed v.id ≡ record (a.passed v.id) { taken = (a.passed v.id).taken ++ bytes_of reads } → IsSeatOf a v (Some t) → IsSeatOf b (record v { bytes = v.bytes ++ bytes_of reads }) (seat_after (Some t) reads o)
                   seat_is true passed was = tt
                   seat_is false passed was = (was.0, was.1 ∙ ap (λ (p : Passed). v.place + length p.sent) (sym passed), was.2)
+
               by_over : (over : Bool) → get_or (all_seats_after seats hs) (console - 1) None ≡ seat_after (Some t) reads over → Kept b (all_seats_after seats hs) (read (Some t) reads over w)
               by_over true here = end_step b (all_seats_after seats hs) w.past (with_bytes (bytes_of reads) w.now) here given past (goes_on true here w.now h.now)
               by_over false here = record { given = given; past = past; now = goes_on false here w.now h.now }
@@ -258,10 +262,13 @@ module _ (console : ℕ) (whole : List ℕ) where
         where
           puts : List Wrote
           puts = (get_or ts (console - 1) none_told).puts
+
           given : (j : ℕ) → OnSeat (WasGiven b) (get_or (all_seats_told seats ts) j None)
           given j = on_told (WasGiven b) j seats ts (on_more (WasGiven a) (WasGiven b) (get_or seats j None) told_given (h.given j))
+
           past : All (IsOver b (all_seats_told seats ts)) w.past
           past = λ k d lt. over_still a b seats (all_seats_told seats ts) told_given told_quiet told_apart (get_or w.past k d) (h.past k d lt)
+
           by_seat : (o : Option Talk) → get_or seats (console - 1) None ≡ o → get_or (all_seats_told seats ts) (console - 1) None ≡ seat_told (get_or seats (console - 1) None) puts (get_or ts (console - 1) none_told).lost →
               (now : Option Visit) → OnNow (IsOn a seats) now → OnNow (IsOn b (all_seats_told seats ts)) now
           by_seat o is next None on = tt
@@ -284,29 +291,37 @@ module _ (console : ℕ) (whole : List ℕ) where
             where
               passed : b.passed v.id ≡ record (a.passed v.id) { sent = (a.passed v.id).sent ++ sent_of puts }
               passed = told_on_it t v is on
+
               more : Begins (sent_of puts) on.carried.sent.0
               more = sent_goes_on t v grows is on
+
               was : IsSeatOf a v (Some t)
               was = subst (IsSeatOf a v) is on.seat
+
               long : length (b.passed v.id).sent ≡ length (a.passed v.id).sent + length (sent_of puts)
               long = ap (λ (p : Passed). length p.sent) passed ∙ length-append (a.passed v.id).sent (sent_of puts)
+
               left : length whole - v.place ≡ length (a.passed v.id).sent + (length (sent_of puts) + length more.0)
               left =
                   sym (length-drop v.place whole) ∙ ap length on.carried.sent.1 ∙ length-append (a.passed v.id).sent on.carried.sent.0
                   ∙ ap (λ (n : ℕ). length (a.passed v.id).sent + n) (ap length more.1 ∙ length-append (sent_of puts) more.0)
+
               within : t.place + length (sent_of puts) ≤ length whole
               within = fits (length whole) v.place t.place (length (a.passed v.id).sent) (length (sent_of puts)) (length more.0) was.1 was.2 left
                 where
                   fits : (size place now sent new rest : ℕ) → now ≡ place + sent → now ≤ size → size - place ≡ sent + (new + rest) → now + new ≤ size
                   fits size place now sent new rest e le d = omega (arith, e, le, d)
+
               seat_is : (l : Bool) → IsSeatOf b v (seat_told (Some t) puts l)
               seat_is true = tt
               seat_is false = (was.0, count ∙ more_place ∙ ap (λ (n : ℕ). v.place + n) (sym long), subst (λ (n : ℕ). n ≤ length whole) (sym count) within)
                 where
                   least : (n most : ℕ) → n ≤ most → most < 2 ^ 64 → min n (2 ^ 64 - 1) ≡ n
                   least n most le lt = omega (arith, le, lt)
+
                   count : min (t.place + length (sent_of puts)) (2 ^ 64 - 1) ≡ t.place + length (sent_of puts)
                   count = least (t.place + length (sent_of puts)) (length whole) within short
+
                   more_place : t.place + length (sent_of puts) ≡ v.place + (length (a.passed v.id).sent + length (sent_of puts))
                   more_place = plus t.place v.place (length (a.passed v.id).sent) (length (sent_of puts)) was.1
                     where
@@ -374,13 +389,16 @@ module _ (console : ℕ) (whole : List ℕ) where
           given_apart : (o : Option Talk) → OnSeat (WasGiven a) o → IsApart id o
           given_apart None was = tt
           given_apart (Some t) was = λ e. new_differs id t.id a b tells did was (sym e)
+
           elsewhere : (j : ℕ) → j ≢ console - 1 → (d : ℕ) → free_from 1 seats ≡ Some d → d ≢ 1 + j
           elsewhere j ne d some at = ne (same_place (sym at ∙ some_is d c (sym some ∙ free) ∙ is ∙ number_of console one))
             where
               same_place : 1 + j ≡ 1 + (console - 1) → j ≡ console - 1
               same_place e = omega (arith, e)
+
           place_is : end_of texts (Some c) ≡ end_of texts (Some console)
           place_is = ap (λ (n : ℕ). end_of texts (Some n)) is
+
           seat : IsSeatOf b (new_visit console turn texts id) (Some (talk_of texts (Some c) id))
           seat = (refl, place_is ∙ plus_none (end_of texts (Some console)) (length (b.passed id).sent) (ap (λ (p : Passed). length p.sent) nothing_yet), subst (λ (n : ℕ). n ≤ length whole) (sym place_is) end_within)
             where

@@ -1,11 +1,8 @@
 -- Whose counts a call moves.
 use Rattle.std.specs.Prelude.{Bool, true, false, nat_eq, if◌then◌else◌, Option, Some, None}
-use Rattle.std.specs.List.{All}
-use Rattle.std.proofs.Common.{◌≡◌, ℕ, suc, ◌≤◌, List, [], ◌∷◌, ◌++◌, refl, sym, ◌∙◌, ap, subst, arith}
-use Rattle.console_link.specs.declared.link.Accepted.{Accepted}
-use Rattle.console_link.specs.declared.link.Accepted.TheVariants as accepted
-use Rattle.console_link.specs.Links.{LinkSeen, Passed, Counts, Done, Did, DidOpen, DidAccept, DidRead, DidWrite, DidClose, DidWait, Rises, Counted, is_at, names, accepts, reads_at, writes_at, is_failed, not_yet, passed_after, if_new, new_of, nothing_passed}
-use Rattle.console_server.specs.Readings.{DidAll, Nothing, Then}
+use Rattle.std.proofs.Common.{◌≡◌, ℕ, suc, ◌≤◌, [], ◌∷◌, ◌++◌, refl, ◌∙◌, ap, arith}
+use Rattle.console_link.specs.Links.{LinkSeen, Passed, Counts, Done, Did, DidOpen, DidAccept, DidRead, DidWrite, DidClose, DidWait, Rises, is_at, names, accepts, reads_at, writes_at, is_failed, not_yet, passed_after, if_new, new_of, nothing_passed}
+use Rattle.console_server.specs.Readings.{Nothing, Then}
 use Rattle.console_server.proofs.DeskLaws.{false_is}
 use Rattle.console_laws.specs.Laws.{is_on, OthersLeaveIt, AtMost, CountsNeverFall}
 

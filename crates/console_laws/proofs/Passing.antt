@@ -1,14 +1,13 @@
 -- What passes over a connection in a turn.
-use Rattle.std.specs.Prelude.{Bool, true, false, nat_eq, ◌||◌, if◌then◌else◌, map, length, take, drop, get_or, Option, Some, None}
+use Rattle.std.specs.Prelude.{Bool, true, false, nat_eq, ◌||◌, if◌then◌else◌, map, get_or, Option, Some, None}
 use Rattle.std.specs.List.{list_any}
-use Rattle.std.proofs.Common.{◌≡◌, ◌≢◌, ℕ, zero, suc, ◌+◌, ◌-◌, ◌<◌, ◌≤◌, List, [], ◌∷◌, ◌++◌, refl, sym, ◌∙◌, ap, subst, arith}
-use Rattle.std.proofs.lemmas.Bool.Decides.{nat_tests}
+use Rattle.std.proofs.Common.{◌≡◌, ◌≢◌, ℕ, zero, suc, List, [], ◌∷◌, ◌++◌, refl, sym, ◌∙◌, ap, subst, arith}
 use Rattle.std.proofs.lemmas.List.Folds.{list_any-append}
 use Rattle.std.proofs.lemmas.List.{append_assoc, append-nil}
 use Rattle.console_link.specs.declared.link.Accepted.TheVariants as accepted
-use Rattle.console_link.specs.Links.{LinkSeen, Passed, nothing_passed, Done, Did, DidAccept, DidRead, DidWrite, DidClose, passed_after, numbers_after, accepts}
+use Rattle.console_link.specs.Links.{LinkSeen, Passed, Done, Did, DidAccept, DidClose, passed_after, numbers_after, accepts}
 use Rattle.console_server.specs.Readings.{Gave, bytes_of, did_read, DidAll, Nothing, Then}
-use Rattle.console_server.specs.Turns.{Talk, HeardOf, Told, Wrote, sent_of, if_over, calls_heard, all_calls_heard, all_seats_after, AreHeard, seat_after, put_first, calls_told, all_calls_told, all_seats_told, seat_told, AreTold, calls_of_new, last_accept}
+use Rattle.console_server.specs.Turns.{Talk, HeardOf, Told, Wrote, sent_of, if_over, calls_heard, all_calls_heard, all_seats_after, AreHeard, seat_after, put_first, calls_told, all_calls_told, all_seats_told, seat_told, AreTold}
 use Rattle.console_server.specs.Writings.{did_write}
 use Rattle.console_server.proofs.DeskLaws.{false_is}
 use Rattle.console_laws.specs.Laws.{ReadsAreTaken, WritesAreSent}

@@ -1,12 +1,11 @@
 -- Why reading a connection stops.
-use Rattle.std.specs.Prelude.{Bool, true, false, nat_eq, if◌then◌else◌, length, map}
-use Rattle.std.proofs.Common.{◌≡◌, ℕ, ◌+◌, ◌-◌, ◌≤◌, List, [], ◌∷◌, ◌++◌, refl, sym, ◌∙◌, ap, subst, arith, length-append}
+use Rattle.std.specs.Prelude.{Bool, true, false, nat_eq, length, map}
+use Rattle.std.proofs.Common.{◌≡◌, ℕ, ◌+◌, ◌-◌, ◌≤◌, List, [], ◌∷◌, refl, sym, ◌∙◌, ap, subst, arith, length-append}
 use Rattle.std.proofs.lemmas.Bool.Decides.{nat_tests}
-use Rattle.std.proofs.lemmas.List.{append_assoc, append-nil}
 use Rattle.faults.specs.Faults.{Rose}
 use Rattle.console_link.specs.declared.link.LinkGot.{LinkGot}
 use Rattle.console_link.specs.declared.link.LinkGot.TheVariants as got
-use Rattle.console_link.specs.Links.{LinkSeen, Passed, Did, DidRead, Rises, is_failed, not_yet}
+use Rattle.console_link.specs.Links.{LinkSeen, Did, DidRead, Rises, is_failed, not_yet}
 use Rattle.console_server.specs.Readings.{Gave, bytes_of, did_read, DidAll, Nothing, Then, MayStop, IsReading}
 use Rattle.console_laws.specs.Stops.{WhyStopped, Full, NotReady, Faulty, IsOver}
 

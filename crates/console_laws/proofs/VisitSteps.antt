@@ -1,19 +1,17 @@
 -- What a turn adds to a console's visits.
-use Rattle.std.specs.Prelude.{Bool, true, false, nat_eq, if◌then◌else◌, map, length, get_or, Option, Some, None}
+use Rattle.std.specs.Prelude.{Bool, true, false, nat_eq, if◌then◌else◌, get_or, Option, Some, None}
 use Rattle.std.specs.List.{All, flat_map}
-use Rattle.std.proofs.Common.{◌≡◌, ◌≢◌, ℕ, zero, suc, ◌+◌, ◌-◌, ◌<◌, ◌≤◌, List, [], ◌∷◌, ◌++◌, refl, sym, ◌∙◌, ap, subst, arith}
-use Rattle.std.proofs.lemmas.Bool.Decides.{nat_tests}
+use Rattle.std.proofs.Common.{◌≡◌, ◌≢◌, ℕ, ◌+◌, ◌-◌, ◌≤◌, List, [], ◌∷◌, ◌++◌, refl, sym, ◌∙◌, ap, subst, arith}
 use Rattle.std.proofs.lemmas.List.{append_assoc, append-nil}
 use Rattle.std.proofs.lemmas.List.Elements.{All-append, All-cons, All-nil}
 use Rattle.ctss_types.specs.declared.script.Event.{Event}
 use Rattle.ctss_types.specs.declared.script.Event.TheVariants.{Dial, Hang}
-use Rattle.ctss_types.specs.declared.script.Timed.{Timed}
 use Rattle.console_wire.specs.Items.{items_from, piece_from}
 use Rattle.console_wire.proofs.Cuts.{items_of_both, piece_of_both}
 use Rattle.console_server.specs.Readings.{Gave, bytes_of, timed, all_timed}
-use Rattle.console_server.specs.Turns.{Talk, Desk, TurnAnswers, IsTurn, HeardOf, Told, Wrote, IsToldOf, if_over, end_of, talk_of, events_heard, all_events_heard, seat_after, free_from, put_first, seats_with, dial, dials, seated, seat_told, hangs, seats_to_read, seats_to_write, events_of_turn, desk_after}
+use Rattle.console_server.specs.Turns.{Talk, Desk, TurnAnswers, IsTurn, Wrote, IsToldOf, if_over, talk_of, events_heard, all_events_heard, seat_after, free_from, put_first, seats_with, dial, dials, seated, seat_told, hangs, seats_to_read, seats_to_write, events_of_turn, desk_after}
 use Rattle.console_server.specs.Visits.{Visit, events_of_visit, events_at}
-use Rattle.console_laws.proofs.Watching.{Watch, hung, ended, ended_if, new_visit, come, all_come, with_bytes, read, read_at, heard_at, watched, none_heard, none_told, said, IsTalkOf, IsNow, OnNow, Watched}
+use Rattle.console_laws.proofs.Watching.{Watch, hung, ended, ended_if, new_visit, come, all_come, with_bytes, read, read_at, heard_at, watched, none_told, said, IsNow, OnNow, Watched}
 use Rattle.console_laws.proofs.AtConsole.{same_of, not_same, some_is, none_is, number_of, at_both, all_here, hang_if, hangs_at, heard_there, seat_heard, seat_sent, told_lawful, lost_at, free_seat, put_here, put_there, dial_here, dial_there}
 
 pub fm_both : (xs ys : List Visit) → flat_map events_of_visit (xs ++ ys) ≡ flat_map events_of_visit xs ++ flat_map events_of_visit ys
@@ -67,9 +65,11 @@ module _ (console : ℕ) (P : Visit → Type 0) (keeps : (v w : Visit) → v.tur
     where
       items : List Event
       items = items_from t.piece (bytes_of reads)
+
       at_end : (over' : Bool) → events_at console (events_heard tick console (Some t) reads over') ≡ items ++ if_over over' (Hang ∷ [])
       at_end true = at_both console (all_timed tick console items) (timed tick console Hang ∷ []) ∙ (λ i. all_here console tick items i ++ all_here console tick (Hang ∷ []) i)
       at_end false = at_both console (all_timed tick console items) [] ∙ (λ i. all_here console tick items i ++ [])
+
       by_now : (now : Option Visit) → IsNow (Some t) false now → events ≡ flat_map events_of_visit w.past ++ said now → OnNow P now →
           Watched P (seat_after (Some t) reads over) false (events ++ events_at console (events_heard tick console (Some t) reads over)) (ended_if over (record { past = w.past; now = with_bytes (bytes_of reads) now }))
       by_now None fits heard place = absurd fits
@@ -77,11 +77,13 @@ module _ (console : ℕ) (P : Visit → Type 0) (keeps : (v w : Visit) → v.tur
         where
           more : Visit
           more = record v { bytes = v.bytes ++ bytes_of reads }
+
           heard_more : events ++ items ≡ flat_map events_of_visit w.past ++ said (Some more)
           heard_more =
               ap (λ (l : List Event). l ++ items) heard
               ∙ append_assoc (flat_map events_of_visit w.past) (said (Some v)) items
               ∙ ap (λ (l : List Event). flat_map events_of_visit w.past ++ (Dial ∷ l)) (ap (λ (p : List ℕ). items_from [] v.bytes ++ items_from p (bytes_of reads)) fits.piece ∙ sym (items_of_both [] v.bytes (bytes_of reads)))
+
           by_over : (o : Bool) → Watched P (seat_after (Some t) reads o) false (events ++ events_at console (events_heard tick console (Some t) reads o)) (ended_if o (record { past = w.past; now = Some more }))
           by_over true =
               subst (λ (l : List Event). Watched P None false l (ended w.past (Some more))) (append_assoc events items (Hang ∷ []) ∙ ap (λ (l : List Event). events ++ l) (sym (at_end true)))
@@ -114,14 +116,18 @@ module _ (console : ℕ) (P : Visit → Type 0) (keeps : (v w : Visit) → v.tur
       where
         seat : Option Talk
         seat = get_or seats (console - 1) None
+
         came : Watch → Watch
         came x = record x { now = Some (new_visit console turn texts id) }
+
         Goal : Option ℕ → Type 0
         Goal free = Watched P (get_or (put_first (talk_of texts free id) seats) (console - 1) None) false (events ++ events_at console (dial tick free)) (come console turn texts free id w)
+
         still : (t : Talk) → ((c : ℕ) → free_from 1 seats ≡ Some c → c ≢ 1 + (console - 1)) → Watched P (get_or (put_first t seats) (console - 1) None) false (events ++ []) w
         still t apart =
             subst (λ (s : Option Talk). Watched P s false (events ++ []) w) (sym (put_there 1 (console - 1) t seats apart))
             (record { hung = h.hung; heard = append-nil events ∙ h.heard; now = h.now; places = h.places; place = h.place })
+
         here : Watched P None false events w → Watched P (Some (talk_of texts (Some console) id)) false (events ++ Dial ∷ []) (record w { now = Some (new_visit console turn texts id) })
         here k = by_now w.now k.now k.heard
           where
@@ -135,6 +141,7 @@ module _ (console : ℕ) (P : Visit → Type 0) (keeps : (v w : Visit) → v.tur
                   place = new id;
                 }
             by_now (Some v) fits heard = absurd fits
+
         by_free : (free : Option ℕ) → free_from 1 seats ≡ free → Goal free
         by_free None is = still (talk_of texts None id) (λ c some. none_is c (sym is ∙ some))
         by_free (Some c) is = by_test (nat_eq c console) refl

@@ -1,26 +1,25 @@
 -- The visits of many turns.
-use Rattle.std.specs.Prelude.{Bool, true, false, ◌^◌, replicate, map, length, take, drop, get_or, Option, Some, None}
+use Rattle.std.specs.Prelude.{Bool, true, false, ◌^◌, replicate, length, take, drop, get_or, Option, Some, None}
 use Rattle.std.specs.List.{All, AllZip, flat_map}
-use Rattle.std.proofs.Common.{◌≡◌, ℕ, zero, suc, ◌+◌, ◌-◌, ◌*◌, ◌<◌, ◌≤◌, List, [], ◌∷◌, ◌++◌, refl, sym, ◌∙◌, ap, subst, arith, ◌⊎◌, inl, inr}
-use Rattle.std.proofs.lemmas.List.{append_assoc, append-nil, take_at, get_or-replicate, get_or_past}
-use Rattle.std.proofs.lemmas.List.Elements.{All-append, All-cons, All-nil, All-get_or}
+use Rattle.std.proofs.Common.{◌≡◌, ℕ, zero, suc, ◌-◌, ◌*◌, ◌<◌, ◌≤◌, List, [], ◌∷◌, ◌++◌, refl, sym, ◌∙◌, ap, subst, arith}
+use Rattle.std.proofs.lemmas.List.{append_assoc, append-nil, take_at}
+use Rattle.std.proofs.lemmas.List.Elements.{All-append, All-cons, All-nil}
 use Rattle.ctss_types.specs.declared.script.Event.{Event}
 use Rattle.ctss_types.specs.declared.script.Event.TheVariants.{Dial, Hang}
-use Rattle.ctss_types.specs.declared.script.Timed.{Timed}
 use Rattle.console_wire.specs.Items.{items_from}
-use Rattle.console_link.specs.Links.{LinkSeen, Passed}
+use Rattle.console_link.specs.Links.{LinkSeen}
 use Rattle.live_core.specs.Core.{Grows}
 use Rattle.console_server.specs.Readings.{DidAll, Nothing}
-use Rattle.console_server.specs.Turns.{Talk, Desk, TurnAnswers, if_over, end_of, calls_of_turn, events_of_turn, desk_after}
+use Rattle.console_server.specs.Turns.{Talk, Desk, if_over, end_of, calls_of_turn, events_of_turn, desk_after}
 use Rattle.console_server.specs.History.{events_in}
 use Rattle.console_server.specs.Conversation.{TurnSeen, AreTurns, calls_of_turns, events_of_turns, desk_behind, texts_behind}
-use Rattle.console_server.specs.Visits.{Visit, OneAtATime, events_of_visit, events_at, AreVisits}
+use Rattle.console_server.specs.Visits.{Visit, OneAtATime, events_of_visit, events_at}
 use Rattle.console_laws.specs.VisitLaws.{EventsAreVisits}
 use Rattle.console_laws.proofs.Watching.{Watch, new_visit, watched, all_watched, said, IsNow, OnNow, Watched}
 use Rattle.console_laws.proofs.AtConsole.{at_both}
 use Rattle.console_laws.proofs.VisitSteps.{fm_both, turn_step}
 use Rattle.console_laws.proofs.Passing.{tells_still, tells_same, did_split, OnSeat, WasGiven}
-use Rattle.console_laws.proofs.KeptSteps.{Begins, Carried, IsOver, IsOn, Kept, kept_turn}
+use Rattle.console_laws.proofs.KeptSteps.{Begins, IsOver, IsOn, Kept, kept_turn}
 
 -- the texts
 
@@ -202,14 +201,16 @@ events_are_visits console texts desk turns a b one free unlost lawful shorts did
     let last_lost = get_or (desk_behind texts desk turns).failed i false in
     let h : Watched P last_seat last_lost (events_at console events) w = heard_turns console one texts turns short 0 texts desk turns [] nothing_watched refl refl lawful start in
     let kept : b.tells ≡ true → Kept console whole b (desk_behind texts desk turns).seats w = λ tells.
-    kept_turns console one texts turns short 0 texts desk turns a b [] nothing_watched refl refl lawful refl (sym (tells_same (calls_of_turns texts desk turns) a b did) ∙ tells) did start (nothing_kept console whole a desk free) in
-    (w.past ++ as_list w.now, record {
-      heard = h.heard ∙ ap (λ (l : List Event). flat_map events_of_visit w.past ++ l) (said_is last_seat last_lost w.now h.now) ∙ sym (fm_both w.past (as_list w.now));
-      order = in_order w.past w.now h.hung;
-      places = all_visits P w.past w.now h.places h.place;
-      taken = λ tells. all_visits (λ (v : Visit). (b.passed v.id).taken ≡ v.bytes) w.past w.now
-          (λ k d lt. ((kept tells).past k d lt).carried.taken) (now_more (IsOn console whole b (desk_behind texts desk turns).seats) (λ (v : Visit). (b.passed v.id).taken ≡ v.bytes) w.now (λ v on. on.carried.taken) (kept tells).now);
-      sent = λ tells. all_visits (λ (v : Visit). (b.passed v.id).sent ≡ take (length (b.passed v.id).sent) (drop v.place whole)) w.past w.now
-          (λ k d lt. as_taken _ _ ((kept tells).past k d lt).carried.sent)
-          (now_more (IsOn console whole b (desk_behind texts desk turns).seats) (λ (v : Visit). (b.passed v.id).sent ≡ take (length (b.passed v.id).sent) (drop v.place whole)) w.now (λ v on. as_taken _ _ on.carried.sent) (kept tells).now);
-    })
+    kept_turns console one texts turns short 0 texts desk turns a b [] nothing_watched refl refl lawful refl (sym (tells_same (calls_of_turns texts desk turns) a b did) ∙ tells) did start (nothing_kept console whole a desk free) in (
+      w.past ++ as_list w.now,
+      record {
+        heard = h.heard ∙ ap (λ (l : List Event). flat_map events_of_visit w.past ++ l) (said_is last_seat last_lost w.now h.now) ∙ sym (fm_both w.past (as_list w.now));
+        order = in_order w.past w.now h.hung;
+        places = all_visits P w.past w.now h.places h.place;
+        taken = λ tells. all_visits (λ (v : Visit). (b.passed v.id).taken ≡ v.bytes) w.past w.now
+            (λ k d lt. ((kept tells).past k d lt).carried.taken) (now_more (IsOn console whole b (desk_behind texts desk turns).seats) (λ (v : Visit). (b.passed v.id).taken ≡ v.bytes) w.now (λ v on. on.carried.taken) (kept tells).now);
+        sent = λ tells. all_visits (λ (v : Visit). (b.passed v.id).sent ≡ take (length (b.passed v.id).sent) (drop v.place whole)) w.past w.now
+            (λ k d lt. as_taken _ _ ((kept tells).past k d lt).carried.sent)
+            (now_more (IsOn console whole b (desk_behind texts desk turns).seats) (λ (v : Visit). (b.passed v.id).sent ≡ take (length (b.passed v.id).sent) (drop v.place whole)) w.now (λ v on. as_taken _ _ on.carried.sent) (kept tells).now);
+      },
+    )

@@ -1,8 +1,7 @@
 -- Why writing a connection stops.
-use Rattle.std.specs.Prelude.{Bool, true, false, nat_eq, min, take, drop, length, map}
+use Rattle.std.specs.Prelude.{Bool, true, false, min, take, drop, length, map}
 use Rattle.std.proofs.Common.{◌≡◌, ℕ, ◌+◌, ◌-◌, ◌≤◌, List, [], ◌∷◌, ◌++◌, refl, sym, ◌∙◌, ap, subst, arith, inl, inr, ◌⊎◌, length-append, length-take}
 use Rattle.std.proofs.lemmas.List.{take-append-drop, nil_from_length}
-use Rattle.faults.specs.Faults.{Rose}
 use Rattle.console_link.specs.declared.link.LinkTook.{LinkTook}
 use Rattle.console_link.specs.declared.link.LinkTook.TheVariants as took
 use Rattle.console_link.specs.Links.{LinkSeen, Did, DidWrite, Rises, is_failed, not_yet}

@@ -1,5 +1,5 @@
--- claim: how many calls a turn makes, that a link which lists its calls lists them all, why reading and writing stop, and whose
--- counts a call moves.
+-- claim: how many calls a turn makes, that a link which lists its calls lists them all, why reading and writing stop, and
+-- whose counts a call moves.
 use Rattle.std.specs.Prelude.{◌≡◌, ℕ, ◌-◌, ◌≤◌, Bool, true, false, List, ◌++◌, length, map, if◌then◌else◌, Some}
 use Rattle.std.specs.List.{All}
 use Rattle.console_link.specs.Links.{LinkSeen, CallList, Counts, Done, call_of, names, accepts, is_at}
@@ -8,11 +8,11 @@ use Rattle.console_server.specs.Turns.{Desk, TurnAnswers, calls_of_turn, IsTurn,
 use Rattle.console_server.specs.Writings.{did_write}
 use Rattle.console_laws.specs.Stops.{WhyStopped, WhyWritingStopped}
 
--- a turn over 32 consoles makes so many calls at most, of any kind
+-- a turn over 32 consoles makes at most so many calls
 abbrev pub FewCalls : Type 0
 FewCalls =
-    (texts shown : List (List ℕ)) (desk : Desk) (turn : TurnAnswers) → length desk.seats ≡ 32 → IsTurn texts shown desk turn
-    → length (calls_of_turn texts desk turn) ≤ 164000
+    (texts shown : List (List ℕ)) (desk : Desk) (turn : TurnAnswers) → length desk.seats ≡ 32
+    → IsTurn texts shown desk turn → length (calls_of_turn texts desk turn) ≤ 164000
 
 -- a link that lists its calls, and has the room, lists these in order
 abbrev pub CallsAreTold : Type 0

@@ -1,5 +1,5 @@
-//! What holds of turns one after another: how many calls one makes, why reading and writing stop, whose counts a call moves, and
-//! what a console's visits are.
+//! What holds of turns one after another: how many calls one makes, why reading and writing stop, whose counts a call
+//! moves, and what a console's visits are.
 //!
 //! The definitions stand in `specs/`. The functions here do nothing: each carries a law.
 #![tactic(auto)]

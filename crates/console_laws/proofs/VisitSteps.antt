@@ -1,7 +1,7 @@
 -- What a turn adds to a console's visits.
 use Rattle.std.specs.Prelude.{Bool, true, false, nat_eq, if◌then◌else◌, get_or, Option, Some, None}
 use Rattle.std.specs.List.{All, flat_map}
-use Rattle.std.proofs.Common.{◌≡◌, ◌≢◌, ℕ, ◌+◌, ◌-◌, ◌≤◌, List, [], ◌∷◌, ◌++◌, refl, sym, ◌∙◌, ap, subst, arith}
+use Rattle.std.proofs.Common.{◌≡◌, ◌≢◌, ℕ, suc, ◌+◌, ◌-◌, ◌≤◌, List, [], ◌∷◌, ◌++◌, refl, sym, ◌∙◌, ap, subst, arith}
 use Rattle.std.proofs.lemmas.List.{append_assoc, append-nil}
 use Rattle.std.proofs.lemmas.List.Elements.{All-append, All-cons, All-nil}
 use Rattle.ctss_types.specs.declared.script.Event.{Event}
@@ -29,7 +29,7 @@ piece_none : piece_from [] [] ≡ []
 unfolding piece_from
 piece_none = refl
 
-module _ (console : ℕ) (P : Visit → Type 0) (keeps : (v w : Visit) → v.turn ≡ w.turn → v.place ≡ w.place → P v → P w) where
+module _ (console : ℕ) (P : Visit → Type 0) (keeps : (v w : Visit) → v.id ≡ w.id → v.turn ≡ w.turn → v.place ≡ w.place → P v → P w) where
   -- its end is heard
   is_ended : (events : List Event) (past : List Visit) (v : Visit) → All (λ (x : Visit). x.hung ≡ true) past → events ≡ flat_map events_of_visit past ++ said (Some v) → All P past → P v → Watched P None false (events ++ Hang ∷ []) (ended past (Some v))
   is_ended events past v all is places place =
@@ -39,7 +39,7 @@ module _ (console : ℕ) (P : Visit → Type 0) (keeps : (v w : Visit) → v.tur
             ∙ append_assoc (flat_map events_of_visit past) (said (Some v)) (Hang ∷ [])
             ∙ sym (append-nil (flat_map events_of_visit (past ++ hung v ∷ [])) ∙ fm_both past (hung v ∷ []) ∙ ap (λ (l : List Event). flat_map events_of_visit past ++ l) (append-nil (events_of_visit (hung v))));
         now = tt;
-        places = All-append P past (hung v ∷ []) places (all_one P (hung v) (keeps v (hung v) refl refl place));
+        places = All-append P past (hung v ∷ []) places (all_one P (hung v) (keeps v (hung v) refl refl refl place));
         place = tt;
       }
 
@@ -87,14 +87,14 @@ module _ (console : ℕ) (P : Visit → Type 0) (keeps : (v w : Visit) → v.tur
           by_over : (o : Bool) → Watched P (seat_after (Some t) reads o) false (events ++ events_at console (events_heard tick console (Some t) reads o)) (ended_if o (record { past = w.past; now = Some more }))
           by_over true =
               subst (λ (l : List Event). Watched P None false l (ended w.past (Some more))) (append_assoc events items (Hang ∷ []) ∙ ap (λ (l : List Event). events ++ l) (sym (at_end true)))
-              (is_ended (events ++ items) w.past more h.hung heard_more h.places (keeps v more refl refl place))
+              (is_ended (events ++ items) w.past more h.hung heard_more h.places (keeps v more refl refl refl place))
           by_over false =
               record {
                 hung = h.hung;
                 heard = ap (λ (l : List Event). events ++ l) (at_end false ∙ append-nil items) ∙ heard_more;
                 now = record { hung = fits.hung; id = fits.id; piece = ap (λ (p : List ℕ). piece_from p (bytes_of reads)) fits.piece ∙ sym (piece_of_both [] v.bytes (bytes_of reads)) };
                 places = h.places;
-                place = keeps v more refl refl place;
+                place = keeps v more refl refl refl place;
               }
 
   -- its text was sent
@@ -108,11 +108,11 @@ module _ (console : ℕ) (P : Visit → Type 0) (keeps : (v w : Visit) → v.tur
       by_now false None fits = fits
       by_now false (Some v) fits = record { hung = fits.hung; id = fits.id; piece = fits.piece }
 
-  module _ (one : 1 ≤ console) (turn : ℕ) (texts : List (List ℕ)) (new : (id : ℕ) → P (new_visit console turn texts id)) where
+  module _ (one : 1 ≤ console) (turn : ℕ) (texts : List (List ℕ)) where
     -- one new connection
-    come_step : (tick id : ℕ) (seats : List (Option Talk)) (events : List Event) (w : Watch) → Watched P (get_or seats (console - 1) None) false events w →
+    come_step : (tick id : ℕ) (seats : List (Option Talk)) (events : List Event) (w : Watch) → P (new_visit console turn texts id) → Watched P (get_or seats (console - 1) None) false events w →
         Watched P (get_or (seats_with texts id seats) (console - 1) None) false (events ++ events_at console (dial tick (free_from 1 seats))) (come console turn texts (free_from 1 seats) id w)
-    come_step tick id seats events w h = by_free (free_from 1 seats) refl
+    come_step tick id seats events w new h = by_free (free_from 1 seats) refl
       where
         seat : Option Talk
         seat = get_or seats (console - 1) None
@@ -138,7 +138,7 @@ module _ (console : ℕ) (P : Visit → Type 0) (keeps : (v w : Visit) → v.tur
                   heard = ap (λ (l : List Event). l ++ Dial ∷ []) (heard ∙ append-nil (flat_map events_of_visit w.past)) ∙ ap (λ (l : List Event). flat_map events_of_visit w.past ++ (Dial ∷ l)) (sym items_none);
                   now = record { hung = refl; id = refl; piece = sym piece_none };
                   places = h.places;
-                  place = new id;
+                  place = new;
                 }
             by_now (Some v) fits heard = absurd fits
 
@@ -166,22 +166,22 @@ module _ (console : ℕ) (P : Visit → Type 0) (keeps : (v w : Visit) → v.tur
                 (subst (λ (x : Watch). Watched P (get_or (put_first (talk_of texts (Some c) id) seats) (console - 1) None) false (events ++ []) x) (sym watch_is) (still (talk_of texts (Some c) id) elsewhere))
 
     -- all new connections of a turn
-    all_come_step : (tick : ℕ) (seats : List (Option Talk)) (ids : List ℕ) (events : List Event) (w : Watch) → Watched P (get_or seats (console - 1) None) false events w →
+    all_come_step : (tick : ℕ) (seats : List (Option Talk)) (ids : List ℕ) (events : List Event) (w : Watch) → All (λ (id : ℕ). P (new_visit console turn texts id)) ids → Watched P (get_or seats (console - 1) None) false events w →
         Watched P (get_or (seated texts seats ids) (console - 1) None) false (events ++ events_at console (dials tick texts seats ids)) (all_come console turn texts seats ids w)
-    all_come_step tick seats [] events w h = subst (λ (l : List Event). Watched P (get_or seats (console - 1) None) false l w) (sym (append-nil events)) h
-    all_come_step tick seats (id ∷ ids) events w h =
+    all_come_step tick seats [] events w news h = subst (λ (l : List Event). Watched P (get_or seats (console - 1) None) false l w) (sym (append-nil events)) h
+    all_come_step tick seats (id ∷ ids) events w news h =
         let first = dial tick (free_from 1 seats) in
         let rest = dials tick texts (seats_with texts id seats) ids in
         subst (λ (l : List Event). Watched P (get_or (seated texts (seats_with texts id seats) ids) (console - 1) None) false l (all_come console turn texts (seats_with texts id seats) ids (come console turn texts (free_from 1 seats) id w)))
         (append_assoc events (events_at console first) (events_at console rest) ∙ ap (λ (l : List Event). events ++ l) (sym (at_both console first rest)))
-        (all_come_step tick (seats_with texts id seats) ids (events ++ events_at console first) (come console turn texts (free_from 1 seats) id w) (come_step tick id seats events w h))
+        (all_come_step tick (seats_with texts id seats) ids (events ++ events_at console first) (come console turn texts (free_from 1 seats) id w) (λ k d lt. news (suc k) d (omega (arith, lt))) (come_step tick id seats events w (news 0 id (omega arith)) h))
 
     -- a whole turn
-    pub turn_step : (tick : ℕ) (shown : List (List ℕ)) (desk : Desk) (answers : TurnAnswers) (events : List Event) (w : Watch) → IsTurn texts shown desk answers →
+    pub turn_step : (tick : ℕ) (shown : List (List ℕ)) (desk : Desk) (answers : TurnAnswers) (events : List Event) (w : Watch) → IsTurn texts shown desk answers → All (λ (id : ℕ). P (new_visit console turn texts id)) answers.accepts →
         Watched P (get_or desk.seats (console - 1) None) (get_or desk.failed (console - 1) false) events w →
         Watched P (get_or (desk_after texts desk answers).seats (console - 1) None) (get_or (desk_after texts desk answers).failed (console - 1) false)
         (events ++ events_at console (events_of_turn tick texts desk answers)) (watched console turn texts desk answers w)
-    turn_step tick shown desk answers events w lawful h =
+    turn_step tick shown desk answers events w lawful news h =
         let i = console - 1 in
         let lost = get_or desk.failed i false in
         let first = seats_to_read texts desk answers in
@@ -198,7 +198,7 @@ module _ (console : ℕ) (P : Visit → Type 0) (keeps : (v w : Visit) → v.tur
         let w2 = all_come console turn texts desk.seats answers.accepts w1 in
         let w3 = read_at console texts desk answers w2 in
         let h1 : Watched P (get_or desk.seats i None) false one_events w1 = hang_step (get_or desk.seats i None) lost events w h in
-        let h2 : Watched P (get_or first i None) false two_events w2 = all_come_step tick desk.seats answers.accepts one_events w1 h1 in
+        let h2 : Watched P (get_or first i None) false two_events w2 = all_come_step tick desk.seats answers.accepts one_events w1 news h1 in
         let h3 : Watched P (seat_after (get_or first i None) heard.reads heard.over) false three_events w3 = read_step tick (get_or first i None) heard.reads heard.over two_events w2 h2 in
         let h4 : Watched P (get_or second i None) false three_events w3 = subst (λ (o : Option Talk). Watched P o false three_events w3) (sym (seat_heard i first answers.heard lawful.heard)) h3 in
         let zero_plus : i ≡ 0 + i = omega arith in

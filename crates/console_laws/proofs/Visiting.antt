@@ -1,9 +1,9 @@
 -- The visits of many turns.
 use Rattle.std.specs.Prelude.{Bool, true, false, ◌^◌, replicate, length, take, drop, get_or, Option, Some, None}
-use Rattle.std.specs.List.{All, AllZip, flat_map}
+use Rattle.std.specs.List.{All, AllZip, Contains, flat_map}
 use Rattle.std.proofs.Common.{◌≡◌, ℕ, zero, suc, ◌-◌, ◌*◌, ◌<◌, ◌≤◌, List, [], ◌∷◌, ◌++◌, refl, sym, ◌∙◌, ap, subst, arith}
 use Rattle.std.proofs.lemmas.List.{append_assoc, append-nil, take_at}
-use Rattle.std.proofs.lemmas.List.Elements.{All-append, All-cons, All-nil}
+use Rattle.std.proofs.lemmas.List.Elements.{All-append, All-cons, All-nil, Contains-get_or}
 use Rattle.ctss_types.specs.declared.script.Event.{Event}
 use Rattle.ctss_types.specs.declared.script.Event.TheVariants.{Dial, Hang}
 use Rattle.console_wire.specs.Items.{items_from}
@@ -14,7 +14,7 @@ use Rattle.console_server.specs.Turns.{Talk, Desk, if_over, end_of, calls_of_tur
 use Rattle.console_server.specs.History.{events_in}
 use Rattle.console_server.specs.Conversation.{TurnSeen, AreTurns, calls_of_turns, events_of_turns, desk_behind, texts_behind}
 use Rattle.console_server.specs.Visits.{Visit, OneAtATime, events_of_visit, events_at}
-use Rattle.console_laws.specs.VisitLaws.{EventsAreVisits}
+use Rattle.console_laws.specs.VisitLaws.{accepted_in, EventsAreVisits}
 use Rattle.console_laws.proofs.Watching.{Watch, new_visit, watched, all_watched, said, IsNow, OnNow, Watched}
 use Rattle.console_laws.proofs.AtConsole.{at_both}
 use Rattle.console_laws.proofs.VisitSteps.{fm_both, turn_step}
@@ -69,44 +69,60 @@ texts_next zero texts t turns (x ∷ all) is = ap (λ (s : TurnSeen). s.shown) (
 texts_next (suc n) texts t turns [] is = no_turn t turns is
 texts_next (suc n) texts t turns (x ∷ all) is = texts_next n x.shown t turns all is
 
+accepted_at : (n : ℕ) (t : TurnSeen) (turns all : List TurnSeen) → t ∷ turns ≡ drop n all → t.answers.accepts ≡ accepted_in n all
+accepted_at zero t turns [] is = no_turn t turns is
+accepted_at zero t turns (x ∷ all) is = ap (λ (s : TurnSeen). s.answers.accepts) (same_first t x turns all is)
+accepted_at (suc n) t turns [] is = no_turn t turns is
+accepted_at (suc n) t turns (x ∷ all) is = accepted_at n t turns all is
+
 module _ (console : ℕ) (one : 1 ≤ console) (start : List (List ℕ)) (all : List TurnSeen) (short : length (get_or (texts_behind start all) (console - 1) []) < 2 ^ 64) where
-  abbrev IsPlace : Visit → Type 0
-  IsPlace v = v.place ≡ end_of (texts_behind start (take v.turn all)) (Some console)
+  -- a visit that came in its turn, and is sent its text from where that ended then
+  pub record Came (v : Visit) : Type 0 where
+    pub place : v.place ≡ end_of (texts_behind start (take v.turn all)) (Some console)
+    pub number : Contains (accepted_in v.turn all) v.id
 
-  place_kept : (v w : Visit) → v.turn ≡ w.turn → v.place ≡ w.place → IsPlace v → IsPlace w
-  place_kept v w turn place is = sym place ∙ is ∙ ap (λ (n : ℕ). end_of (texts_behind start (take n all)) (Some console)) turn
+  came_still : (v w : Visit) → v.id ≡ w.id → v.turn ≡ w.turn → v.place ≡ w.place → Came v → Came w
+  came_still v w id turn place c =
+      record {
+        place = sym place ∙ c.place ∙ ap (λ (n : ℕ). end_of (texts_behind start (take n all)) (Some console)) turn;
+        number = subst (λ (n : ℕ). Contains (accepted_in n all) w.id) turn (subst (Contains (accepted_in v.turn all)) id c.number);
+      }
 
-  new_place : (n id : ℕ) (texts : List (List ℕ)) → texts ≡ texts_behind start (take n all) → IsPlace (new_visit console n texts id)
-  new_place n id texts is = ap (λ (l : List (List ℕ)). end_of l (Some console)) is
+  all_came : (n : ℕ) (texts : List (List ℕ)) (t : TurnSeen) (turns : List TurnSeen) → t ∷ turns ≡ drop n all → texts ≡ texts_behind start (take n all) → All (λ (id : ℕ). Came (new_visit console n texts id)) t.answers.accepts
+  all_came n texts t turns left is k d lt =
+      record {
+        place = ap (λ (l : List (List ℕ)). end_of l (Some console)) is;
+        number = subst (λ (ids : List ℕ). Contains ids (get_or t.answers.accepts k d)) (accepted_at n t turns all left) (Contains-get_or t.answers.accepts k d lt);
+      }
 
   -- what the core hears at the console
   heard_turns : (n : ℕ) (texts : List (List ℕ)) (desk : Desk) (turns : List TurnSeen) (events : List Event) (w : Watch) → turns ≡ drop n all → texts ≡ texts_behind start (take n all) → AreTurns texts desk turns →
-      Watched IsPlace (get_or desk.seats (console - 1) None) (get_or desk.failed (console - 1) false) events w →
-      Watched IsPlace (get_or (desk_behind texts desk turns).seats (console - 1) None) (get_or (desk_behind texts desk turns).failed (console - 1) false)
+      Watched Came (get_or desk.seats (console - 1) None) (get_or desk.failed (console - 1) false) events w →
+      Watched Came (get_or (desk_behind texts desk turns).seats (console - 1) None) (get_or (desk_behind texts desk turns).failed (console - 1) false)
       (events ++ events_at console (events_in (events_of_turns n texts desk turns))) (all_watched console n texts desk turns w)
   heard_turns n texts desk [] events w left at lawful h =
-      subst (λ (l : List Event). Watched IsPlace (get_or desk.seats (console - 1) None) (get_or desk.failed (console - 1) false) l w) (sym (append-nil events)) h
+      subst (λ (l : List Event). Watched Came (get_or desk.seats (console - 1) None) (get_or desk.failed (console - 1) false) l w) (sym (append-nil events)) h
   heard_turns n texts desk (t ∷ turns) events w left at lawful h =
       let next = desk_after texts desk t.answers in
       let here = events_of_turn (1000 * n) texts desk t.answers in
       let rest = events_in (events_of_turns (suc n) t.shown next turns) in
       let w1 = watched console n texts desk t.answers w in
-      let h1 = turn_step console IsPlace place_kept one n texts (λ id. new_place n id texts at) (1000 * n) t.shown desk t.answers events w lawful.0 h in
-      subst (λ (l : List Event). Watched IsPlace (get_or (desk_behind t.shown next turns).seats (console - 1) None) (get_or (desk_behind t.shown next turns).failed (console - 1) false) l (all_watched console (suc n) t.shown next turns w1))
+      let h1 = turn_step console Came came_still one n texts (1000 * n) t.shown desk t.answers events w lawful.0 (all_came n texts t turns left at) h in
+      subst (λ (l : List Event). Watched Came (get_or (desk_behind t.shown next turns).seats (console - 1) None) (get_or (desk_behind t.shown next turns).failed (console - 1) false) l (all_watched console (suc n) t.shown next turns w1))
       (append_assoc events (events_at console here) (events_at console rest) ∙ ap (λ (l : List Event). events ++ l) (sym (at_both console here rest)))
       (heard_turns (suc n) t.shown next turns (events ++ events_at console here) w1 (left_next n t turns all left) (texts_next n start t turns all left) lawful.1.1 h1)
 
   -- what passes over its connections
   kept_turns : (n : ℕ) (texts : List (List ℕ)) (desk : Desk) (turns : List TurnSeen) (a b : LinkSeen) (events : List Event) (w : Watch) → turns ≡ drop n all → texts ≡ texts_behind start (take n all) → AreTurns texts desk turns →
       texts_behind texts turns ≡ texts_behind start all → a.tells ≡ true → DidAll (calls_of_turns texts desk turns) a b →
-      Watched IsPlace (get_or desk.seats (console - 1) None) (get_or desk.failed (console - 1) false) events w → Kept console (get_or (texts_behind start all) (console - 1) []) a desk.seats w →
+      Watched Came (get_or desk.seats (console - 1) None) (get_or desk.failed (console - 1) false) events w → Kept console (get_or (texts_behind start all) (console - 1) []) a desk.seats w →
       Kept console (get_or (texts_behind start all) (console - 1) []) b (desk_behind texts desk turns).seats (all_watched console n texts desk turns w)
   kept_turns n texts desk [] a b events w left at lawful whole tells (Nothing _) h k = k
   kept_turns n texts desk (t ∷ turns) a b events w left at lawful whole tells did h k =
       let next = desk_after texts desk t.answers in
       let here = events_of_turn (1000 * n) texts desk t.answers in
       let w1 = watched console n texts desk t.answers w in
-      let h1 = turn_step console IsPlace place_kept one n texts (λ id. new_place n id texts at) (1000 * n) t.shown desk t.answers events w lawful.0 h in
+      let h1 = turn_step console Came came_still one n texts (1000 * n) t.shown desk t.answers events w lawful.0 (all_came n texts t turns left at) h in
       let parts = did_split (calls_of_turn texts desk t.answers) (calls_of_turns t.shown next turns) a b did in
       let i = console - 1 in
       let last = get_or (texts_behind start all) i [] in
@@ -189,7 +205,7 @@ events_are_visits console texts desk turns a b one free unlost lawful shorts did
     let i = console - 1 in
     let whole = get_or (texts_behind texts turns) i [] in
     let short : length whole < 2 ^ 64 = short_at i (texts_behind texts turns) shorts in
-    let P = IsPlace console one texts turns short in
+    let P = Came console one texts turns short in
     let seat : get_or desk.seats i None ≡ None = ap (λ (l : List (Option Talk)). get_or l i None) free ∙ none_at 32 i in
     let lost : get_or desk.failed i false ≡ false = ap (λ (l : List Bool). get_or l i false) unlost ∙ none_lost 32 i in
     let start : Watched P (get_or desk.seats i None) (get_or desk.failed i false) [] nothing_watched =
@@ -200,17 +216,19 @@ events_are_visits console texts desk turns a b one free unlost lawful shorts did
     let last_seat = get_or (desk_behind texts desk turns).seats i None in
     let last_lost = get_or (desk_behind texts desk turns).failed i false in
     let h : Watched P last_seat last_lost (events_at console events) w = heard_turns console one texts turns short 0 texts desk turns [] nothing_watched refl refl lawful start in
+    let came : All P (w.past ++ as_list w.now) = all_visits P w.past w.now h.places h.place in
     let kept : b.tells ≡ true → Kept console whole b (desk_behind texts desk turns).seats w = λ tells.
     kept_turns console one texts turns short 0 texts desk turns a b [] nothing_watched refl refl lawful refl (sym (tells_same (calls_of_turns texts desk turns) a b did) ∙ tells) did start (nothing_kept console whole a desk free) in (
       w.past ++ as_list w.now,
       record {
         heard = h.heard ∙ ap (λ (l : List Event). flat_map events_of_visit w.past ++ l) (said_is last_seat last_lost w.now h.now) ∙ sym (fm_both w.past (as_list w.now));
         order = in_order w.past w.now h.hung;
-        places = all_visits P w.past w.now h.places h.place;
+        places = λ k d lt. (came k d lt).place;
         taken = λ tells. all_visits (λ (v : Visit). (b.passed v.id).taken ≡ v.bytes) w.past w.now
             (λ k d lt. ((kept tells).past k d lt).carried.taken) (now_more (IsOn console whole b (desk_behind texts desk turns).seats) (λ (v : Visit). (b.passed v.id).taken ≡ v.bytes) w.now (λ v on. on.carried.taken) (kept tells).now);
         sent = λ tells. all_visits (λ (v : Visit). (b.passed v.id).sent ≡ take (length (b.passed v.id).sent) (drop v.place whole)) w.past w.now
             (λ k d lt. as_taken _ _ ((kept tells).past k d lt).carried.sent)
             (now_more (IsOn console whole b (desk_behind texts desk turns).seats) (λ (v : Visit). (b.passed v.id).sent ≡ take (length (b.passed v.id).sent) (drop v.place whole)) w.now (λ v on. as_taken _ _ on.carried.sent) (kept tells).now);
       },
+      λ k d lt. (came k d lt).number,
     )

@@ -1,5 +1,5 @@
--- claim: how many calls a turn makes, that a link which lists its calls lists them all, why reading and writing stop, and
--- whose counts a call moves.
+-- claim: how many calls a turn makes, that a link which lists its calls lists them all, why reading and writing stop,
+-- whose counts a call moves, and what passes over a connection.
 use Rattle.std.specs.Prelude.{◌≡◌, ℕ, ◌-◌, ◌≤◌, Bool, true, false, List, ◌++◌, length, map, if◌then◌else◌, Some}
 use Rattle.std.specs.List.{All}
 use Rattle.console_link.specs.Links.{LinkSeen, CallList, Counts, Done, call_of, names, accepts, is_at}

@@ -1,23 +1,22 @@
--- Why reading a connection stops, and what passed over it.
-use Rattle.std.specs.Prelude.{Bool, true, false, nat_eq, if◌then◌else◌, length, map}
-use Rattle.std.proofs.Common.{◌≡◌, ℕ, ◌+◌, ◌-◌, ◌≤◌, List, [], ◌∷◌, ◌++◌, refl, sym, ◌∙◌, ap, subst, arith, length-append}
+-- Why reading a connection stops.
+use Rattle.std.specs.Prelude.{Bool, true, false, nat_eq, length, map}
+use Rattle.std.proofs.Common.{◌≡◌, ℕ, ◌+◌, ◌-◌, ◌≤◌, List, [], ◌∷◌, refl, sym, ◌∙◌, ap, subst, arith, length-append}
 use Rattle.std.proofs.lemmas.Bool.Decides.{nat_tests}
-use Rattle.std.proofs.lemmas.List.{append_assoc, append-nil}
 use Rattle.faults.specs.Faults.{Rose}
 use Rattle.console_link.specs.declared.link.LinkGot.{LinkGot}
 use Rattle.console_link.specs.declared.link.LinkGot.TheVariants as got
-use Rattle.console_link.specs.Links.{LinkSeen, Passed, Did, DidRead, Rises, is_failed, not_yet}
+use Rattle.console_link.specs.Links.{LinkSeen, Did, DidRead, Rises, is_failed, not_yet}
 use Rattle.console_server.specs.Readings.{Gave, bytes_of, did_read, DidAll, Nothing, Then, MayStop, IsReading}
-use Rattle.console_server.specs.Stops.{WhyStopped, Full, NotReady, Faulty, IsOver}
+use Rattle.console_laws.specs.Stops.{WhyStopped, Full, NotReady, Faulty, IsOver}
 
-same_number : (n : ℕ) → nat_eq n n ≡ true
+pub same_number : (n : ℕ) → nat_eq n n ≡ true
 same_number n = grind (arith, nat_tests)
 
-rises : (must : Bool) (old new : ℕ) → Rises true must old new → old ≤ new
+pub rises : (must : Bool) (old new : ℕ) → Rises true must old new → old ≤ new
 rises true old new h = h.0
 rises false old new h = h
 
-rose_later : (old mid new : ℕ) → old ≤ mid → Rose mid new → Rose old new
+pub rose_later : (old mid new : ℕ) → old ≤ mid → Rose mid new → Rose old new
 rose_later old mid new le rose = omega (arith, le, rose)
 
 rose_before : (old mid new : ℕ) → Rose old mid → mid ≤ new → Rose old new
@@ -65,11 +64,3 @@ why_stopped id over (r ∷ reads) n a b lawful (Then _ _ _ m _ did rest) = by_an
     by_answer more got.End is h =
         let here : Did (DidRead id got.End r.bytes) a m = subst (λ (g : LinkGot). Did (DidRead id g r.bytes) a m) is did in
         subst (λ (s : LinkSeen). WhyStopped id (r ∷ reads) n a s) (ended reads id m b h.2 rest) (IsOver (λ tells. (here.bytes tells).ended))
-
--- what a connection gave is what the reads gave, where that is told
-pub all_taken : (id : ℕ) (reads : List Gave) (a b : LinkSeen) → a.tells ≡ true → DidAll (map (did_read id) reads) a b → (b.passed id).taken ≡ (a.passed id).taken ++ bytes_of reads
-all_taken id [] a b tells (Nothing _) = sym (append-nil (a.passed id).taken)
-all_taken id (r ∷ reads) a b tells (Then _ _ _ m _ did rest) =
-    let here : (m.passed id).taken ≡ (a.passed id).taken ++ r.bytes =
-    ap (λ (p : Passed). p.taken) ((did.bytes tells).passed id) ∙ ap (λ (t : Bool). (if t then record (a.passed id) { taken = (a.passed id).taken ++ r.bytes } else a.passed id).taken) (same_number id) in
-    all_taken id reads m b (did.tells ∙ tells) rest ∙ ap (λ (l : List ℕ). l ++ bytes_of reads) here ∙ append_assoc (a.passed id).taken r.bytes (bytes_of reads)

@@ -1,0 +1,10 @@
+pub mod CallLaws
+pub mod StopLaws
+pub mod WriteStops
+pub mod OwnCounts
+pub mod Watching
+pub mod AtConsole
+pub mod VisitSteps
+pub mod Passing
+pub mod KeptSteps
+pub mod Visiting

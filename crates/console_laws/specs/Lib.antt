@@ -1,0 +1,3 @@
+pub mod Stops
+pub mod Laws
+pub mod VisitLaws

@@ -84,7 +84,9 @@ pub(crate) fn accept_all<C: LiveCore, L: Link>(
     requires ready { (C.seen book.old.core).is_ended ≡ false }
     requires sound { C.Sound book.old.core }
     ensures ok { (desk : List (Option Talk)) → StandAll seats.old.items desk → OnOk result (AreAccepted C.Goes tick (C.seen book.old.core).texts desk (L.seen link.old) (L.seen link.new) book.old.core book.new.core book.old.events.items book.new.events.items seats.new.items) }
-    ensures err { (desk : List (Option Talk)) → StandAll seats.old.items desk → OnErr result (AreDialled C.Goes tick (C.seen book.old.core).texts desk book.old.core book.new.core book.old.events.items book.new.events.items) }
+    ensures err { (desk : List (Option Talk)) → StandAll seats.old.items desk
+        → OnErr result (AreDialled C.Goes tick (C.seen book.old.core).texts desk
+        book.old.core book.new.core book.old.events.items book.new.events.items) }
     ensures listener { (L.seen link.old).faults ≤ (L.seen link.new).faults }
     ensures cause { result ≡ Err SeatingFault.Listener → Rose (L.seen link.old).faults (L.seen link.new).faults }
     ensures seated { AreSeated (L.seen link.new).is_open seats.new.items }

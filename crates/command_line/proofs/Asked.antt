@@ -1,10 +1,10 @@
 -- What the words ask for, by the places at which they stand.
-use Rattle.std.proofs.Common.{◌≡◌, ◌∙◌, ℕ, Bool, true, false, ◌||◌, ◌&&◌, not, List, [], ◌∷◌, ◌++◌, Option, Some, None, cond, codes, refl, sym, ap, subst, true≢false}
+use Rattle.std.proofs.Common.{◌≡◌, ◌∙◌, ℕ, Bool, true, false, ◌||◌, ◌&&◌, not, List, [], ◌∷◌, Option, Some, None, cond, codes, refl, sym, ap, true≢false}
 use Rattle.std.specs.List.{list_any, starts_with}
 use Rattle.std.specs.Prelude.{bytes_eq, nat_eq, option_to_list}
 use Rattle.std.specs.Option.{option_and_then, option_map}
 use Rattle.text_model.specs.declared.mode.Mode.{Mode}
-use Rattle.text_model.specs.Words.{Awaited, NoValue, PortValue, SortedWords, TurnsValue, is_option, mode_by, mode_of, sorted, with_plain, with_port, with_turns}
+use Rattle.text_model.specs.Words.{NoValue, PortValue, SortedWords, TurnsValue, is_option, mode_by, mode_of, sorted, with_port, with_turns}
 use Rattle.command_line.specs.Places.{Placed, is_named_option, is_other_option, placed_by, placed_of, words_at}
 
 abbrev asked_of : Placed → Option Mode
@@ -49,9 +49,9 @@ asked_at words w n p t e = ap (option_and_then asked_of) e ∙ asked_words words
 
 -- ---- words with another option
 
-neither : (b : Bool) (o : Option SortedWords) (f : SortedWords → SortedWords) → o ≡ None → cond b None (option_map f o) ≡ None
-neither true o f e = refl
-neither false o f e = ap (option_map f) e
+stays_none : (b : Bool) (o : Option SortedWords) (f : SortedWords → SortedWords) → o ≡ None → cond b None (option_map f o) ≡ None
+stays_none true o f e = refl
+stays_none false o f e = ap (option_map f) e
 
 abbrev chosen : (a b c d e : Bool) → (port turns port_given turns_given plain : Option SortedWords) → Option SortedWords
 chosen a b c d e port turns port_given turns_given plain =
@@ -99,8 +99,8 @@ unsorted_behind w words u =
     record {
       idle = rest_none (bytes_eq w (codes "--port")) (bytes_eq w (codes "--turns")) (starts_with nat_eq w (codes "--port=")) (starts_with nat_eq w (codes "--turns="))
           (is_option w) _ _ _ _ _ u.port u.turns (ap (option_map _) u.idle) (ap (option_map _) u.idle) (ap (option_map _) u.idle);
-      port = neither (is_option w) (sorted NoValue words) (with_port w) u.idle;
-      turns = neither (is_option w) (sorted NoValue words) (with_turns w) u.idle;
+      port = stays_none (is_option w) (sorted NoValue words) (with_port w) u.idle;
+      turns = stays_none (is_option w) (sorted NoValue words) (with_turns w) u.idle;
     }
 
 unsorted : (words : List (List ℕ)) → list_any is_other_option words ≡ true → Unsorted words

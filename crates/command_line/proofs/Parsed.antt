@@ -1,7 +1,7 @@
 -- What clap gives for words of which none is another option.
-use Rattle.std.proofs.Common.{◌≡◌, ℕ, false, true, List, [], ◌∷◌, Option, Some, None, codes, refl, sym, ap, ◌∙◌, subst, inl, inr}
+use Rattle.std.proofs.Common.{◌≡◌, false, true, List, [], ◌∷◌, Option, Some, None, codes, refl, sym, ap, ◌∙◌, subst, inl, inr}
 use Rattle.std.specs.List.{fold, list_any}
-use Rattle.clap.specs.Walk.{Text, first_of, nothing_held, rows_of, walk_from, walked}
+use Rattle.clap.specs.Walk.{Text, nothing_held, rows_of, walk_from, walked}
 use Rattle.clap.specs.Simple.{App, HasMatchesOf, built, is_simple, matches_of}
 use Rattle.clap.specs.Kinds.{HasKind, IsAmong, Kinds, or_else}
 use Rattle.clap.specs.Values.{kind_of}

@@ -190,7 +190,6 @@ module _ (rows : List Row) (pending : Pending) where
       (walk_at (used turns_use (v ∷ []) after) None idle position) (or_else_all fault (use_fault false turns_use (v ∷ []) after)) refl
       ∙ unless_both fault (use_fault false turns_use (v ∷ []) after) _
 
-
   pub end_settles : outcome_end (held_at rows pending) ≡ unless fault (outcome_end (held_at after None))
   unfolding outcome_end
   end_settles = unless_both fault _ _

@@ -3,15 +3,14 @@ use Rattle.std.proofs.Common.{◌≡◌, ◌∙◌, ℕ, Bool, true, false, ◌|
 use Rattle.std.specs.List.{list_any}
 use Rattle.std.specs.Prelude.{nat_eq, option_to_list}
 use Rattle.std.specs.Option.{option_and_then, option_map}
-use Rattle.std.specs.Str.{bytes_eq}
 use Rattle.std.specs.Cmp.{unsigned_Decides}
-use Rattle.text_model.specs.Words.{Awaited, NoValue, PortValue, SortedWords, TurnsValue, is_option, sorted, with_plain, with_port, with_turns}
-use Rattle.clap.specs.Walk.{Row, Text, first_of, finished, has_row, idle, option, settled_rows, used}
+use Rattle.text_model.specs.Words.{NoValue, PortValue, SortedWords, TurnsValue, is_option, sorted, with_plain, with_port, with_turns}
+use Rattle.clap.specs.Walk.{Row, Text, has_row, idle, settled_rows, used}
 use Rattle.clap.specs.Kinds.{Kinds, or_else}
-use Rattle.clap.specs.Faults.{check_fault, defaults_fault, settle_fault, use_fault}
+use Rattle.clap.specs.Faults.{check_fault, settle_fault, use_fault}
 use Rattle.clap.specs.declared.error.kind.ErrorKind.{ErrorKind}
 use Rattle.clap.specs.declared.error.kind.ErrorKind.TheVariants.{ArgumentConflict}
-use Rattle.command_line.specs.Places.{Placed, is_other_option, one_at_most, placed_by, places_of_plain}
+use Rattle.command_line.specs.Places.{Placed, is_other_option, one_at_most, placed_by}
 use Rattle.command_line.proofs.Rows.{HaveNoDefaults, given, has_row_is, none_added, none_at_fault, row_added, row_at, row_kept, used_first, value_at}
 use Rattle.command_line.proofs.Turns.{HasPort, HasTurns, IsBare, IsPort, IsTurns, Pending, WordKind, awaiting, end_settles, first_taken, held_at, mode_use, number_use, outcome_end, outcome_from, outcome_using, placed_in, plain_word, port_awaits, port_given, port_taken, port_use, port_wants, rules, second_taken, third_refused, top, turns_awaits, turns_given, turns_taken, turns_use, turns_wants, unless, walk_at, word_kind}
 

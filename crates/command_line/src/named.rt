@@ -11,6 +11,7 @@ const LARGEST_LOAD: u32 = 999_999;
 
 /// The ports at which people can connect.
 const SMALLEST_PORT: u32 = 1;
+
 const LARGEST_PORT: u32 = 65_535;
 
 /// The most turns that people are served.
@@ -73,16 +74,9 @@ fn mode_serving(word: &str, port: &str, turns: &str) -> Option<Mode>
 }
 
 /// What the words at the two places ask for, with the values of both options.
-fn mode_of_served(
-    word: Option<&str>,
-    field: Option<&str>,
-    port: &str,
-    turns: &str,
-) -> Option<Mode>
-    ensures {
-        result ≡ mode_serving (words_at (option_map (λ s. s.now) word.entry) (option_map (λ s. s.now) field.entry))
-            port.now turns.now
-    }
+fn mode_of_served(word: Option<&str>, field: Option<&str>, port: &str, turns: &str) -> Option<Mode>
+    ensures { result ≡ mode_serving (words_at (option_map (λ s. s.now) word.entry) (option_map (λ s. s.now) field.entry))
+        port.now turns.now }
 {
     match (word?, field) {
         (word, None) => mode_serving(word, port, turns),
@@ -97,10 +91,8 @@ pub(crate) fn mode_at(
     port: Option<&str>,
     turns: Option<&str>,
 ) -> Option<Mode>
-    ensures {
-        result ≡ mode_by (words_at (option_map (λ s. s.now) word.entry) (option_map (λ s. s.now) field.entry))
-            (option_to_list (option_map (λ s. s.now) port.entry)) (option_to_list (option_map (λ s. s.now) turns.entry))
-    }
+    ensures { result ≡ mode_by (words_at (option_map (λ s. s.now) word.entry) (option_map (λ s. s.now) field.entry))
+        (option_to_list (option_map (λ s. s.now) port.entry)) (option_to_list (option_map (λ s. s.now) turns.entry)) }
 {
     match (port, turns) {
         (None, None) => mode_of_words(word, field),

@@ -47,7 +47,8 @@ fn mode_with(word: &str, field: &str) -> Option<Mode>
 
 /// What the words at the two places ask for, where no option stands.
 fn mode_of_words(word: Option<&str>, field: Option<&str>) -> Option<Mode>
-    ensures { result ≡ mode_of_words (words_at (option_map (λ s. s.now) word.entry) (option_map (λ s. s.now) field.entry)) }
+    ensures { result ≡ mode_of_words
+        (words_at (option_map (λ s. s.now) word.entry) (option_map (λ s. s.now) field.entry)) }
 {
     match (word?, field) {
         (word, None) => mode_named(word),
@@ -75,8 +76,8 @@ fn mode_serving(word: &str, port: &str, turns: &str) -> Option<Mode>
 
 /// What the words at the two places ask for, with the values of both options.
 fn mode_of_served(word: Option<&str>, field: Option<&str>, port: &str, turns: &str) -> Option<Mode>
-    ensures { result ≡ mode_serving (words_at (option_map (λ s. s.now) word.entry) (option_map (λ s. s.now) field.entry))
-        port.now turns.now }
+    ensures { result ≡ mode_serving
+        (words_at (option_map (λ s. s.now) word.entry) (option_map (λ s. s.now) field.entry)) port.now turns.now }
 {
     match (word?, field) {
         (word, None) => mode_serving(word, port, turns),

@@ -1,5 +1,5 @@
 pub mod Asked
 pub mod Parsed
 pub mod Rows
-pub mod Turns
+pub mod Steps
 pub mod WordsRead

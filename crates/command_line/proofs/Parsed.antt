@@ -15,7 +15,7 @@ use Rattle.clap.proofs.FaultLemmas.{leaf_fault}
 use Rattle.clap.proofs.OnLiterals.{clap_on_literals}
 use Rattle.clap.proofs.WalkLemmas.{first_value-rows}
 use Rattle.command_line.specs.Places.{Placed, command_read, is_other_option, placed_of, values_found}
-use Rattle.command_line.proofs.Turns.{end_fault, outcome_is, placed_in, rules, top, unless}
+use Rattle.command_line.proofs.Steps.{end_fault, outcome_is, placed_in, rules, top, unless}
 use Rattle.command_line.proofs.WordsRead.{words_read}
 
 simple : is_simple command_read ≡ true

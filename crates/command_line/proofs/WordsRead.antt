@@ -12,7 +12,7 @@ use Rattle.clap.specs.declared.error.kind.ErrorKind.{ErrorKind}
 use Rattle.clap.specs.declared.error.kind.ErrorKind.TheVariants.{ArgumentConflict}
 use Rattle.command_line.specs.Places.{Placed, is_other_option, one_at_most, placed_by}
 use Rattle.command_line.proofs.Rows.{HaveNoDefaults, given, has_row_is, none_added, none_at_fault, row_added, row_at, row_kept, used_first, value_at}
-use Rattle.command_line.proofs.Turns.{HasPort, HasTurns, IsBare, IsPort, IsTurns, Pending, WordKind, awaiting, end_settles, first_taken, held_at, mode_use, number_use, outcome_end, outcome_from, outcome_using, placed_in, plain_word, port_awaits, port_given, port_taken, port_use, port_wants, rules, second_taken, third_refused, top, turns_awaits, turns_given, turns_taken, turns_use, turns_wants, unless, walk_at, word_kind}
+use Rattle.command_line.proofs.Steps.{HasPort, HasTurns, IsBare, IsPort, IsTurns, Pending, WordKind, awaiting, end_settles, first_taken, held_at, mode_use, number_use, outcome_end, outcome_from, outcome_using, placed_in, plain_word, port_awaits, port_given, port_taken, port_use, port_missed, rules, second_taken, third_refused, top, turns_awaits, turns_given, turns_taken, turns_use, turns_missed, unless, walk_at, word_kind}
 
 -- ---- what the words so far gave
 
@@ -99,8 +99,8 @@ third_nowhere port turns w n x (Some s) =
     both_nothing (one_at_most (option_to_list port ++ s.ports)) (one_at_most (option_to_list turns ++ s.turns))
 
 -- `sorted` at a word that begins otherwise than with -
-turned : (b : ℕ) → nat_eq b 45 ≡ false → nat_eq 45 b ≡ false
-turned b h = go (nat_eq 45 b) refl
+flipped : (b : ℕ) → nat_eq b 45 ≡ false → nat_eq 45 b ≡ false
+flipped b h = go (nat_eq 45 b) refl
   where
     go : (c : Bool) → nat_eq 45 b ≡ c → c ≡ false
     go true e = absurd (true≢false (subst (λ (d : ℕ). nat_eq d 45 ≡ false) (sym ((unsigned_Decides 45 b).0 e)) h))
@@ -108,7 +108,7 @@ turned b h = go (nat_eq 45 b) refl
 
 sorted_bare : (w : Text) (words : List Text) → is_option w ≡ false → sorted NoValue (w ∷ words) ≡ option_map (with_plain w) (sorted NoValue words)
 sorted_bare [] words h = refl
-sorted_bare (b ∷ w) words h = rw (h, turned b h) refl
+sorted_bare (b ∷ w) words h = rw (h, flipped b h) refl
 
 -- ---- one use of an argument that has no row yet
 
@@ -340,7 +340,7 @@ module _ (words : List Text) (reads : Reads words) where
       go : (b : Bool) → is_option w ≡ b
           → outcome_from (awaiting (codes "PORT") rows (position_behind plain)) (w ∷ words)
           ≡ placed_with plain port turns (cond b None (option_map (with_port w) (sorted NoValue words)))
-      go true h = port_wants rows (position_behind plain) w words k h
+      go true h = port_missed rows (position_behind plain) w words k h
       go false h =
           port_taken rows (position_behind plain) w words (plain_word w h) ∙ (reads.settles rows (Some (codes "PORT", w ∷ [])) plain
           ∙ port_used words reads.idle_reads rows plain port turns w s)
@@ -352,7 +352,7 @@ module _ (words : List Text) (reads : Reads words) where
       go : (b : Bool) → is_option w ≡ b
           → outcome_from (awaiting (codes "TURNS") rows (position_behind plain)) (w ∷ words)
           ≡ placed_with plain port turns (cond b None (option_map (with_turns w) (sorted NoValue words)))
-      go true h = turns_wants rows (position_behind plain) w words k h
+      go true h = turns_missed rows (position_behind plain) w words k h
       go false h =
           turns_taken rows (position_behind plain) w words (plain_word w h) ∙ (reads.settles rows (Some (codes "TURNS", w ∷ [])) plain
           ∙ turns_used words reads.idle_reads rows plain port turns w s)

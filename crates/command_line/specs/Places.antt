@@ -36,12 +36,13 @@ with_places = with_rule (with_rule empty_command mode_rule) number_rule
 abbrev pub command_read : App
 command_read = with_rule (with_rule with_places port_rule) turns_rule
 
--- a word that begins with - and is none of the two options, alone or with a value behind =
+-- one of the two options, alone or with its value behind =
 abbrev pub is_named_option : List ℕ → Bool
 is_named_option w =
     bytes_eq w (codes "--port") || (bytes_eq w (codes "--turns")
     || (starts_with nat_eq w (codes "--port=") || starts_with nat_eq w (codes "--turns=")))
 
+-- a word that begins with - and is neither
 abbrev pub is_other_option : List ℕ → Bool
 is_other_option w = is_option w && not (is_named_option w)
 

@@ -98,10 +98,11 @@ abbrev pub unless : Kinds → Option Placed → Option Placed
 unless [] o = o
 unless (k ∷ ks) o = None
 
+-- what is found where the words end
 unfoldable pub outcome_end : Held → Option Placed
 outcome_end h = unless (end_fault h) (Some (placed_in (finished rules h)))
 
--- what is found in the end, from where the walk stands
+-- what is found in the end, from where the walk stands and with the words to come
 unfoldable pub outcome_from : Walk → List Text → Option Placed
 outcome_from w [] = outcome_end w.held
 outcome_from w (x ∷ words) = unless (turn_fault top [] w x) (outcome_from (walked rules [] w x) words)
@@ -143,7 +144,7 @@ abbrev pub outcome_using : Rule → Text → List Row → ℕ → List Text → 
 outcome_using a v rows position words =
     unless (use_fault false a (v ∷ []) rows) (outcome_from (walk_at (used a (v ∷ []) rows) None idle position) words)
 
--- ---- turns between two options
+-- ---- a word where no option waits for its value
 
 or_else_nothing : (a : Kinds) → or_else a [] ≡ a
 or_else_nothing [] = refl
@@ -158,6 +159,7 @@ never true x y = refl
 never false x y = refl
 
 module _ (rows : List Row) (pending : Pending) where
+  -- what settling the argument before gives
   abbrev fault : Kinds
   fault = settle_fault rules false (held_at rows pending)
 
@@ -201,8 +203,8 @@ module _ (rows : List Row) (pending : Pending) where
       (ap (λ (h : Held). record (walk_at rows pending idle 2) { held = pushed (codes "MODE") w h })
       (never (is_pending mode_use pending) (held_at rows pending) (held_at after None)))
 
-  first_turn : (w : Text) → IsPlainWord w → turn_fault top [] (walk_at rows pending idle 1) w ≡ fault
-  first_turn w p = rw (p.no_dashes, p.no_long, p.no_short) (never (is_pending mode_use pending) [] fault)
+  first_fault : (w : Text) → IsPlainWord w → turn_fault top [] (walk_at rows pending idle 1) w ≡ fault
+  first_fault w p = rw (p.no_dashes, p.no_long, p.no_short) (never (is_pending mode_use pending) [] fault)
 
   second_walked : (w : Text) → IsPlainWord w → walked rules [] (walk_at rows pending idle 2) w ≡ walk_at after (Some (codes "NUMBER", w ∷ [])) idle 3
   unfolding walked
@@ -211,24 +213,24 @@ module _ (rows : List Row) (pending : Pending) where
       (ap (λ (h : Held). record (walk_at rows pending idle 3) { held = pushed (codes "NUMBER") w h })
       (never (is_pending number_use pending) (held_at rows pending) (held_at after None)))
 
-  second_turn : (w : Text) → IsPlainWord w → turn_fault top [] (walk_at rows pending idle 2) w ≡ fault
-  second_turn w p = rw (p.no_dashes, p.no_long, p.no_short) (never (is_pending number_use pending) [] fault)
+  second_fault : (w : Text) → IsPlainWord w → turn_fault top [] (walk_at rows pending idle 2) w ≡ fault
+  second_fault w p = rw (p.no_dashes, p.no_long, p.no_short) (never (is_pending number_use pending) [] fault)
 
-  third_turn : (w : Text) → IsPlainWord w → turn_fault top [] (walk_at rows pending idle 3) w ≡ UnknownArgument ∷ []
-  third_turn w p = rw (p.no_dashes, p.no_long, p.no_short) refl
+  third_fault : (w : Text) → IsPlainWord w → turn_fault top [] (walk_at rows pending idle 3) w ≡ UnknownArgument ∷ []
+  third_fault w p = rw (p.no_dashes, p.no_long, p.no_short) refl
 
   pub first_taken : (w : Text) (words : List Text) → IsPlainWord w → outcome_from (walk_at rows pending idle 1) (w ∷ words)
       ≡ unless fault (outcome_from (walk_at after (Some (codes "MODE", w ∷ [])) idle 2) words)
-  first_taken w words p = at_word (walk_at rows pending idle 1) w words fault _ (first_turn w p) (first_walked w p)
+  first_taken w words p = at_word (walk_at rows pending idle 1) w words fault _ (first_fault w p) (first_walked w p)
 
   pub second_taken : (w : Text) (words : List Text) → IsPlainWord w → outcome_from (walk_at rows pending idle 2) (w ∷ words)
       ≡ unless fault (outcome_from (walk_at after (Some (codes "NUMBER", w ∷ [])) idle 3) words)
-  second_taken w words p = at_word (walk_at rows pending idle 2) w words fault _ (second_turn w p) (second_walked w p)
+  second_taken w words p = at_word (walk_at rows pending idle 2) w words fault _ (second_fault w p) (second_walked w p)
 
   pub third_refused : (w : Text) (words : List Text) → IsPlainWord w → outcome_from (walk_at rows pending idle 3) (w ∷ words) ≡ unless fault None
-  third_refused w words p = fails_at (walk_at rows pending idle 3) w words UnknownArgument [] (third_turn w p) ∙ sym (unless_none fault)
+  third_refused w words p = fails_at (walk_at rows pending idle 3) w words UnknownArgument [] (third_fault w p) ∙ sym (unless_none fault)
 
--- ---- turns behind an option that wants its value
+-- ---- a word behind an option that waits for its value
 
 abbrev pub awaiting : Text → List Row → ℕ → Walk
 awaiting id rows position = walk_at rows (Some (id, [])) (option id) position
@@ -248,16 +250,25 @@ module _ (rows : List Row) (position : ℕ) where
       at_word (awaiting (codes "TURNS") rows position) w words [] (walk_at rows (Some (codes "TURNS", w ∷ [])) idle position)
       (rw (p.no_dashes, p.no_long, p.no_short) refl) (rw (p.no_dashes, p.no_long, p.no_short) refl)
 
-  pub port_wants : (w : Text) (words : List Text) → WordKind w → is_option w ≡ true → outcome_from (awaiting (codes "PORT") rows position) (w ∷ words) ≡ None
-  port_wants w words (IsPort e) h = fails_at _ w words InvalidValue [] (subst (λ (x : Text). turn_fault top [] (awaiting (codes "PORT") rows position) x ≡ InvalidValue ∷ []) (sym e) refl)
-  port_wants w words (IsTurns e) h = fails_at _ w words InvalidValue [] (subst (λ (x : Text). turn_fault top [] (awaiting (codes "PORT") rows position) x ≡ InvalidValue ∷ []) (sym e) refl)
-  port_wants w words (HasPort v e) h = fails_at _ w words InvalidValue [] (subst (λ (x : Text). turn_fault top [] (awaiting (codes "PORT") rows position) x ≡ InvalidValue ∷ []) (sym e) refl)
-  port_wants w words (HasTurns v e) h = fails_at _ w words InvalidValue [] (subst (λ (x : Text). turn_fault top [] (awaiting (codes "PORT") rows position) x ≡ InvalidValue ∷ []) (sym e) refl)
-  port_wants w words (IsBare e) h = absurd (true≢false (sym h ∙ e))
+  abbrev Wants : Text → Text → Type 0
+  Wants id w = turn_fault top [] (awaiting id rows position) w ≡ InvalidValue ∷ []
 
-  pub turns_wants : (w : Text) (words : List Text) → WordKind w → is_option w ≡ true → outcome_from (awaiting (codes "TURNS") rows position) (w ∷ words) ≡ None
-  turns_wants w words (IsPort e) h = fails_at _ w words InvalidValue [] (subst (λ (x : Text). turn_fault top [] (awaiting (codes "TURNS") rows position) x ≡ InvalidValue ∷ []) (sym e) refl)
-  turns_wants w words (IsTurns e) h = fails_at _ w words InvalidValue [] (subst (λ (x : Text). turn_fault top [] (awaiting (codes "TURNS") rows position) x ≡ InvalidValue ∷ []) (sym e) refl)
-  turns_wants w words (HasPort v e) h = fails_at _ w words InvalidValue [] (subst (λ (x : Text). turn_fault top [] (awaiting (codes "TURNS") rows position) x ≡ InvalidValue ∷ []) (sym e) refl)
-  turns_wants w words (HasTurns v e) h = fails_at _ w words InvalidValue [] (subst (λ (x : Text). turn_fault top [] (awaiting (codes "TURNS") rows position) x ≡ InvalidValue ∷ []) (sym e) refl)
-  turns_wants w words (IsBare e) h = absurd (true≢false (sym h ∙ e))
+  port_wants : (w : Text) → WordKind w → is_option w ≡ true → Wants (codes "PORT") w
+  port_wants w (IsPort e) h = subst (Wants (codes "PORT")) (sym e) refl
+  port_wants w (IsTurns e) h = subst (Wants (codes "PORT")) (sym e) refl
+  port_wants w (HasPort v e) h = subst (Wants (codes "PORT")) (sym e) refl
+  port_wants w (HasTurns v e) h = subst (Wants (codes "PORT")) (sym e) refl
+  port_wants w (IsBare e) h = absurd (true≢false (sym h ∙ e))
+
+  pub port_missed : (w : Text) (words : List Text) → WordKind w → is_option w ≡ true → outcome_from (awaiting (codes "PORT") rows position) (w ∷ words) ≡ None
+  port_missed w words k h = fails_at (awaiting (codes "PORT") rows position) w words InvalidValue [] (port_wants w k h)
+
+  turns_wants : (w : Text) → WordKind w → is_option w ≡ true → Wants (codes "TURNS") w
+  turns_wants w (IsPort e) h = subst (Wants (codes "TURNS")) (sym e) refl
+  turns_wants w (IsTurns e) h = subst (Wants (codes "TURNS")) (sym e) refl
+  turns_wants w (HasPort v e) h = subst (Wants (codes "TURNS")) (sym e) refl
+  turns_wants w (HasTurns v e) h = subst (Wants (codes "TURNS")) (sym e) refl
+  turns_wants w (IsBare e) h = absurd (true≢false (sym h ∙ e))
+
+  pub turns_missed : (w : Text) (words : List Text) → WordKind w → is_option w ≡ true → outcome_from (awaiting (codes "TURNS") rows position) (w ∷ words) ≡ None
+  turns_missed w words k h = fails_at (awaiting (codes "TURNS") rows position) w words InvalidValue [] (turns_wants w k h)

@@ -7,7 +7,7 @@ use Rattle.std.proofs.lemmas.Bool.Decides.{nat_tests}
 use Rattle.text_model.specs.declared.mode.Mode.{Mode}
 use Rattle.text_model.specs.declared.mode.Mode.TheVariants.{Replay, Dump, Load, Asm, Serve}
 use Rattle.text_model.specs.Fields.{number_in, is_within}
-use Rattle.text_model.specs.Words.{mode_of, mode_by, mode_of_words, mode_named, mode_with, mode_serving, SortedWords, sorted, NoValue}
+use Rattle.text_model.specs.Words.{mode_of, mode_by, mode_of_words, mode_serving, SortedWords, sorted, NoValue}
 
 -- how many turns a mode asks for
 abbrev turns_in : Option Mode → ℕ

@@ -4,3 +4,4 @@ pub mod Says
 pub mod Cards
 pub mod Lines
 pub mod Asked
+pub mod Allowed

@@ -1,44 +1,27 @@
 -- From the run of the supervisor over users' cores to the record of a script.
-use Rattle.std.proofs.Common.{◌≡◌, true, ℕ, zero, suc, ◌-◌, ◌<◌, ◌≤◌, List, [], ◌∷◌, ◌++◌, map, length, replicate, get_or, Option, Some, None, Ok, Err, refl, sym, ap, subst, ◌∙◌, arith}
-use Rattle.std.specs.Prelude.{⊤, slice_index_or}
-use Rattle.std.specs.List.{All}
+use Rattle.std.proofs.Common.{◌≡◌, true, ℕ, ◌≤◌, List, [], ◌∷◌, map, Option, Ok, Err, refl, sym, ap, subst, ◌∙◌}
+use Rattle.std.specs.Prelude.{⊤}
 use Rattle.std.specs.declared.result.Result.{Result}
-use Rattle.std.proofs.lemmas.List.{length-map}
 use Rattle.ctss_types.specs.declared.fault.RunFault.{RunFault}
 use Rattle.ctss_types.specs.declared.fault.RunFault.TheVariants.{Drum, Disk, NoMemory}
 use Rattle.ctss_types.specs.declared.script.Script.{Script}
 use Rattle.ctss_types.specs.declared.script.Account.{Account}
-use Rattle.ctss_types.specs.declared.file.FileBody.{FileBody}
-use Rattle.ctss_types.specs.declared.file.OwnedFile.{OwnedFile}
 use Rattle.ctss_types.specs.declared.history.Record.{Record}
-use Rattle.drum_slots.specs.Keys.{quota_of}
-use Rattle.image_map.specs.Images.{size_of}
-use Rattle.image_map.proofs.Moves.{none_in}
-use Rattle.user_model.specs.Session.{first_state, nobody}
-use Rattle.user_model.specs.Inner.{blocks_of}
-use Rattle.user_model.specs.User.{User}
 use Rattle.plan_model.specs.Loads.{Places, no_places}
 use Rattle.system_model.specs.Run.{Run, run_to, AfterSteps, ended}
-use Rattle.system_model.specs.Cases.{closed, end_notes, idle_notes}
-use Rattle.system_model.specs.Joined.{joined, with_cores}
-use Rattle.system_model.specs.Record.{start_of, record_of, record_from, users_from}
-use Rattle.system_model.proofs.CaseLaws.{closes}
+use Rattle.system_model.specs.Joined.{joined}
+use Rattle.system_model.specs.Record.{start_of, record_of, record_from}
 use Rattle.system_model.proofs.JoinedLaws.{joined_same}
 use Rattle.user_cores.specs.Memory.{Memory}
 use Rattle.medium.specs.Medium.{CallList}
-use Rattle.time_sharing.specs.System.{Entry, Service}
-use Rattle.schedule_model.specs.Sums.{dumped_in, read_in}
-use Rattle.system_model.proofs.SwapLaws.{dumped-append, read-append}
+use Rattle.time_sharing.specs.System.{Entry}
 use Rattle.console_texts.specs.Watching.{texts_to, AfterShown}
 use Rattle.supervisor.specs.Shows.{HasTexts, HasTextsPart, HasTextsToLoad}
 use Rattle.supervisor.specs.Seen.{Bare, run_with, record_so_far}
 use Rattle.supervisor.specs.Counts.{IsCounted, IsCountedToLoad, calls_to_load}
-use Rattle.supervisor.specs.Steps.{IsTied, Shows, StopsAtLoad, HasRun, HasRunPart, HasRunToLoad, Ends, Fails}
-use Rattle.supervisor.proofs.Running.{transcripts_same}
+use Rattle.supervisor.specs.Steps.{Shows, StopsAtLoad, HasRun, HasRunPart, HasRunToLoad, Ends, Fails}
 use Rattle.supervisor.proofs.Serving.{ends_map}
-use Rattle.file_model.specs.Owned.{files_of}
-use Rattle.std.proofs.lemmas.List.Elements.{All-nil, All-cons}
-use Rattle.live_run.proofs.Starts.{joined_start, quotas_are, no_user_has, tied_first}
+use Rattle.live_run.proofs.Starts.{joined_start, quotas_are, no_user_has}
 use Rattle.live_laws.proofs.Records.{record_apart, so_far, counted_at_end}
 use Rattle.ctss_top.specs.Played.{IsStopped, HasCores, Reaches, IsPart, Stops}
 

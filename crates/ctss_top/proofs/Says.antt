@@ -17,13 +17,16 @@ use Rattle.text_model.specs.Causes.{cause_number}
 use Rattle.text_model.specs.Words.{mode_of, script_refused}
 use Rattle.text_model.specs.Reading.{script_of, max_bytes}
 use Rattle.script_read.specs.Bases.{base_of}
-use Rattle.text_model.specs.Made.{made_script}
 use Rattle.system_model.specs.Record.{record_of, EachIsAlone}
 use Rattle.system_model.proofs.AloneLaws.{users_are_alone}
 use Rattle.supervisor.specs.Counts.{IsCounted}
 use Rattle.live_laws.specs.Parts.{live_script}
 use Rattle.live_serve.specs.Talks.{IsTalk}
-use Rattle.live_serve.specs.Live.{IsLiveRecord, StopsInTurn}
+use Rattle.live_serve.specs.declared.ending.Served.{Served}
+use Rattle.live_serve.specs.declared.ending.Served.TheVariants.{Done}
+use Rattle.live_serve.specs.Live.{IsServed, IsLiveRecord, StopsInTurn}
+use Rattle.console_link.specs.Links.{LinkSeen}
+use Rattle.medium.specs.Medium.{CallList}
 use Rattle.ctss_top.specs.declared.outcome.Outcome.{Outcome}
 use Rattle.ctss_top.specs.Outcomes.{bare}
 use Rattle.ctss_top.specs.Devices.{DevicesSeen}
@@ -202,10 +205,6 @@ is_stopped words mode alone old new o script asked comes silent stopped numbers 
 pub silent_by : (status n : ℕ) (old new : DevicesSeen) (o : Outcome) → status ≡ n → IsSilent n old new o → IsSilent status old new o
 silent_by status n old new o is h = subst (λ (k : ℕ). IsSilent k old new o) (sym is) h
 
--- a script that is made of a number comes without reading
-pub comes_made : (n : ℕ) (old new : DevicesSeen) (script : Script) → new.input.left ≡ old.input.left → script ≡ made_script n → Comes (Load n) old new script
-comes_made n old new script unread made = record { unread = unread; made = made }
-
 -- live consoles
 
 abbrev pub live_by : ℕ → Script → List Timed → Script
@@ -313,3 +312,9 @@ live_allows_refused status bytes refusal refused h = rw refused (refused_status 
 
 pub live_allows_done : (status : ℕ) (bytes : List ℕ) (base : Script) → base_of bytes ≡ Ok base → list_any (nat_eq status) (0 ∷ 4 ∷ 5 ∷ 7 ∷ 8 ∷ []) ≡ true → AllowsLive status bytes
 live_allows_done status bytes base spelled h = rw spelled (live_status status h)
+
+-- what was served, where all turns were done
+
+pub all_served : (base : Script) (turns : ℕ) (tells : Bool) (was now : Option CallList) (f g : ℕ) (a b : LinkSeen) (s : Served) (events : List Timed) (rec : Record) → s ≡ Done events rec → IsServed base turns tells was now f g a b s
+    → IsLiveRecord base turns events tells was now rec × IsTalk turns events a b
+all_served base turns tells was now f g a b s events rec is h = subst (λ (x : Served). IsServed base turns tells was now f g a b x) is h

@@ -1,5 +1,5 @@
 //! Live consoles: a base script comes in, and the script of what people did goes out with its report.
-ghost use Rattle.std.specs.Prelude.{◌≡◌, ◌≤◌, ◌∷◌, ◌++◌, [], ℕ, List, Some, IfOk};
+ghost use Rattle.std.specs.Prelude.{◌≡◌, ◌≤◌, ◌∷◌, ◌++◌, [], ℕ, List, Some, IfOk, false};
 ghost use Rattle.faults.specs.Faults.{WhereTold};
 ghost use Rattle.text_model.specs.Canonical.{script_text_of};
 ghost use Rattle.text_model.specs.Report.{report_of};

@@ -1,5 +1,5 @@
 -- Each event of a turn is at its tick, at one of 32 consoles, and one that a card may have.
-use Rattle.std.proofs.Common.{◌≡◌, ℕ, suc, ◌+◌, ◌*◌, ◌≤◌, ◌<◌, Bool, true, false, List, [], ◌∷◌, ◌++◌, length, map, Option, Some, None, refl, sym, ap, ◌∙◌, absurd, arith}
+use Rattle.std.proofs.Common.{◌≡◌, ℕ, suc, ◌+◌, ◌≤◌, ◌<◌, Bool, true, false, List, [], ◌∷◌, ◌++◌, length, Option, Some, None, refl, ap, ◌∙◌, arith}
 use Rattle.std.specs.Prelude.{IfSome}
 use Rattle.std.specs.List.{All}
 use Rattle.std.proofs.lemmas.List.Elements.{All-nil, All-cons, All-append, All-head, All-tail}
@@ -11,7 +11,7 @@ use Rattle.console_wire.specs.Items.{items_from}
 use Rattle.console_wire.specs.Laws.{IsTypedItem}
 use Rattle.console_wire.proofs.TypedLaws.{items_are_typed}
 use Rattle.console_server.specs.Readings.{Gave, bytes_of, timed, all_timed}
-use Rattle.console_server.specs.Turns.{Talk, Desk, HeardOf, TurnAnswers, Told, IsTurn, if_over, events_heard, all_events_heard, dial, dials, free_from, put_first, talk_of, seats_with, seated, seat_after, all_seats_after, seat_told, all_seats_told, AreTold, losses, hangs, events_of_turn, seats_to_read, seats_to_write, desk_after}
+use Rattle.console_server.specs.Turns.{Talk, Desk, HeardOf, TurnAnswers, Told, IsTurn, if_over, events_heard, all_events_heard, dial, dials, free_from, put_first, talk_of, seats_with, seated, all_seats_after, all_seats_told, AreTold, losses, hangs, events_of_turn, seats_to_read, seats_to_write, desk_after}
 
 pub record IsFine (tick : ℕ) (e : Timed) : Type 0 where
   pub tick_is : e.tick ≡ tick

@@ -1,22 +1,16 @@
 -- A live script keeps the rules of cards.
-use Rattle.std.proofs.Common.{◌≡◌, ℕ, ◌*◌, ◌≤◌, List, map, replicate, length, Ok, refl, sym, ap, subst, arith}
+use Rattle.std.proofs.Common.{ℕ, ◌+◌, ◌*◌, ◌≤◌, List, [], map, replicate, length, refl, sym, subst, arith}
 use Rattle.std.specs.List.{All}
 use Rattle.std.specs.List.Sorted.{IsNonDecreasing}
-use Rattle.std.proofs.lemmas.List.{length-replicate}
 use Rattle.std.proofs.lemmas.List.Elements.{All-weaker}
 use Rattle.ctss_types.specs.declared.script.Script.{Script}
 use Rattle.ctss_types.specs.declared.script.Timed.{Timed}
-use Rattle.text_model.specs.Canonical.{script_text_of}
-use Rattle.text_model.specs.Reading.{script_of, max_bytes, IsInRange}
 use Rattle.text_model.specs.Lawful.{IsLawful, IsLawfulEvent}
 use Rattle.text_model.proofs.LawfulLaws.{scripts_are_lawful}
-use Rattle.script_read.specs.Bases.{base_of}
 use Rattle.script_read.proofs.Bases.{bases_are_scripts}
 use Rattle.script_laws.proofs.RoundTrip.{canonical_texts_are_read}
 use Rattle.live_laws.specs.Parts.{live_script}
-use Rattle.console_server.specs.History.{events_in}
-use Rattle.console_server.specs.Conversation.{TurnSeen, AreTurns, events_of_turns}
-use Rattle.live_serve.specs.Talks.{IsTalk, empty_desk}
+use Rattle.live_serve.specs.Talks.{empty_desk}
 use Rattle.serve_laws.specs.Laws.{LiveScriptsAreRead}
 use Rattle.serve_laws.proofs.Fine.{IsWhole}
 use Rattle.serve_laws.proofs.Rising.{IsGood, tick_of, all_good, ticks_rise}

@@ -6,7 +6,6 @@
 ghost use Rattle.serve_laws.specs.Laws.{LiveScriptsAreRead};
 
 /// The text of a live script, if it isn't too long, reads as that script.
-#[tactic(auto, using(crate::proofs::Lawful::live_scripts_are_read))]
 pub fn live_scripts_are_read()
     ensures { LiveScriptsAreRead }
 {}

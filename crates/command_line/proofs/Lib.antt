@@ -1,2 +1,5 @@
 pub mod Asked
 pub mod Parsed
+pub mod Rows
+pub mod Steps
+pub mod WordsRead

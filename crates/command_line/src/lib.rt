@@ -1,7 +1,7 @@
 //! The words of the command line, and what they ask for.
 //!
-//! The words are read by the kit's `clap`, as a command of one or two words. A word that begins with `-` is refused
-//! before, and a number is read as a field of a card is.
+//! The words are read by the kit's `clap`, as a command of one or two words with two options, `--port` and `--turns`. A
+//! word that begins with `-` and is neither is refused before, and a number is read as a field of a card is.
 #![tactic(auto)]
 
 mod command;

@@ -1,6 +1,7 @@
 ghost use Rattle.std.specs.Prelude.{◌≡◌, ◌++◌, ◌∷◌, [], IfOk, map, string_bytes, OnOk, OnErr};
 ghost use Rattle.std.specs.List.{list_any};
 ghost use Rattle.text_model.specs.Words.{is_option, mode_of};
+ghost use Rattle.command_line.specs.Places.{is_named_option, is_other_option};
 
 use crate::command::matches_of;
 use crate::named::mode_at;
@@ -50,11 +51,16 @@ impl ArgList {
         ensures { IfOk result (λ mode. mode ≡ mode_of self.now) }
     {
         let words = self.words.as_slice();
-        if has_option(words) {
+        if has_other_option(words) {
             return Ok(None);
         }
         match matches_of(self.alloc, words)? {
-            Some(matches) => Ok(mode_at(matches.get_str("MODE"), matches.get_str("NUMBER"))),
+            Some(matches) => Ok(mode_at(
+                matches.get_str("MODE"),
+                matches.get_str("NUMBER"),
+                matches.get_str("PORT"),
+                matches.get_str("TURNS"),
+            )),
             None => Ok(None),
         }
     }
@@ -70,9 +76,27 @@ fn is_option(word: &str) -> bool
     }
 }
 
-/// Whether one of the words begins with `-`.
-fn has_option(words: &[String]) -> bool
-    ensures { result ≡ list_any (λ word. is_option (string_bytes word)) words.now }
+/// Whether a word is an option of `serve`, alone or with its value behind `=`.
+fn is_named_option(word: &str) -> bool
+    ensures { result ≡ is_named_option word.now }
 {
-    words.iter().any(|word| is_option(word.as_str()))
+    let bytes = word.as_bytes();
+    word == "--port"
+        || word == "--turns"
+        || bytes.starts_with(b"--port=")
+        || bytes.starts_with(b"--turns=")
+}
+
+/// Whether a word begins with `-` and is no option of `serve`.
+fn is_other_option(word: &str) -> bool
+    ensures { result ≡ is_other_option word.now }
+{
+    is_option(word) && !is_named_option(word)
+}
+
+/// Whether one of the words begins with `-` and is no option of `serve`.
+fn has_other_option(words: &[String]) -> bool
+    ensures { result ≡ list_any (λ word. is_other_option (string_bytes word)) words.now }
+{
+    words.iter().any(|word| is_other_option(word.as_str()))
 }

@@ -12,7 +12,7 @@ use Rattle.live_core.specs.Core.{CoreCall}
 use Rattle.console_server.specs.Given.{IsGiven}
 use Rattle.console_server.specs.Readings.{DidAll, Nothing, Then}
 use Rattle.console_server.specs.Turns.{Talk, free_from, seats_with, calls_of_new, dial, calls_accepted, dials, seated, last_accept}
-use Rattle.console_server.specs.Seats.{SeatIsOpen, IsNotOf, AreSeated, StandAll, SeatsAreTaken, AreAccepted}
+use Rattle.console_server.specs.Seats.{SeatIsOpen, IsNotOf, AreSeated, StandAll, SeatsAreTaken, AreAccepted, AreDialled}
 use Rattle.console_server.proofs.Following.{did_both, given_both}
 
 same_number : (n : ℕ) → nat_eq n n ≡ true
@@ -104,3 +104,9 @@ module _ {C : Type 0} (goes : C → List CoreCall → C → Type 0) (none : (a :
         core = s.core;
         stands = s.stands;
       }
+
+  -- memory lacked for the next of these
+  pub dialled_short : (tick : ℕ) (texts : List (List ℕ)) (desk : List (Option Talk)) (ids : List ℕ) (p q r : C) (x y z : List Timed) → IsGiven goes (dials tick texts desk ids) p q x y → IsGiven goes [] q r y z → AreDialled goes tick texts desk p r x z
+  dialled_short tick texts desk ids p q r x y z before last =
+      let front = dials tick texts desk ids in
+      (ids, subst (λ (es : List Timed). IsGiven goes es p r x z) (append-nil front) (given_both goes none on front [] p q r x y z before last))

@@ -1,10 +1,10 @@
 -- Reading one console after another.
 use Rattle.std.specs.Prelude.{Bool, true, false, take, drop, length, get_or, set, Option, Some, None}
 use Rattle.std.specs.List.{AllZip}
-use Rattle.std.proofs.Math.Seq.{drop-cons}
+use Rattle.std.proofs.Math.Seq.{drop-cons, take-append-add}
 use Rattle.std.proofs.Common.{◌≡◌, ◌≢◌, ℕ, zero, suc, ◌+◌, ◌<◌, List, [], ◌∷◌, ◌++◌, refl, sym, ◌∙◌, ap, subst, arith, inl, inr}
 use Rattle.std.proofs.lemmas.Bool.{cases_eq, true≢false}
-use Rattle.std.proofs.lemmas.List.{append_assoc, append-nil, take_more, length-take-le, get_or-set_same, get_or-set_other}
+use Rattle.std.proofs.lemmas.List.{append_assoc, append-nil, take_more, take-append-drop, length-take-le, get_or-set_same, get_or-set_other}
 use Rattle.ctss_types.specs.declared.script.Timed.{Timed}
 use Rattle.console_link.specs.Links.{LinkSeen, Done}
 use Rattle.console_server.specs.declared.tasks.Task.{Task}
@@ -12,7 +12,7 @@ use Rattle.live_core.specs.Core.{CoreCall}
 use Rattle.console_server.specs.Given.{IsGiven}
 use Rattle.console_server.specs.Readings.{DidAll, Nothing}
 use Rattle.console_server.specs.Turns.{Talk, HeardOf, calls_heard, events_heard, seat_after, IsHeard, all_calls_heard, all_events_heard, all_seats_after, AreHeard}
-use Rattle.console_server.specs.Seats.{Stands, SeatIsOpen, SeatIsHeard, IsNotOf, IsOther, KeepsSeat, AreSeated, StandAll, SeatsAreHeard}
+use Rattle.console_server.specs.Seats.{Stands, SeatIsOpen, SeatIsHeard, SeatIsHeardPart, IsNotOf, IsOther, KeepsSeat, AreSeated, StandAll, SeatsAreHeard, AreHeardPart}
 use Rattle.console_server.proofs.Following.{did_both, given_both}
 use Rattle.console_server.proofs.SeatLaws.{nothing_given}
 
@@ -84,16 +84,23 @@ calls_more (t ∷ seats) [] s h are = false_is are
 calls_more (t ∷ seats) (x ∷ hs) s h are =
     ap (λ (ds : List Done). calls_heard t x.reads x.over ++ ds) (calls_more seats hs s h are.1) ∙ sym (append_assoc (calls_heard t x.reads x.over) (all_calls_heard seats hs) (calls_heard s h.reads h.over))
 
-events_more : (tick console : ℕ) (seats : List (Option Talk)) (hs : List HeardOf) (s : Option Talk) (h : HeardOf) → AreHeard seats hs →
-    all_events_heard tick console (seats ++ s ∷ []) (hs ++ h ∷ []) ≡ all_events_heard tick console seats hs ++ events_heard tick (console + length seats) s h.reads h.over
-events_more tick console [] [] s h are = append-nil (events_heard tick console s h.reads h.over) ∙ ap (λ (n : ℕ). events_heard tick n s h.reads h.over) (plus_none console)
+none_heard : (tick console : ℕ) (seats : List (Option Talk)) → all_events_heard tick console seats [] ≡ []
+none_heard tick console [] = refl
+none_heard tick console (t ∷ seats) = refl
+
+-- one console more, of which others stand behind
+events_more : (tick console : ℕ) (seats : List (Option Talk)) (hs : List HeardOf) (s : Option Talk) (h : HeardOf) (behind : List (Option Talk)) → AreHeard seats hs →
+    all_events_heard tick console (seats ++ s ∷ behind) (hs ++ h ∷ []) ≡ all_events_heard tick console seats hs ++ events_heard tick (console + length seats) s h.reads h.over
+events_more tick console [] [] s h behind are =
+    ap (λ (es : List Timed). events_heard tick console s h.reads h.over ++ es) (none_heard tick (suc console) behind)
+    ∙ append-nil (events_heard tick console s h.reads h.over) ∙ ap (λ (n : ℕ). events_heard tick n s h.reads h.over) (plus_none console)
   where
     plus_none : (n : ℕ) → n ≡ n + 0
     plus_none n = omega arith
-events_more tick console [] (x ∷ hs) s h are = false_is are
-events_more tick console (t ∷ seats) [] s h are = false_is are
-events_more tick console (t ∷ seats) (x ∷ hs) s h are =
-    ap (λ (es : List Timed). events_heard tick console t x.reads x.over ++ es) (events_more tick (suc console) seats hs s h are.1 ∙ ap (λ (n : ℕ). all_events_heard tick (suc console) seats hs ++ events_heard tick n s h.reads h.over) (one_more console (length seats)))
+events_more tick console [] (x ∷ hs) s h behind are = false_is are
+events_more tick console (t ∷ seats) [] s h behind are = false_is are
+events_more tick console (t ∷ seats) (x ∷ hs) s h behind are =
+    ap (λ (es : List Timed). events_heard tick console t x.reads x.over ++ es) (events_more tick (suc console) seats hs s h behind are.1 ∙ ap (λ (n : ℕ). all_events_heard tick (suc console) seats hs ++ events_heard tick n s h.reads h.over) (one_more console (length seats)))
     ∙ sym (append_assoc (events_heard tick console t x.reads x.over) (all_events_heard tick (suc console) seats hs) (events_heard tick (console + suc (length seats)) s h.reads h.over))
   where
     one_more : (a b : ℕ) → suc a + b ≡ a + suc b
@@ -155,7 +162,7 @@ module _ {C : Type 0} (goes : C → List CoreCall → C → Type 0) (none : (a :
           heard = sofar.heard ++ last ∷ [];
           lawful = subst (λ (l : List (Option Talk)). AreHeard l (sofar.heard ++ last ∷ [])) (sym front) (heard_more (take i desk) sofar.heard s last sofar.lawful one.lawful);
           link = subst (λ (ds : List Done). DidAll ds a c) (sym (ap (λ (l : List (Option Talk)). all_calls_heard l (sofar.heard ++ last ∷ [])) front ∙ calls_more (take i desk) sofar.heard s last sofar.lawful)) (did_both _ _ a b c sofar.link one.link);
-          core = subst (λ (es : List Timed). IsGiven goes es p r x z) (sym (ap (λ (l : List (Option Talk)). all_events_heard tick 1 l (sofar.heard ++ last ∷ [])) front ∙ events_more tick 1 (take i desk) sofar.heard s last sofar.lawful ∙ ap (λ (n : ℕ). all_events_heard tick 1 (take i desk) sofar.heard ++ events_heard tick n s one.reads one.over) (sym at))) (given_both goes none on _ _ p q r x y z sofar.core one.core);
+          core = subst (λ (es : List Timed). IsGiven goes es p r x z) (sym (ap (λ (l : List (Option Talk)). all_events_heard tick 1 l (sofar.heard ++ last ∷ [])) front ∙ events_more tick 1 (take i desk) sofar.heard s last [] sofar.lawful ∙ ap (λ (n : ℕ). all_events_heard tick 1 (take i desk) sofar.heard ++ events_heard tick n s one.reads one.over) (sym at))) (given_both goes none on _ _ p q r x y z sofar.core one.core);
           stands = after;
         }
       where
@@ -171,6 +178,20 @@ module _ {C : Type 0} (goes : C → List CoreCall → C → Type 0) (none : (a :
             let whole : all_seats_after (take (i + 1) desk) (sofar.heard ++ last ∷ []) ++ drop (i + 1) desk ≡ before ++ seat_after s one.reads one.over ∷ drop (suc i) desk =
             (λ j. seats j ++ drop (sym more j) desk) ∙ append_assoc before (seat_after s one.reads one.over ∷ []) (drop (suc i) desk) in
             subst (λ (l : List (Option Talk)). AllZip Stands (set now i new) l) (sym whole) (subst (λ (n : ℕ). AllZip Stands (set now n new) (before ++ seat_after s one.reads one.over ∷ drop (suc i) desk)) at changed)
+
+    -- memory lacked while one console more was read
+    pub heard_part : (c : LinkSeen) (r : C) (z : List Timed) (console : ℕ) → console ≡ i + 1 → SeatIsHeardPart goes tick console (get_or desk i None) b c q r y z → AreHeardPart goes tick desk p r x z
+    heard_part c r z console is one =
+        let last : HeardOf = record { reads = one.reads; over = one.over } in
+        let s = get_or desk i None in
+        let n = one.core.0 in
+        let front = all_events_heard tick 1 (take i desk) sofar.heard in
+        let back = events_heard tick console s one.reads one.over in
+        let at : console ≡ 1 + length (take i desk) = omega (arith, is, len) in
+        let all : desk ≡ take i desk ++ s ∷ drop (suc i) desk = sym (take-append-drop i desk) ∙ ap (λ (l : List (Option Talk)). take i desk ++ l) rest in
+        let both : all_events_heard tick 1 desk (sofar.heard ++ last ∷ []) ≡ front ++ back =
+        ap (λ (l : List (Option Talk)). all_events_heard tick 1 l (sofar.heard ++ last ∷ [])) all ∙ events_more tick 1 (take i desk) sofar.heard s last (drop (suc i) desk) sofar.lawful ∙ ap (λ (k : ℕ). front ++ events_heard tick k s one.reads one.over) (sym at) in
+        (sofar.heard ++ last ∷ [], (length front + n, subst (λ (es : List Timed). IsGiven goes es p r x z) (sym (ap (take (length front + n)) both ∙ take-append-add front back n)) (given_both goes none on front (take n back) p q r x y z sofar.core one.core.1)))
 
   pub heard_first : (tick : ℕ) (desk : List (Option Talk)) (a : LinkSeen) (p : C) (x : List Timed) (now : List (Option Task)) → StandAll now desk → SeatsAreHeard goes tick 0 desk a a p p x x now
   heard_first tick desk a p x now stands = record { heard = []; lawful = tt; link = Nothing a; core = nothing_given goes none on p x; stands = stands }

@@ -1,17 +1,18 @@
 -- One more turn behind others.
-use Rattle.std.specs.Prelude.{map, length, None}
+use Rattle.std.specs.Prelude.{map, length, take, None}
 use Rattle.std.specs.List.{AllZip}
-use Rattle.std.proofs.Common.{◌≡◌, ℕ, suc, ◌+◌, ◌*◌, List, [], ◌∷◌, ◌++◌, refl, sym, ◌∙◌, ap, subst, arith, length-append}
+use Rattle.std.proofs.Common.{◌≡◌, ℕ, suc, ◌+◌, ◌*◌, ◌<◌, List, [], ◌∷◌, ◌++◌, refl, sym, ◌∙◌, ap, subst, arith, length-append}
 use Rattle.std.proofs.lemmas.List.{append_assoc, append-nil}
 use Rattle.ctss_types.specs.declared.script.Timed.{Timed}
 use Rattle.console_link.specs.Links.{LinkSeen, Done}
+use Rattle.console_server.specs.declared.fault.ServeFault.{ServeFault}
 use Rattle.live_core.specs.Core.{CoreSeen, CoreCall, Took, Went, Grows}
 use Rattle.console_server.specs.Readings.{DidAll, Nothing}
 use Rattle.console_server.specs.Turns.{Desk, IsTurn, calls_of_turn, events_of_turn, desk_after}
 use Rattle.console_server.specs.Seats.{StandAll}
 use Rattle.console_server.specs.History.{heard_in, events_in}
-use Rattle.console_server.specs.Server.{ServerState, IsDeskOf, TurnIsDone}
-use Rattle.console_server.specs.Conversation.{TurnSeen, AreTurns, calls_of_turns, events_of_turns, desk_behind, texts_behind, TurnsAreDone}
+use Rattle.console_server.specs.Server.{ServerState, IsDeskOf, TurnIsDone, TurnIsCut, ends_with}
+use Rattle.console_server.specs.Conversation.{TurnSeen, AreTurns, calls_of_turns, events_of_turns, desk_behind, texts_behind, TurnsAreDone, TurnsAreCut}
 use Rattle.console_server.proofs.Following.{did_both}
 
 plus_none : (m : ℕ) → m ≡ m + 0
@@ -113,4 +114,24 @@ module _ {C L : Type 0} (goes : C → List CoreCall → C → Type 0) (none : (a
         shown = sym (texts_end texts s.turns t);
         seats = subst (λ (k : Desk). StandAll q.seats k.seats) (sym (desk_end texts desk s.turns t)) (subst (λ (ts : List (List ℕ)). StandAll q.seats (desk_after ts here d.turn).seats) s.shown d.seats_are);
         failed = subst (λ (k : Desk). q.failed ≡ k.failed) (sym (desk_end texts desk s.turns t)) (subst (λ (ts : List (List ℕ)). q.failed ≡ (desk_after ts here d.turn).failed) s.shown d.failed_are);
+      }
+
+  -- the turn behind those that were done failed
+  pub turns_cut : (n count : ℕ) (desk : Desk) (fault : ServeFault) (o p q : ServerState C L) → n < count → (s : TurnsAreDone goes see look n desk o p) → TurnIsCut goes see n (desk_behind (see o.core).texts desk s.turns) fault p q →
+      TurnsAreCut goes see count desk fault o q
+  turns_cut n count desk fault o p q lt s d =
+      let texts = (see o.core).texts in
+      let here = desk_behind texts desk s.turns in
+      let part : d.events ≡ take (length d.events) (events_of_turn (1000 * n) (texts_behind texts s.turns) here d.answers) =
+      subst (λ (ts : List (List ℕ)). d.events ≡ take (length d.events) (events_of_turn (1000 * n) ts here d.answers)) s.shown d.part in
+      record {
+        turns = s.turns;
+        few = omega (arith, s.many, lt);
+        lawful = s.lawful;
+        answers = d.answers;
+        events = d.events;
+        at_limit = d.at_limit;
+        part = subst (λ (k : ℕ). d.events ≡ take (length d.events) (events_of_turn (1000 * k) (texts_behind texts s.turns) here d.answers)) (sym s.many) part;
+        core = subst (λ (k : ℕ). goes o.core (heard_in 0 (events_of_turns 0 texts desk s.turns) ++ (map Took d.events ++ ends_with k fault d.at_limit)) q.core) (sym s.many) (on o.core p.core q.core _ _ s.core d.core);
+        noted = d.noted ∙ ap (λ (l : List Timed). l ++ d.events) s.noted;
       }

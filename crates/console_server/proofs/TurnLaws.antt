@@ -1,29 +1,29 @@
 -- A whole turn, of its parts.
 use Rattle.std.specs.Prelude.{Bool, true, false, map, take, drop, length, get_or, Option, None}
-use Rattle.std.proofs.Math.Seq.{take-length, drop-length}
+use Rattle.std.proofs.Math.Seq.{take-length, drop-length, take-append_seam}
 use Rattle.std.proofs.Common.{◌≡◌, ℕ, suc, ◌+◌, ◌*◌, ◌<◌, List, [], ◌∷◌, ◌++◌, sym, ◌∙◌, ap, subst, arith}
-use Rattle.std.proofs.lemmas.List.{append_assoc, append-nil, map-append, take_all, take_more}
+use Rattle.std.proofs.lemmas.List.{append_assoc, append-nil, map-append, take_all, take_more, take-append-drop}
 use Rattle.ctss_types.specs.declared.script.Timed.{Timed}
 use Rattle.console_link.specs.Links.{LinkSeen, Done, Did, DidWait}
 use Rattle.console_server.specs.declared.tasks.Task.{Task}
 use Rattle.live_core.specs.Core.{CoreSeen, CoreCall, Took, Went, WentTo}
-use Rattle.console_server.specs.Given.{IsGiven}
+use Rattle.console_server.specs.Given.{IsGiven, IsGivenPart}
 use Rattle.console_server.specs.Readings.{DidAll, Then}
 use Rattle.console_server.specs.Turns.{Talk, Desk, hangs, dials, seated, calls_accepted, last_accept, all_calls_heard, all_events_heard, all_seats_after, AreHeard, all_calls_told, all_seats_told, AreTold}
-use Rattle.console_server.specs.Seats.{StandAll, SeatsAreHeard, SeatsAreTold, AreAccepted}
+use Rattle.console_server.specs.Seats.{StandAll, SeatsAreHeard, SeatsAreTold, AreAccepted, AreDialled}
 use Rattle.console_server.specs.Done.{IsDone}
-use Rattle.console_server.proofs.Following.{did_both}
+use Rattle.console_server.proofs.Following.{did_both, given_both}
 
-hangs_end : (tick console : ℕ) (xs : List Bool) (f : Bool) → hangs tick console (xs ++ f ∷ []) ≡ hangs tick console xs ++ hangs tick (console + length xs) (f ∷ [])
-hangs_end tick console [] f = ap (λ (n : ℕ). hangs tick n (f ∷ [])) (plus_none console)
+hangs_both : (tick console : ℕ) (xs ys : List Bool) → hangs tick console (xs ++ ys) ≡ hangs tick console xs ++ hangs tick (console + length xs) ys
+hangs_both tick console [] ys = ap (λ (n : ℕ). hangs tick n ys) (plus_none console)
   where
     plus_none : (n : ℕ) → n ≡ n + 0
     plus_none n = omega arith
-hangs_end tick console (true ∷ xs) f = ap (λ (l : List Timed). hangs tick console (true ∷ []) ++ l) (hangs_end tick (suc console) xs f ∙ ap (λ (n : ℕ). hangs tick (suc console) xs ++ hangs tick n (f ∷ [])) (plus_suc console (length xs)))
+hangs_both tick console (true ∷ xs) ys = ap (λ (l : List Timed). hangs tick console (true ∷ []) ++ l) (hangs_both tick (suc console) xs ys ∙ ap (λ (n : ℕ). hangs tick (suc console) xs ++ hangs tick n ys) (plus_suc console (length xs)))
   where
     plus_suc : (a b : ℕ) → suc a + b ≡ a + suc b
     plus_suc a b = omega arith
-hangs_end tick console (false ∷ xs) f = hangs_end tick (suc console) xs f ∙ ap (λ (n : ℕ). hangs tick (suc console) xs ++ hangs tick n (f ∷ [])) (plus_suc console (length xs))
+hangs_both tick console (false ∷ xs) ys = hangs_both tick (suc console) xs ys ∙ ap (λ (n : ℕ). hangs tick (suc console) xs ++ hangs tick n ys) (plus_suc console (length xs))
   where
     plus_suc : (a b : ℕ) → suc a + b ≡ a + suc b
     plus_suc a b = omega arith
@@ -31,7 +31,7 @@ hangs_end tick console (false ∷ xs) f = hangs_end tick (suc console) xs f ∙ 
 pub hangs_next : (tick i console : ℕ) (failed : List Bool) (is_lost : Bool) → i < length failed → is_lost ≡ get_or failed i false → console ≡ i + 1 → length (take i failed) ≡ i →
     hangs tick 1 (take (i + 1) failed) ≡ hangs tick 1 (take i failed) ++ hangs tick console (is_lost ∷ [])
 hangs_next tick i console failed is_lost lt is at len =
-    ap (hangs tick 1) (take_more failed i false lt) ∙ hangs_end tick 1 (take i failed) (get_or failed i false)
+    ap (hangs tick 1) (take_more failed i false lt) ∙ hangs_both tick 1 (take i failed) (get_or failed i false ∷ [])
     ∙ (λ j. hangs tick 1 (take i failed) ++ hangs tick (place j) (sym is j ∷ []))
   where
     place : 1 + length (take i failed) ≡ console
@@ -99,3 +99,17 @@ module _ {C : Type 0} (goes : C → List CoreCall → C → Type 0) (none : (a :
 
   pub went_as : (s t u : CoreSeen) → s ≡ t → WentTo None s u → WentTo None t u
   went_as s t u is h = subst (λ (v : CoreSeen). WentTo None v u) is h
+
+  -- memory lacked for the next of these
+  pub hangs_short : (tick i : ℕ) (failed : List Bool) (p q r : C) (x y z : List Timed) → IsGiven goes (hangs tick 1 (take i failed)) p q x y → IsGiven goes [] q r y z → IsGivenPart goes (hangs tick 1 failed) p r x z
+  hangs_short tick i failed p q r x y z before last =
+      let front = hangs tick 1 (take i failed) in
+      let back = hangs tick (1 + length (take i failed)) (drop i failed) in
+      let both : hangs tick 1 failed ≡ front ++ back = ap (hangs tick 1) (sym (take-append-drop i failed)) ∙ hangs_both tick 1 (take i failed) (drop i failed) in
+      (length front, subst (λ (l : List Timed). IsGiven goes l p r x z) (append-nil front ∙ sym (ap (take (length front)) both ∙ take-append_seam front back)) (given_both goes none on front [] p q r x y z before last))
+
+  pub hung_part_as : (tick : ℕ) (fs gs : List Bool) (p q : C) (x y : List Timed) → fs ≡ gs → IsGivenPart goes (hangs tick 1 fs) p q x y → IsGivenPart goes (hangs tick 1 gs) p q x y
+  hung_part_as tick fs gs p q x y is h = subst (λ (l : List Bool). IsGivenPart goes (hangs tick 1 l) p q x y) is h
+
+  pub dialled_as : (tick : ℕ) (s t : CoreSeen) (desk : List (Option Talk)) (p q : C) (x y : List Timed) → s ≡ t → AreDialled goes tick s.texts desk p q x y → AreDialled goes tick t.texts desk p q x y
+  dialled_as tick s t desk p q x y is h = subst (λ (u : CoreSeen). AreDialled goes tick u.texts desk p q x y) is h

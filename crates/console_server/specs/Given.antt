@@ -11,7 +11,3 @@ pub record IsGiven {C : Type 0} (goes : C → List CoreCall → C → Type 0) (e
 -- a beginning of these events was given
 abbrev pub IsGivenPart : {C : Type 0} → (C → List CoreCall → C → Type 0) → List Timed → C → C → (had has : List Timed) → Type 0
 IsGivenPart goes events old new had has = (count : ℕ) × IsGiven goes (take count events) old new had has
-
--- some events were given
-abbrev pub IsGivenSome : {C : Type 0} → (C → List CoreCall → C → Type 0) → C → C → (had has : List Timed) → Type 0
-IsGivenSome goes old new had has = (events : List Timed) × IsGiven goes events old new had has

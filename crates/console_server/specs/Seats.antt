@@ -8,7 +8,7 @@ use Rattle.console_server.specs.declared.tasks.Task.{Task}
 use Rattle.live_core.specs.Core.{CoreCall}
 use Rattle.console_server.specs.Given.{IsGiven, IsGivenPart}
 use Rattle.console_server.specs.Readings.{Gave, DidAll}
-use Rattle.console_server.specs.Turns.{Talk, HeardOf, calls_heard, events_heard, seat_after, IsHeard, all_calls_heard, all_events_heard, all_seats_after, AreHeard, calls_accepted, dials, seated, last_accept, Wrote, IsToldOf, calls_told, seat_told, Told, AreTold, all_calls_told, all_seats_told, losses}
+use Rattle.console_server.specs.Turns.{Talk, Desk, HeardOf, calls_heard, events_heard, seat_after, IsHeard, all_calls_heard, all_events_heard, all_seats_after, AreHeard, calls_accepted, dials, seated, last_accept, Wrote, IsToldOf, calls_told, seat_told, Told, AreTold, all_calls_told, all_seats_told, losses, TurnAnswers, events_of_turn}
 
 pub record StandsFor (task : Task) (talk : Talk) : Type 0 where
   pub id : task.id ≡ talk.id
@@ -106,3 +106,15 @@ pub record SeatsAreTold (texts : List (List ℕ)) (count : ℕ) (desk : List (Op
   pub link : DidAll (all_calls_told (take count desk) told) link_had link_has
   pub stands : StandAll now (all_seats_told (take count desk) told ++ drop count desk)
   pub flags : take count failed ≡ losses told
+
+-- connections were accepted in a turn, which the core heard of
+abbrev pub AreDialled : {C : Type 0} → (C → List CoreCall → C → Type 0) → ℕ → List (List ℕ) → List (Option Talk) → C → C → (had has : List Timed) → Type 0
+AreDialled goes tick texts desk old new had has = (ids : List ℕ) × IsGiven goes (dials tick texts desk ids) old new had has
+
+-- a beginning of what was read in a turn was given
+abbrev pub AreHeardPart : {C : Type 0} → (C → List CoreCall → C → Type 0) → ℕ → List (Option Talk) → C → C → (had has : List Timed) → Type 0
+AreHeardPart goes tick desk old new had has = (heard : List HeardOf) × IsGivenPart goes (all_events_heard tick 1 desk heard) old new had has
+
+-- a beginning of a turn's events was given
+abbrev pub IsGivenOfTurn : {C : Type 0} → (C → List CoreCall → C → Type 0) → ℕ → List (List ℕ) → Desk → C → C → (had has : List Timed) → Type 0
+IsGivenOfTurn goes tick texts desk old new had has = (answers : TurnAnswers) × IsGivenPart goes (events_of_turn tick texts desk answers) old new had has

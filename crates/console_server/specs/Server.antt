@@ -1,5 +1,5 @@
 -- claim: what contracts see of a server, when it can do a turn, and what a turn leaves that was not done to its end.
-use Rattle.std.specs.Prelude.{◌≡◌, ℕ, ◌+◌, ◌*◌, Bool, true, false, List, [], ◌∷◌, ◌++◌, length, map, Option, Some, None}
+use Rattle.std.specs.Prelude.{◌≡◌, ℕ, ◌+◌, ◌*◌, Bool, true, false, List, [], ◌∷◌, ◌++◌, length, take, map, Option, Some, None}
 use Rattle.std.specs.Borrow.{MutBor}
 use Rattle.faults.specs.Faults.{Rose}
 use Rattle.ctss_types.specs.declared.script.Timed.{Timed}
@@ -10,7 +10,7 @@ use Rattle.console_server.specs.declared.fault.ServeFault.{ServeFault}
 use Rattle.console_server.specs.declared.fault.ServeFault.TheVariants as serve
 use Rattle.console_server.specs.declared.tasks.Task.{Task}
 use Rattle.console_server.specs.declared.server.Server.{Server}
-use Rattle.console_server.specs.Turns.{Desk}
+use Rattle.console_server.specs.Turns.{Desk, TurnAnswers, events_of_turn}
 use Rattle.console_server.specs.Seats.{AreSeated, StandAll}
 use Rattle.console_server.specs.Done.{IsDone}
 
@@ -55,15 +55,17 @@ ends_with number serve.Disk at_limit = Went (1000 * (number + 1)) (Some run.Disk
 ends_with number serve.NoMemory true = Went (1000 * (number + 1)) (Some run.NoMemory) ∷ []
 ends_with number serve.NoMemory false = []
 
--- a turn failed: the core was given some events, which are noted, and maybe met the fault on its way to the limit
-pub record IsCut {C : Type 0} (goes : C → List CoreCall → C → Type 0) (number : ℕ) (fault : ServeFault) (core_had core_has : C) (had has : List Timed) : Type 0 where
+-- a turn failed: the core was given a beginning of the turn's events, which is noted, and maybe met the fault on its way to the limit
+pub record IsCut {C : Type 0} (goes : C → List CoreCall → C → Type 0) (see : C → CoreSeen) (number : ℕ) (desk : Desk) (fault : ServeFault) (core_had core_has : C) (had has : List Timed) : Type 0 where
+  pub answers : TurnAnswers
   pub events : List Timed
   pub at_limit : Bool
+  pub part : events ≡ take (length events) (events_of_turn (1000 * number) (see core_had).texts desk answers)
   pub core : goes core_had (map Took events ++ ends_with number fault at_limit) core_has
   pub noted : has ≡ had ++ events
 
-abbrev pub TurnIsCut : {C L : Type 0} → (C → List CoreCall → C → Type 0) → ℕ → ServeFault → (old new : ServerState C L) → Type 0
-TurnIsCut goes number fault old new = IsCut goes number fault old.core new.core old.events new.events
+abbrev pub TurnIsCut : {C L : Type 0} → (C → List CoreCall → C → Type 0) → (C → CoreSeen) → ℕ → Desk → ServeFault → (old new : ServerState C L) → Type 0
+TurnIsCut goes see number desk fault old new = IsCut goes see number desk fault old.core new.core old.events new.events
 
 -- which count of faults rose: the listener's, that of the drum or that of the disk
 abbrev pub IsCause : ServeFault → (link_had link_has : LinkSeen) (core_had core_has : CoreSeen) → Type 0

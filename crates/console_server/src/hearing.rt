@@ -1,8 +1,7 @@
 //! Reading one console.
 ghost use Rattle.std.specs.Prelude.{false, ◌≡◌, ◌≤◌, ℕ, List, length, Option, OnOk, OnErr};
-ghost use Rattle.console_server.specs.Given.{IsGivenSome};
 ghost use Rattle.console_server.specs.Turns.{Talk};
-ghost use Rattle.console_server.specs.Seats.{Stands, SeatIsOpen, SeatIsHeard, SeatIsHeardPart, IsNotOf, KeepsSeat, AreSeated, StandAll, SeatsAreHeard};
+ghost use Rattle.console_server.specs.Seats.{Stands, SeatIsOpen, SeatIsHeard, SeatIsHeardPart, IsNotOf, KeepsSeat, AreSeated, StandAll, SeatsAreHeard, AreHeardPart};
 
 use crate::book::Book;
 use crate::reading::drain;
@@ -66,7 +65,9 @@ pub(crate) fn hear_all<C: LiveCore, L: Link>(
     requires ready { (C.seen book.old.core).is_ended ≡ false }
     requires sound { C.Sound book.old.core }
     ensures ok { (desk : List (Option Talk)) → StandAll seats.old.items desk → OnOk result (SeatsAreHeard C.Goes tick (length desk) desk (L.seen link.old) (L.seen link.new) book.old.core book.new.core book.old.events.items book.new.events.items seats.new.items) }
-    ensures err { (desk : List (Option Talk)) → StandAll seats.old.items desk → OnErr result (IsGivenSome C.Goes book.old.core book.new.core book.old.events.items book.new.events.items) }
+    ensures err { (desk : List (Option Talk)) → StandAll seats.old.items desk
+        → OnErr result (AreHeardPart C.Goes tick desk
+        book.old.core book.new.core book.old.events.items book.new.events.items) }
     ensures seated { AreSeated (L.seen link.new).is_open seats.new.items }
     ensures listener { (L.seen link.new).faults ≡ (L.seen link.old).faults }
     ensures many { length seats.new.items ≡ length seats.old.items }

@@ -1,10 +1,10 @@
 //! Consoles for new connections.
 ghost use Rattle.std.specs.Prelude.{Err, ◌≡◌, ◌<◌, ◌≤◌, IfSome, false, true, ℕ, [], List, length, get_or, Option, None, OnOk, OnErr};
 ghost use Rattle.faults.specs.Faults.{Rose};
-ghost use Rattle.console_server.specs.Given.{IsGiven, IsGivenSome};
+ghost use Rattle.console_server.specs.Given.{IsGiven};
 ghost use Rattle.console_server.specs.Readings.{DidAll};
 ghost use Rattle.console_server.specs.Turns.{Talk, free_from, put_first, talk_of, seats_with, calls_of_new, dial};
-ghost use Rattle.console_server.specs.Seats.{AreSeated, StandAll, IsNotOf, AreAccepted};
+ghost use Rattle.console_server.specs.Seats.{AreSeated, StandAll, IsNotOf, AreAccepted, AreDialled};
 
 use crate::book::Book;
 use crate::tasks::Task;
@@ -84,7 +84,9 @@ pub(crate) fn accept_all<C: LiveCore, L: Link>(
     requires ready { (C.seen book.old.core).is_ended ≡ false }
     requires sound { C.Sound book.old.core }
     ensures ok { (desk : List (Option Talk)) → StandAll seats.old.items desk → OnOk result (AreAccepted C.Goes tick (C.seen book.old.core).texts desk (L.seen link.old) (L.seen link.new) book.old.core book.new.core book.old.events.items book.new.events.items seats.new.items) }
-    ensures err { (desk : List (Option Talk)) → StandAll seats.old.items desk → OnErr result (IsGivenSome C.Goes book.old.core book.new.core book.old.events.items book.new.events.items) }
+    ensures err { (desk : List (Option Talk)) → StandAll seats.old.items desk
+        → OnErr result (AreDialled C.Goes tick (C.seen book.old.core).texts desk
+        book.old.core book.new.core book.old.events.items book.new.events.items) }
     ensures listener { (L.seen link.old).faults ≤ (L.seen link.new).faults }
     ensures cause { result ≡ Err SeatingFault.Listener → Rose (L.seen link.old).faults (L.seen link.new).faults }
     ensures seated { AreSeated (L.seen link.new).is_open seats.new.items }

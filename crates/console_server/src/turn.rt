@@ -2,7 +2,7 @@
 ghost use Rattle.std.specs.Prelude.{Err, ◌∷◌, ◌≡◌, ◌≤◌, ◌<◌, ◌+◌, ◌*◌, false, ℕ, [], List, length, Option, None, OnOk, OnErr, IfErr};
 ghost use Rattle.faults.specs.Faults.{Rose};
 ghost use Rattle.live_core.specs.Core.{WentTo};
-ghost use Rattle.console_server.specs.Given.{IsGiven, IsGivenSome};
+ghost use Rattle.console_server.specs.Given.{IsGiven, IsGivenPart};
 ghost use Rattle.console_server.specs.Turns.{Talk, Desk, hangs};
 ghost use Rattle.console_server.specs.Seats.{AreSeated, StandAll};
 ghost use Rattle.console_server.specs.Done.{IsDone};
@@ -45,7 +45,8 @@ fn hang_all<C: LiveCore>(book: &mut Book<C>, failed: &[bool], tick: u64) -> Resu
     requires ready { (C.seen book.old.core).is_ended ≡ false }
     requires sound { C.Sound book.old.core }
     ensures ok { OnOk result (IsGiven C.Goes (hangs tick 1 failed.now) book.old.core book.new.core book.old.events.items book.new.events.items) }
-    ensures err { OnErr result (IsGivenSome C.Goes book.old.core book.new.core book.old.events.items book.new.events.items) }
+    ensures err { OnErr result (IsGivenPart C.Goes (hangs tick 1 failed.now)
+        book.old.core book.new.core book.old.events.items book.new.events.items) }
     ensures ready { (C.seen book.new.core).is_ended ≡ false }
     ensures same { C.seen book.new.core ≡ C.seen book.old.core }
     ensures sound { C.Sound book.new.core }
@@ -74,7 +75,9 @@ pub(crate) fn do_turn<C: LiveCore, L: Link>(
     requires ready { (C.seen book.old.core).is_ended ≡ false }
     requires sound { C.Sound book.old.core }
     ensures done { (desk : Desk) → StandAll seats.old.items desk.seats → desk.failed ≡ failed.old.items → OnOk result (IsDone C.Goes C.seen number desk (L.seen link.old) (L.seen link.new) book.old.core book.new.core book.old.events.items book.new.events.items seats.new.items failed.new.items) }
-    ensures cut { (desk : Desk) → StandAll seats.old.items desk.seats → IfErr result (λ fault. IsCut C.Goes number fault book.old.core book.new.core book.old.events.items book.new.events.items) }
+    ensures cut { (desk : Desk) → StandAll seats.old.items desk.seats → desk.failed ≡ failed.old.items
+        → IfErr result (λ fault. IsCut C.Goes C.seen number desk fault
+        book.old.core book.new.core book.old.events.items book.new.events.items) }
     ensures cause { IfErr result (λ fault. IsCause fault (L.seen link.old) (L.seen link.new) (C.seen book.old.core) (C.seen book.new.core)) }
     ensures listener { (L.seen link.old).faults ≤ (L.seen link.new).faults }
     ensures went { OnOk result (WentTo None (C.seen book.old.core) (C.seen book.new.core)) }

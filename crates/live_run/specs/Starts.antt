@@ -1,5 +1,5 @@
 -- claim: the start of a run: the accounts and files of a script, before any event, where no user has a word or a block yet.
-use Rattle.std.specs.Prelude.{◌≡◌, ℕ, suc, ◌≤◌, Bool, false, List, [], ◌∷◌, length, map, replicate}
+use Rattle.std.specs.Prelude.{◌≡◌, ℕ, ◌≤◌, Bool, false, List, [], ◌∷◌, length, map, replicate}
 use Rattle.ctss_types.specs.declared.script.Script.{Script}
 use Rattle.ctss_types.specs.declared.script.Account.{Account}
 use Rattle.plan_model.specs.Loads.{no_places}
@@ -9,17 +9,17 @@ use Rattle.supervisor.specs.Whole.{Whole}
 use Rattle.live_run.specs.Calls.{run_over}
 
 -- no user of these accounts has a word or a block yet
-pub record HasFirstCores (accounts : List Account) (tells : Bool) (s : CoresState) : Type 0 where
+pub record HasFirstCores (accounts : List Account) (told : Bool) (s : CoresState) : Type 0 where
   pub words : (u : ℕ) → 1 ≤ u → s.memory.words u ≡ []
   pub places : s.memory.places ≡ no_places
   pub sizes : s.memory.sizes ≡ replicate (length s.memory.quotas) 0
   pub quotas : s.memory.quotas ≡ 0 ∷ map (λ (a : Account). a.blocks) accounts
-  pub tells : s.memory.tells ≡ tells
+  pub tells : s.memory.tells ≡ told
 
 -- the run is that of the script without events, and no console has shown anything
-pub record Begins (script : Script) (tells : Bool) (s : Whole) : Type 0 where
+pub record Begins (script : Script) (told : Bool) (s : Whole) : Type 0 where
   pub run : run_over s ≡ start_of (record script { events = [] })
   pub entries : s.bare.entries ≡ []
   pub texts : s.bare.texts ≡ replicate 32 []
   pub begun : s.bare.ended ≡ false
-  pub tells : s.cores.memory.tells ≡ tells
+  pub tells : s.cores.memory.tells ≡ told

@@ -1,3 +1,4 @@
+pub mod Closing
 pub mod Ticks
 pub mod Behind
 pub mod Ends

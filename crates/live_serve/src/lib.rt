@@ -7,9 +7,9 @@
 
 mod ending;
 mod fault;
-mod serve;
-mod talk;
+mod serving;
+mod talking;
 
 pub use ending::Served;
 pub use fault::ServingFault;
-pub use serve::serve;
+pub use serving::serve;

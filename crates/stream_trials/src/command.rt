@@ -28,6 +28,24 @@ fn lawful_words(rt: HostRuntime) -> Result<(), Fail> {
 }
 
 #[test]
+fn lawful_words_of_serve(rt: HostRuntime) -> Result<(), Fail> {
+    let alloc = rt.alloc();
+    let rows: [(&[&str], u16, u32); 6] = [
+        (&["serve", "--port", "7094", "--turns", "2"], 7094, 2),
+        (&["serve", "--turns", "2", "--port", "7094"], 7094, 2),
+        (&["--port=65535", "--turns", "0", "serve"], 65_535, 0),
+        (&["--turns=100000", "serve", "--port=1"], 1, 100_000),
+        (&["--port", "7094", "serve", "--turns=2"], 7094, 2),
+        (&["--port", "007094", "--turns=000000002", "serve"], 7094, 2),
+    ];
+    for (words, port, turns) in rows {
+        let served = Mode::Serve { port, turns };
+        assert_eq!(rt; asked(alloc, words)?, Some(served), "{words:?}");
+    }
+    Ok(())
+}
+
+#[test]
 fn refused_words(rt: HostRuntime) -> Result<(), Fail> {
     let lists: [&[&str]; 14] = [
         &[],
@@ -44,6 +62,41 @@ fn refused_words(rt: HostRuntime) -> Result<(), Fail> {
         &["--help"],
         &["-h"],
         &["--", "replay"],
+    ];
+    for words in lists {
+        assert_eq!(rt; asked(rt.alloc(), words)?, None, "{words:?}");
+    }
+    Ok(())
+}
+
+#[test]
+fn refused_words_of_serve(rt: HostRuntime) -> Result<(), Fail> {
+    let lists: [&[&str]; 25] = [
+        &["serve"],
+        &["serve", "--port", "7094"],
+        &["serve", "--turns=2"],
+        &["--port=1", "--turns=2"],
+        &["serve", "--port=1", "--turns=2", "--port=1"],
+        &["serve", "--port=1", "--turns", "2", "--turns", "3"],
+        &["serve", "--port=0", "--turns=2"],
+        &["serve", "--port=65536", "--turns=2"],
+        &["serve", "--port=1", "--turns=100001"],
+        &["serve", "--port=1x", "--turns=2"],
+        &["serve", "--port=+1", "--turns=2"],
+        &["serve", "--port", "0000000001", "--turns=2"],
+        &["serve", "--turns=2", "--port"],
+        &["serve", "--turns=2", "--port="],
+        &["serve", "--turns=2", "--port", ""],
+        &["serve", "--port", "--turns", "2"],
+        &["serve", "--port", "--turns=2"],
+        &["serve", "--port=1", "--turns", "-2"],
+        &["serve", "--port==1", "--turns=2"],
+        &["serve", "--port=1", "--turns=2", "-v"],
+        &["serve", "--port=1", "--turns=2", "--"],
+        &["serve", "--por=1", "--turns=2"],
+        &["serve", "now", "--port=1", "--turns=2"],
+        &["replay", "--port=1", "--turns=2"],
+        &["load", "1", "--port=1", "--turns=2"],
     ];
     for words in lists {
         assert_eq!(rt; asked(rt.alloc(), words)?, None, "{words:?}");

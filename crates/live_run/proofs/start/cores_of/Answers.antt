@@ -1,4 +1,4 @@
-use Rattle.std.proofs.Common.{◌≡◌, ◌≤◌, ℕ, List, ◌∷◌, map, refl, sym, ap, subst, ◌∙◌}
+use Rattle.std.proofs.Common.{◌≡◌, ◌≤◌, ℕ, List, ◌∷◌, map, sym, ap, subst, ◌∙◌}
 use Rattle.ctss_types.specs.declared.script.Account.{Account}
 use Rattle.drum_slots.specs.Keys.{quota_of}
 use Rattle.live_run.proofs.Starts.{quota_most}

@@ -1,5 +1,6 @@
 use Rattle.std.proofs.Common.{◌∙◌, refl, arith}
-use Rattle.console_server.proofs.HistoryLaws.{turns_none, turns_more, desk_is}
+use Rattle.console_server.specs.Server.{state}
+use Rattle.console_server.proofs.HistoryLaws.{turns_none, turns_more, turns_cut, desk_is}
 use Rattle.console_server.proofs.server.Server.turns.Goals as goal
 
 pub turns-init : goal.turns-init
@@ -26,3 +27,10 @@ turns-preserved g c = record {
   drum = omega (arith, c.turns.invariant.drum, c.in_ok-turn.ensures.went.drum);
   disk = omega (arith, c.turns.invariant.disk, c.in_ok-turn.ensures.went.disk);
 }
+
+pub returns-in_err-turn-clause-cut : goal.returns-in_err-turn-clause-cut
+returns-in_err-turn-clause-cut g c desk is =
+    let done = c.turns.invariant.done desk is in
+    let here = desk_is g.C.LiveCore.Goes g.met.C.LiveCore.goes_nowhere g.met.C.LiveCore.goes_on g.C.LiveCore.seen g.L.Link.seen c.turns.number desk _ _ done in
+    let cut = turns_cut g.C.LiveCore.Goes g.met.C.LiveCore.goes_nowhere g.met.C.LiveCore.goes_on g.C.LiveCore.seen g.L.Link.seen c.turns.number c.args.count desk c.in_err-turn.field-0.0 (state c.args.self.now) (state c.turns.self) (state c.turn.new.self) c.turns-test.true done (c.in_err-turn.ensures.cut _ here) in
+    grind (arith, cut, c.from_residual.ensures)

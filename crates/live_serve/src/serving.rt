@@ -7,7 +7,7 @@ ghost use Rattle.live_serve.specs.Live.{IsServed};
 
 use crate::ending::Served;
 use crate::fault::ServingFault;
-use crate::talk::{Talked, talk};
+use crate::talking::{Talked, talk};
 use console_link::Link;
 use console_server::ServeFault;
 use ctss_types::{NoMemory, Script};

@@ -8,6 +8,7 @@
 
 mod case;
 mod desk;
+mod link;
 mod plan;
 mod reading;
 mod serve;

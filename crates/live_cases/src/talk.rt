@@ -1,4 +1,6 @@
 //! One connection.
+ghost use Rattle.std.specs.Prelude.{◌<◌, IfSome};
+
 use crate::case::Caller;
 use crate::plan::Plan;
 use console_link::LinkCall;
@@ -6,6 +8,13 @@ use std::alloc::AllocError;
 
 /// The most bytes that are read of a connection in a turn.
 const MOST: usize = 1024;
+
+/// What is left of a piece, and the turn in which it becomes ready.
+#[derive(Clone, Copy)]
+struct Rest {
+    count: usize,
+    turn: u32,
+}
 
 /// A caller's connection: its number, how often it was read, which piece is read next, how many of its bytes were read, and whether
 /// the connection is over.
@@ -32,21 +41,21 @@ impl<'a> Talk<'a> {
         }
     }
 
-    /// Goes to the next byte that is not read: pieces that were read whole lie behind.
-    fn go_on(&mut self) {
+    /// Goes to the next byte that is not read, and answers what is left of its piece; none where all is read.
+    fn next(&mut self) -> Option<Rest>
+        ensures { IfSome result (λ rest. 0 < rest.count) }
+    {
         for piece in self.caller.pieces.iter().skip(self.piece) {
             if self.place < piece.bytes.len() {
-                return;
+                return Some(Rest {
+                    count: piece.bytes.len() - self.place,
+                    turn: piece.turn,
+                });
             }
             self.piece = self.piece.saturating_add(1);
             self.place = 0;
         }
-    }
-
-    /// What is left of the piece that is read next, and the turn in which it becomes ready; none where all pieces are read.
-    fn left(&self) -> Option<(usize, u32)> {
-        let piece = self.caller.pieces.get(self.piece)?;
-        Some((piece.bytes.len().saturating_sub(self.place), piece.turn))
+        None
     }
 
     /// The reads of a turn: until one is not ready, over or fails, or so many bytes were given.
@@ -61,10 +70,9 @@ impl<'a> Talk<'a> {
                 return plan.fails(call, self.reads);
             }
             fails = false;
-            self.go_on();
-            match self.left() {
-                Some((left, ready)) if ready <= turn => {
-                    let count = left.min(room);
+            match self.next() {
+                Some(rest) if rest.turn <= turn => {
+                    let count = rest.count.min(room);
                     self.place = self.place.saturating_add(count);
                     room -= count;
                 }

@@ -85,6 +85,7 @@ fn the_33rd_peer_is_turned_away(rt: HostRuntime) -> Result<(), Fail> {
     for _ in 0..33u8 {
         peers.push(typist(alloc, b"")?)?;
     }
+    assert!(rt; peers.len() == 33);
     let mut link = MemoryLink::new(alloc, &peers, &[], &[], 328100, 8192)?;
     serves(&rt, alloc, "2", BASE, &mut link, 0, CROWD)?;
     let taken = CallMade::Accept(Accepted::New(32));

@@ -66,14 +66,7 @@ fn the_script_is_replayed(rt: HostRuntime) -> Result<(), Fail> {
     let mut drum = MemoryMedium::new(alloc, 3840, 256, &[], &[], 0)?;
     let mut link = MemoryLink::new(alloc, &[], &[], &[], 0, 0)?;
     let words = words_of(alloc, &["replay"])?;
-    let outcome = run_ctss(
-        alloc,
-        &words,
-        &mut input,
-        &mut output,
-        &mut drum,
-        &mut link,
-    );
+    let outcome = run_ctss(alloc, &words, &mut input, &mut output, &mut drum, &mut link);
     assert_eq!(rt; outcome.status, 0);
     assert_eq!(rt; output.bytes(), &LIVE[SCRIPT..]);
     Ok(())

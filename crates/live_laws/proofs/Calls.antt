@@ -7,9 +7,11 @@ use Rattle.system_model.specs.Joined.{joined}
 use Rattle.live_core.specs.Core.{CoreCall, Took, Went}
 use Rattle.user_cores.specs.Cores.{CoresState}
 use Rattle.supervisor.specs.Seen.{run_with}
-use Rattle.supervisor.specs.Whole.{Whole, run_of}
+use Rattle.supervisor.specs.Whole.{Whole, AreCounted, run_of}
+use Rattle.supervisor.proofs.Counting.{counted_same, counted_on}
+use Rattle.plan_model.specs.Loads.{no_places}
 use Rattle.live_run.specs.Calls.{Takes, Follows, run_over}
-use Rattle.live_laws.specs.Parts.{run_in, calls_of, CallsAreRuns}
+use Rattle.live_laws.specs.Parts.{Part, run_in, calls_of, CallsAreRuns}
 
 -- to give an event changes no user, so it is the same with words and without
 given_joined : (f : ℕ → List ℕ) (e : Timed) (r : Run) → joined f (given e r) ≡ given e (joined f r)
@@ -29,19 +31,46 @@ taken e old new t =
     ∙ ap (joined old.cores.memory.words) (t.run old.cores.memory.places)
     ∙ given_joined old.cores.memory.words e (run_of old)
 
+-- an event that is taken adds no entry, and no call of the drum
+
+given_entries : (e : Timed) (r : Run) → (given e r).system.entries ≡ r.system.entries
+unfolding given
+given_entries e r = refl
+
+counted_taken : (e : Timed) (old new : Whole) → Takes e old new → AreCounted old new
+counted_taken e old new t =
+    counted_same old.bare.entries new.bare.entries old.cores.calls new.cores.calls
+    (ap (λ (r : Run). r.system.entries) (t.run no_places) ∙ given_entries e (run_with no_places old.bare)) (ap (λ (c : CoresState). c.calls) t.cores)
+
+pub counted_both : (a b c : Whole) → AreCounted a b → AreCounted b c → AreCounted a c
+counted_both a b c one two = counted_on a.bare.entries b.bare.entries c.bare.entries a.cores.calls b.cores.calls c.cores.calls one two
+
+counted_nowhere : (a : Whole) → AreCounted a a
+counted_nowhere a = counted_same a.bare.entries a.bare.entries a.cores.calls a.cores.calls refl refl
+
 -- events, and then other calls
 pub all_taken : (es : List Timed) (calls : List CoreCall) (old new : Whole) → Follows (map Took es ++ calls) old new
-    → (mid : Whole) × (run_over mid ≡ given_all es (run_over old)) × (mid.cores.memory.tells ≡ old.cores.memory.tells) × Follows calls mid new
-all_taken [] calls old new h = (old, sym (given_none (run_over old)), refl, h)
+    → (mid : Whole) × (run_over mid ≡ given_all es (run_over old)) × (mid.cores.memory.tells ≡ old.cores.memory.tells) × AreCounted old mid × Follows calls mid new
+all_taken [] calls old new h = (old, sym (given_none (run_over old)), refl, counted_nowhere old, h)
 all_taken (e ∷ es) calls old new h =
     let rest = all_taken es calls h.0 new h.2 in
-    (rest.0, rest.1 ∙ ap (given_all es) (taken e old h.0 h.1) ∙ given_both e es (run_over old), rest.2 ∙ ap (λ (c : CoresState). c.memory.tells) h.1.cores, rest.3)
+    (rest.0, rest.1 ∙ ap (given_all es) (taken e old h.0 h.1) ∙ given_both e es (run_over old), rest.2 ∙ ap (λ (c : CoresState). c.memory.tells) h.1.cores,
+        counted_both old h.0 rest.0 (counted_taken e old h.0 h.1) rest.3, rest.4)
 
 pub calls_are_runs : CallsAreRuns
 calls_are_runs [] old new told h = (ap run_over h, ap (λ (w : Whole). w.cores.memory.tells) h ∙ told)
 calls_are_runs (p ∷ parts) old new told h =
     let given = all_taken p.events (Went p.limit None ∷ calls_of parts) old new h in
-    let went = given.3 in
+    let went = given.4 in
     let tells : given.0.cores.memory.tells ≡ true = given.2 ∙ told in
     let rest = calls_are_runs parts went.0 new (went.1.tells ∙ tells) went.2 in
     (rest.0 ∙ ap (run_in parts) (went.1.ended tells ∙ ap (run_to p.limit) given.1), rest.1)
+
+-- the calls of the drum in these parts are those of their loads
+pub calls_are_counted : (parts : List Part) (old new : Whole) → Follows (calls_of parts) old new → AreCounted old new
+calls_are_counted [] old new h =
+    counted_same old.bare.entries new.bare.entries old.cores.calls new.cores.calls (ap (λ (w : Whole). w.bare.entries) h) (ap (λ (w : Whole). w.cores.calls) h)
+calls_are_counted (p ∷ parts) old new h =
+    let given = all_taken p.events (Went p.limit None ∷ calls_of parts) old new h in
+    let went = given.4 in
+    counted_both old given.0 new given.3 (counted_both given.0 went.0 new went.1.counted (calls_are_counted parts went.0 new went.2))

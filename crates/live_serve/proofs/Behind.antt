@@ -1,21 +1,16 @@
 -- A run behind the calls of turns, and what it counts.
-use Rattle.std.proofs.Common.{◌≡◌, ℕ, suc, ◌+◌, ◌*◌, List, [], ◌∷◌, ◌++◌, map, Option, None, refl, sym, ap, ◌∙◌, arith}
+use Rattle.std.proofs.Common.{◌≡◌, ℕ, suc, ◌+◌, ◌*◌, List, [], ◌∷◌, ◌++◌, map, Option, None, refl, sym, ap, ◌∙◌}
 use Rattle.medium.specs.Medium.{CallList}
 use Rattle.ctss_types.specs.declared.script.Timed.{Timed}
 use Rattle.image_map.specs.Loads.{with_calls, cut}
 use Rattle.image_map.proofs.Calls.{with_calls-append}
 use Rattle.time_sharing.specs.System.{Entry}
-use Rattle.plan_model.specs.Loads.{no_places}
-use Rattle.system_model.specs.Run.{Run, given}
 use Rattle.live_core.specs.Core.{CoreCall, Took, Went}
-use Rattle.user_cores.specs.Cores.{CoresState}
-use Rattle.supervisor.specs.Seen.{run_with}
 use Rattle.supervisor.specs.Counts.{IsCounted, IsCountedToLoad}
-use Rattle.supervisor.specs.Whole.{Whole, AreCounted}
-use Rattle.supervisor.proofs.Counting.{counted_same, counted_on}
-use Rattle.live_run.specs.Calls.{Takes, Follows}
-use Rattle.live_laws.specs.Parts.{Part, all_events, calls_of}
-use Rattle.live_laws.proofs.Calls.{all_taken}
+use Rattle.supervisor.specs.Whole.{Whole}
+use Rattle.supervisor.proofs.Counting.{counted_on}
+use Rattle.live_run.specs.Calls.{Follows}
+use Rattle.live_laws.specs.Parts.{all_events, calls_of}
 use Rattle.console_server.specs.History.{heard_in, events_in}
 use Rattle.live_serve.specs.Live.{parts_from}
 
@@ -33,38 +28,6 @@ follows_apart [] second a c h = (a, refl, h)
 follows_apart (call ∷ first) second a c h =
     let rest = follows_apart first second h.0 c h.2 in
     (rest.0, (h.0, h.1, rest.1), rest.2)
-
--- an event that is taken adds no entry, and no call
-
-given_entries : (e : Timed) (r : Run) → (given e r).system.entries ≡ r.system.entries
-unfolding given
-given_entries e r = refl
-
-counted_taken : (e : Timed) (old new : Whole) → Takes e old new → AreCounted old new
-counted_taken e old new t =
-    counted_same old.bare.entries new.bare.entries old.cores.calls new.cores.calls
-    (ap (λ (r : Run). r.system.entries) (t.run no_places) ∙ given_entries e (run_with no_places old.bare)) (ap (λ (c : CoresState). c.calls) t.cores)
-
-counted_both : (a b c : Whole) → AreCounted a b → AreCounted b c → AreCounted a c
-counted_both a b c one two = counted_on a.bare.entries b.bare.entries c.bare.entries a.cores.calls b.cores.calls c.cores.calls one two
-
-counted_nowhere : (a : Whole) → AreCounted a a
-counted_nowhere a = counted_same a.bare.entries a.bare.entries a.cores.calls a.cores.calls refl refl
-
-pub taken_counted : (es : List Timed) (calls : List CoreCall) (old new : Whole) (h : Follows (map Took es ++ calls) old new) → AreCounted old (all_taken es calls old new h).0
-taken_counted [] calls old new h = counted_nowhere old
-taken_counted (e ∷ es) calls old new h =
-    let rest = all_taken es calls h.0 new h.2 in
-    counted_both old h.0 rest.0 (counted_taken e old h.0 h.1) (taken_counted es calls h.0 new h.2)
-
--- the calls of the drum in these parts are those of their loads
-pub parts_counted : (parts : List Part) (old new : Whole) → Follows (calls_of parts) old new → AreCounted old new
-parts_counted [] old new h =
-    counted_same old.bare.entries new.bare.entries old.cores.calls new.cores.calls (ap (λ (w : Whole). w.bare.entries) h) (ap (λ (w : Whole). w.cores.calls) h)
-parts_counted (p ∷ parts) old new h =
-    let given = all_taken p.events (Went p.limit None ∷ calls_of parts) old new h in
-    let went = given.3 in
-    counted_both old given.0 new (taken_counted p.events (Went p.limit None ∷ calls_of parts) old new h) (counted_both given.0 went.0 new went.1.counted (parts_counted parts went.0 new went.2))
 
 -- loads, and then one that was cut off
 pub counted_then_cut : (es fs gs : List Entry) (a b c : Option CallList) (most : ℕ) → IsCounted es fs a b → IsCountedToLoad fs gs b c most → IsCountedToLoad es gs a c most

@@ -5,7 +5,7 @@ use Rattle.std.specs.declared.result.Result.{Result}
 use Rattle.std.specs.Borrow.{MutBor}
 use Rattle.ctss_types.specs.declared.script.Timed.{Timed}
 use Rattle.live_core.specs.Core.{CoreSeen, CoreCall, Took}
-use Rattle.console_link.specs.Links.{LinkSeen, Done, Did, DidClose, Rises, is_failed, names}
+use Rattle.console_link.specs.Links.{LinkSeen, Done, DidClose, Rises}
 use Rattle.console_server.specs.declared.tasks.Task.{Task}
 use Rattle.console_server.specs.Turns.{Talk}
 use Rattle.console_server.specs.Seats.{Stands, StandAll}
@@ -16,7 +16,7 @@ use Rattle.console_server.specs.History.{heard_in}
 use Rattle.console_server.specs.Server.{ServerState, IsDeskOf, IsCause, ends_with, closes, closes_of}
 use Rattle.console_server.specs.Conversation.{TurnsAreDone, TurnsAreCut, calls_of_turns, events_of_turns, desk_behind}
 use Rattle.console_server.proofs.Following.{did_both}
-use Rattle.live_serve.specs.Talks.{empty_desk, close_of, closes_of_desk, calls_of_talk, TalkIsDone, TalkIsCut}
+use Rattle.live_serve.specs.Talks.{empty_desk, close_of, closes_of_desk, TalkIsDone, TalkIsCut}
 
 close_stands : (seat : Option Task) (talk : Option Talk) → Stands seat talk → closes_of seat ≡ close_of talk
 close_stands None None h = refl
@@ -82,7 +82,7 @@ module _ {C L : Type 0} (goes : C → List CoreCall → C → Type 0) (see : C �
   talk_cut (Ok x) count old new core end link is cut core_is = tt
   talk_cut (Err f) count old new core end link is cut core_is =
       let t : TurnsAreCut goes see count empty_desk f (first core link) new = subst (λ (s : ServerState C L). TurnsAreCut goes see count empty_desk f s new) is cut in
-      record { turns = t.turns; few = t.few; lawful = t.lawful; events = t.events; at_limit = t.at_limit; core = subst (λ (c : C). goes core (heard_in 0 (events_of_turns 0 (see core).texts empty_desk t.turns) ++ (map Took t.events ++ ends_with (length t.turns) f t.at_limit)) c) (sym core_is) t.core }
+      record { turns = t.turns; few = t.few; lawful = t.lawful; events = t.events; answers = t.answers; part = t.part; at_limit = t.at_limit; core = subst (λ (c : C). goes core (heard_in 0 (events_of_turns 0 (see core).texts empty_desk t.turns) ++ (map Took t.events ++ ends_with (length t.turns) f t.at_limit)) c) (sym core_is) t.core }
 
   pub talk_cause : (r : Result Unit ServeFault) (old new : ServerState C L) (core end : C) (link : MutBor L) (m z : LinkSeen) → old ≡ first core link
       → IfErr r (λ fault. IsCause fault (look old.link.now) (look new.link.now) (see old.core) (see new.core)) → DidAll (closes new.seats) (look new.link.now) m → end ≡ new.core → m ≡ z

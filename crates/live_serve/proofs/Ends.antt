@@ -1,5 +1,5 @@
 -- What the runs of live consoles leave.
-use Rattle.std.proofs.Common.{◌≡◌, ℕ, suc, ◌+◌, ◌*◌, ◌<◌, Bool, true, List, [], ◌∷◌, ◌++◌, map, length, replicate, Option, Some, None, Ok, Err, refl, sym, ap, subst, ◌∙◌, arith}
+use Rattle.std.proofs.Common.{◌≡◌, ℕ, ◌+◌, ◌*◌, ◌<◌, Bool, true, List, [], ◌∷◌, ◌++◌, map, length, take, replicate, Option, Some, Err, refl, sym, ap, subst, ◌∙◌, arith}
 use Rattle.medium.specs.Medium.{CallList}
 use Rattle.ctss_types.specs.declared.fault.RunFault.TheVariants.{Drum}
 use Rattle.ctss_types.specs.declared.script.Script.{Script}
@@ -13,20 +13,21 @@ use Rattle.system_model.specs.Record.{start_of, record_of, record_from}
 use Rattle.live_core.specs.Core.{CoreCall, Took, Went}
 use Rattle.supervisor.specs.Seen.{run_with, record_so_far}
 use Rattle.supervisor.specs.Counts.{IsCounted, IsCountedToLoad, calls_to_load}
-use Rattle.supervisor.specs.Steps.{StopsAtLoad, Shows}
-use Rattle.supervisor.specs.Whole.{Whole, Advances, AreCounted, run_apart}
+use Rattle.supervisor.specs.Steps.{StopsAtLoad}
+use Rattle.supervisor.specs.Whole.{Whole, Advances, run_apart}
 use Rattle.live_run.specs.Calls.{Follows, run_over}
 use Rattle.live_run.specs.Starts.{Begins}
-use Rattle.live_laws.specs.Parts.{Part, all_events, run_in, live_script, calls_of}
-use Rattle.live_laws.proofs.Calls.{calls_are_runs, all_taken}
+use Rattle.live_laws.specs.Parts.{run_in, live_script, calls_of}
+use Rattle.live_laws.proofs.Calls.{calls_are_runs, calls_are_counted, all_taken}
 use Rattle.live_laws.proofs.InParts.{live_runs_are_replays}
 use Rattle.live_laws.proofs.Records.{record_apart, counted_at_end}
 use Rattle.console_server.specs.History.{heard_in, events_in}
-use Rattle.console_server.specs.Conversation.{TurnSeen, AreTurns, events_of_turns}
+use Rattle.console_server.specs.Turns.{TurnAnswers, events_of_turn}
+use Rattle.console_server.specs.Conversation.{TurnSeen, AreTurns, events_of_turns, desk_behind, texts_behind}
 use Rattle.live_serve.specs.Talks.{empty_desk}
 use Rattle.live_serve.specs.Live.{parts_from, IsLiveRecord, StopsInTurn}
 use Rattle.live_serve.proofs.Ticks.{in_order}
-use Rattle.live_serve.proofs.Behind.{heard_are, events_are, follows_apart, taken_counted, parts_counted, counted_then_cut}
+use Rattle.live_serve.proofs.Behind.{heard_are, events_are, follows_apart, counted_then_cut}
 
 abbrev blank : List (List ℕ)
 blank = replicate 32 []
@@ -46,7 +47,7 @@ module _ (base : Script) (tells : Bool) (turns : List TurnSeen) (a b : Whole) (b
   counted_behind : Follows (heard_in 0 (events_by turns)) a b → IsCounted [] b.bare.entries was b.cores.calls
   counted_behind h =
       subst (λ (o : Option CallList). IsCounted [] b.bare.entries o b.cores.calls) was_is
-      (subst (λ (es : List Entry). IsCounted es b.bare.entries a.cores.calls b.cores.calls) begins.entries (parts_counted (parts_from 0 (events_by turns)) a b (parts_behind h)))
+      (subst (λ (es : List Entry). IsCounted es b.bare.entries a.cores.calls b.cores.calls) begins.entries (calls_are_counted (parts_from 0 (events_by turns)) a b (parts_behind h)))
 
   run_behind : tells ≡ true → Follows (heard_in 0 (events_by turns)) a b
       → (run_over b ≡ run_in (parts_from 0 (events_by turns)) (start_of (record base { events = [] }))) × (b.cores.memory.tells ≡ true)
@@ -76,23 +77,26 @@ module _ (base : Script) (tells : Bool) (turns : List TurnSeen) (a b : Whole) (b
 
 module _ (base : Script) (tells : Bool) (turns : List TurnSeen) (a c : Whole) (begins : Begins base tells a) (was now : Option CallList) (was_is : a.cores.calls ≡ was) (now_is : c.cores.calls ≡ now) where
   -- the drum failed on the way of a turn to its limit
-  pub stops_in_turn : (count : ℕ) (events : List Timed) (rec : Record) → length turns < count → AreTurns blank empty_desk turns → tells ≡ true
+  pub stops_in_turn : (count : ℕ) (events : List Timed) (answers : TurnAnswers) (rec : Record) → length turns < count → AreTurns blank empty_desk turns → tells ≡ true
+      → events ≡ take (length events) (events_of_turn (1000 * length turns) (texts_behind blank turns) (desk_behind blank empty_desk turns) answers)
       → Follows (heard_in 0 (events_by turns) ++ (map Took events ++ Went (1000 * (length turns + 1)) (Some Drum) ∷ [])) a c → rec ≡ record_so_far (run_apart c)
       → StopsInTurn base count was now rec
-  stops_in_turn count events rec few lawful told h rec_is =
+  stops_in_turn count events answers rec few lawful told part h rec_is =
       let limit = 1000 * (length turns + 1) in
       let last = Went limit (Some Drum) ∷ [] in
       let apart = follows_apart (heard_in 0 (events_by turns)) (map Took events ++ last) a c h in
       let b = apart.0 in
       let run = run_behind base tells turns a b begins was was_is told apart.1 in
       let given = all_taken events last b c apart.2 in
-      let went : Advances limit (Err Drum) given.0 c = subst (λ (w : Whole). Advances limit (Err Drum) given.0 w) (sym given.3.2) given.3.1 in
+      let went : Advances limit (Err Drum) given.0 c = subst (λ (w : Whole). Advances limit (Err Drum) given.0 w) (sym given.4.2) given.4.1 in
       let s : StopsAtLoad limit (run_over given.0) (run_apart c) given.0.cores.calls c.cores.calls = went.ended.0 (given.2 ∙ run.1) in
       record {
         before = turns;
         few = few;
         lawful = lawful;
         events = events;
+        answers = answers;
+        given = part;
         at = s.at;
         part = subst (λ (r : Run). AfterSteps limit r s.at) (given.1 ∙ ap (given_all events) run.0) s.part;
         early = s.early;
@@ -102,6 +106,6 @@ module _ (base : Script) (tells : Bool) (turns : List TurnSeen) (a c : Whole) (b
             subst (λ (r : Record). IsCountedToLoad [] r.entries was now (calls_to_load s.load.due.user s.at)) (sym rec_is)
             (subst (λ (o : Option CallList). IsCountedToLoad [] c.bare.entries was o (calls_to_load s.load.due.user s.at)) now_is
             (counted_then_cut [] b.bare.entries c.bare.entries was b.cores.calls c.cores.calls (calls_to_load s.load.due.user s.at) (counted_behind base tells turns a b begins was was_is apart.1)
-            (counted_then_cut b.bare.entries given.0.bare.entries c.bare.entries b.cores.calls given.0.cores.calls c.cores.calls (calls_to_load s.load.due.user s.at) (taken_counted events last b c apart.2)
+            (counted_then_cut b.bare.entries given.0.bare.entries c.bare.entries b.cores.calls given.0.cores.calls c.cores.calls (calls_to_load s.load.due.user s.at) given.3
             (subst (λ (es : List Entry). IsCountedToLoad es c.bare.entries given.0.cores.calls c.cores.calls (calls_to_load s.load.due.user s.at)) (entries_joined given.0.cores.memory.words (run_with given.0.cores.memory.places given.0.bare)) s.counted))));
       }

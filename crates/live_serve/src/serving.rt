@@ -36,11 +36,12 @@ pub fn serve<D: Medium, L: Link>(
     if link.open(port).is_err() {
         return Err(ServingFault::Link);
     }
+    let talked = talk(alloc, run, turns, link)?;
     let Talked {
         core,
         events,
         ended,
-    } = talk(alloc, run, turns, link)?;
+    } = talked;
     let (supervisor, cores) = core.into_parts();
     let drum_back = cores.back();
     let _ = drum_back;
@@ -49,8 +50,10 @@ pub fn serve<D: Medium, L: Link>(
             events,
             record: supervisor.close(alloc)?,
         }),
-        Err(ServeFault::Link) => Err(ServingFault::Link),
-        Err(ServeFault::Drum) => Ok(Served::Stopped(supervisor.stop(alloc)?)),
-        Err(ServeFault::Disk | ServeFault::NoMemory) => Err(ServingFault::NoMemory),
+        Err(fault) => match fault {
+            ServeFault::Link => Err(ServingFault::Link),
+            ServeFault::Drum => Ok(Served::Stopped(supervisor.stop(alloc)?)),
+            ServeFault::Disk | ServeFault::NoMemory => Err(ServingFault::NoMemory),
+        },
     }
 }

@@ -1,0 +1,55 @@
+-- What a run leaves behind the talk that was had over it.
+use Rattle.std.proofs.Common.{◌≡◌, ℕ, Bool, false, List, [], replicate, Option, Ok, Err, subst}
+use Rattle.std.specs.Prelude.{OnOk, IfErr}
+use Rattle.std.specs.declared.result.Result.{Result}
+use Rattle.faults.specs.Faults.{Rose}
+use Rattle.medium.specs.Medium.{CallList}
+use Rattle.ctss_types.specs.declared.script.Script.{Script}
+use Rattle.ctss_types.specs.declared.script.Timed.{Timed}
+use Rattle.ctss_types.specs.declared.history.Record.{Record}
+use Rattle.plan_model.specs.Loads.{Places}
+use Rattle.system_model.specs.Run.{ended}
+use Rattle.system_model.specs.Record.{record_from}
+use Rattle.live_core.specs.Core.{CoreCall}
+use Rattle.supervisor.specs.Seen.{run_with, record_so_far}
+use Rattle.supervisor.specs.Whole.{Whole, run_apart}
+use Rattle.live_run.specs.Calls.{Follows}
+use Rattle.live_run.specs.Starts.{Begins}
+use Rattle.console_link.specs.Links.{LinkSeen, Did, DidOpen}
+use Rattle.console_server.specs.declared.fault.ServeFault.TheVariants as serve
+use Rattle.console_server.specs.Readings.{Then}
+use Rattle.live_serve.specs.Talks.{IsTalk, TalkIsDone, TalkIsCut}
+use Rattle.live_serve.specs.Live.{IsLiveRecord, IsStopped}
+use Rattle.live_serve.proofs.Ends.{live_record, stops_in_turn}
+
+pub on_ok : {T E : Type 0} (r : Result T E) (x : T) (P : Type 0) → r ≡ Ok x → OnOk r P → P
+on_ok r x P is h = subst (λ (q : Result _ _). OnOk q P) is h
+
+pub if_err : {T E : Type 0} (r : Result T E) (f g : E) (P : E → Type 0) → r ≡ Err f → f ≡ g → IfErr r P → P g
+if_err r f g P is same h = subst P same (subst (λ (q : Result _ _). IfErr q P) is h)
+
+pub rose_as : (a b c d : ℕ) → a ≡ c → Rose a b → b ≡ d → Rose c d
+rose_as a b c d one rose two = subst (λ (n : ℕ). Rose c n) two (subst (λ (n : ℕ). Rose n b) one rose)
+
+module _ (base : Script) (told : Bool) (a b : Whole) (begins : Begins base told a) {C : Type 0} (goes : C → List CoreCall → C → Type 0) (old new : C) (follow : (calls : List CoreCall) → goes old calls new → Follows calls a b) (was now : Option CallList) (was_is : a.cores.calls ≡ was) (now_is : b.cores.calls ≡ now) where
+  served : (count : ℕ) (events : List Timed) (k l m : LinkSeen) (rec : Record) → Did (DidOpen false) k l → TalkIsDone goes a.bare.texts count events l m old new
+      → ((p : Places) → rec ≡ record_from (ended (run_with p b.bare))) → IsLiveRecord base count events told was now rec × IsTalk count events k m
+  served count events k l m rec opened talk rec_is =
+      let t : TalkIsDone goes (replicate 32 []) count events l m old new = subst (λ (texts : List (List ℕ)). TalkIsDone goes texts count events l m old new) begins.texts talk in (
+        live_record base told t.turns a b begins was was_is count events rec now t.many t.events_are (follow _ t.core) rec_is now_is,
+        record { turns = t.turns; many = t.many; lawful = t.lawful; link = Then (DidOpen false) _ k l m opened t.link; events_are = t.events_are },
+      )
+
+  pub served_as : (count : ℕ) (events shown : List Timed) (k l m : LinkSeen) (rec : Record) → events ≡ shown → Did (DidOpen false) k l → TalkIsDone goes a.bare.texts count events l m old new
+      → ((p : Places) → rec ≡ record_from (ended (run_with p b.bare))) → IsLiveRecord base count shown told was now rec × IsTalk count shown k m
+  served_as count events shown k l m rec is opened talk rec_is =
+      served count shown k l m rec opened (subst (λ (es : List Timed). TalkIsDone goes a.bare.texts count es l m old new) is talk) rec_is
+
+  pub stopped : (count : ℕ) (faults_were faults_are : ℕ) (rec : Record) → TalkIsCut goes a.bare.texts count serve.Drum old new → rec ≡ record_so_far (run_apart b) → Rose faults_were faults_are
+      → IsStopped base count told was now faults_were faults_are rec
+  stopped count faults_were faults_are rec talk rec_is rose =
+      let t : TalkIsCut goes (replicate 32 []) count serve.Drum old new = subst (λ (texts : List (List ℕ)). TalkIsCut goes texts count serve.Drum old new) begins.texts talk in
+      record {
+        stopped = λ tells. stops_in_turn base told t.turns a b begins was now was_is now_is count t.events t.answers rec t.few t.lawful tells t.part (follow _ t.core) rec_is;
+        cause = rose;
+      }

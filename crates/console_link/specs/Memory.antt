@@ -7,6 +7,7 @@ use Rattle.console_link.specs.declared.link.LinkGot.{LinkGot}
 use Rattle.console_link.specs.declared.link.LinkGot.TheVariants as got
 use Rattle.console_link.specs.declared.link.LinkTook.{LinkTook}
 use Rattle.console_link.specs.declared.link.LinkTook.TheVariants as took
+use Rattle.console_link.specs.declared.link.CallMade.{CallMade}
 use Rattle.console_link.specs.declared.link.CallMade.TheVariants as made
 use Rattle.console_link.specs.declared.memory.LinkAt.{LinkAt}
 use Rattle.console_link.specs.declared.memory.LinkCall.{LinkCall}
@@ -17,6 +18,11 @@ use Rattle.console_link.specs.Links.{Counts, Passed, CallList, LinkSeen, with_ca
 -- no calls yet, which are told where there is room for any
 abbrev pub no_calls : ℕ → Option CallList
 no_calls room = if nat_eq room 0 then None else Some (record { made = []; room = room })
+
+-- the calls made, none where they are not told
+abbrev pub calls_told : Option CallList → List CallMade
+calls_told None = []
+calls_told (Some calls) = calls.made
 
 -- one more, up to the end of a u64
 abbrev pub next : ℕ → ℕ

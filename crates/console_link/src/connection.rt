@@ -93,6 +93,13 @@ impl Connection {
         self.writes
     }
 
+    /// The bytes that were sent to the peer.
+    pub(crate) fn sent(&self) -> &[u8]
+        ensures { result.now ≡ self.now.sent }
+    {
+        self.sent.as_slice()
+    }
+
     /// Opens or closes it.
     pub(crate) fn set_open(&mut self, opened: bool)
         ensures { self.new ≡ with_open opened self.old }

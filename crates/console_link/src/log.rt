@@ -1,7 +1,7 @@
 //! The calls that were made of a link in memory.
 ghost use Rattle.std.specs.Prelude.{◌≡◌, IfOk};
 ghost use Rattle.console_link.specs.Links.{with_call};
-ghost use Rattle.console_link.specs.Memory.{no_calls};
+ghost use Rattle.console_link.specs.Memory.{no_calls, calls_told};
 
 use crate::link::CallMade;
 use faults::NoMemory;
@@ -37,6 +37,17 @@ impl CallLog {
             room,
             made: Vec::with_capacity(alloc, room as usize)?,
         })
+    }
+
+    /// The calls made so far, none where they are not told.
+    pub(crate) fn calls(&self) -> &[CallMade]
+        ensures { result.now ≡ calls_told self.now }
+    {
+        if self.tells {
+            self.made.as_slice()
+        } else {
+            &[]
+        }
     }
 
     /// Adds a call. Where there is no room, the calls are told no more.

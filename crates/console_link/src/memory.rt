@@ -2,7 +2,7 @@
 ghost use Rattle.std.specs.Prelude.{◌≡◌, ◌<◌, ◌≤◌, ◌^◌, ◌&&◌, nat_eq, true, length, take, drop, is_err, IfOk};
 ghost use Rattle.console_link.specs.Fields.{AreCounts, IsListening};
 ghost use Rattle.console_link.specs.Links.{Did, DidOpen, DidAccept, DidRead, DidWrite, DidClose, DidWait, given, taken, GotFits, TookFits};
-ghost use Rattle.console_link.specs.Memory.{LinkState, link_of, is_listed as is_named, same_call as are_same, memory_seen, open_fails, after_open, wait_fails, after_wait, accept_answer, after_accept, link_read_answer, link_after_read, link_write_answer, link_after_write, link_after_close, connection_at, count_given, after_read, OverAtEnd};
+ghost use Rattle.console_link.specs.Memory.{LinkState, link_of, is_listed as is_named, same_call as are_same, memory_seen, open_fails, after_open, wait_fails, after_wait, accept_answer, after_accept, link_read_answer, link_after_read, link_write_answer, link_after_write, link_after_close, connection_at, count_given, after_read, OverAtEnd, calls_told};
 
 use crate::connection::Connection;
 use crate::link::{Accepted, CallMade, Failed, Link, LinkGot, LinkTook};
@@ -131,6 +131,23 @@ impl MemoryLink {
             waits: 0,
             log: CallLog::new(alloc, calls)?,
         })
+    }
+
+    /// The bytes that were sent to a peer, none to one that there is not.
+    pub fn sent(&self, id: u32) -> &[u8]
+        ensures { result.now ≡ (connection_at self.now id).sent }
+    {
+        match self.connections.get(id as usize) {
+            Some(connection) => connection.sent(),
+            None => &[],
+        }
+    }
+
+    /// The calls made so far, none where they are not told.
+    pub fn calls(&self) -> &[CallMade]
+        ensures { result.now ≡ calls_told self.now.calls }
+    {
+        self.log.calls()
     }
 
     /// The next peer's connection.

@@ -53,9 +53,13 @@ pub all_taken : (es : List Timed) (calls : List CoreCall) (old new : Whole) → 
     → (mid : Whole) × (run_over mid ≡ given_all es (run_over old)) × (mid.cores.memory.tells ≡ old.cores.memory.tells) × AreCounted old mid × Follows calls mid new
 all_taken [] calls old new h = (old, sym (given_none (run_over old)), refl, counted_nowhere old, h)
 all_taken (e ∷ es) calls old new h =
-    let rest = all_taken es calls h.0 new h.2 in
-    (rest.0, rest.1 ∙ ap (given_all es) (taken e old h.0 h.1) ∙ given_both e es (run_over old), rest.2 ∙ ap (λ (c : CoresState). c.memory.tells) h.1.cores,
-        counted_both old h.0 rest.0 (counted_taken e old h.0 h.1) rest.3, rest.4)
+    let rest = all_taken es calls h.0 new h.2 in (
+      rest.0,
+      rest.1 ∙ ap (given_all es) (taken e old h.0 h.1) ∙ given_both e es (run_over old),
+      rest.2 ∙ ap (λ (c : CoresState). c.memory.tells) h.1.cores,
+      counted_both old h.0 rest.0 (counted_taken e old h.0 h.1) rest.3,
+      rest.4,
+    )
 
 pub calls_are_runs : CallsAreRuns
 calls_are_runs [] old new told h = (ap run_over h, ap (λ (w : Whole). w.cores.memory.tells) h ∙ told)

@@ -60,7 +60,11 @@ in_order n last texts desk [] is = omega (arith, is)
 in_order n last texts desk (t ∷ turns) is =
     let up : 1000 * n ≤ 1000 * (n + 1) = omega arith in
     let next : 1000 * suc n ≡ 1000 * (n + 1) = omega arith in
-    let rest : last ≡ 1000 * (suc n + length turns) = omega (arith, is) in
-    (up, (late_turn (1000 * n) texts desk t.answers,
+    let rest : last ≡ 1000 * (suc n + length turns) = omega (arith, is) in (
+      up,
+      (
+        late_turn (1000 * n) texts desk t.answers,
         subst (λ (k : ℕ). AreInOrder k last (parts_from (suc n) (events_of_turns (suc n) t.shown (desk_after texts desk t.answers) turns))) next
-        (in_order (suc n) last t.shown (desk_after texts desk t.answers) turns rest)))
+            (in_order (suc n) last t.shown (desk_after texts desk t.answers) turns rest),
+      ),
+    )

@@ -66,7 +66,7 @@ impl Registers {
             → (IsOk result ↔ HasBlock self.now (relocated_address self.now address / 256)) }
         ensures value { IfOk result (λ at. at ≡ address + 256 * self.now.base) }
     {
-        if address / BLOCK_WORDS < u16::from(self.blocks) {
+        if u32::from(address) < u32::from(BLOCK_WORDS) * u32::from(self.blocks) {
             Ok(address + BLOCK_WORDS * u16::from(self.base))
         } else {
             Err(Outside)

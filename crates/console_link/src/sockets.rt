@@ -28,7 +28,7 @@ struct Listening {
     listener: TcpListener,
 }
 
-/// Sockets. It tells no content and no calls.
+/// Sockets at 127.0.0.1. It tells no content and no calls.
 #[derive(Drop)]
 pub struct MioLink<'r, R: Net> {
     net: &'r R,
@@ -83,7 +83,7 @@ impl<'r, R: Net> MioLink<'r, R> {
 
     fn listen(&self, port: u16) -> io::Result<Listening> {
         let poll = Poll::new(self.net)?;
-        let address = SocketAddr::from((Ipv4Addr::UNSPECIFIED, port));
+        let address = SocketAddr::from((Ipv4Addr::LOCALHOST, port));
         let mut listener = TcpListener::bind(self.net, address)?;
         poll.registry()
             .register(&mut listener, Token(usize::MAX), Interest::READABLE)?;

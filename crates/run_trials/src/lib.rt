@@ -15,3 +15,5 @@ mod play;
 mod services;
 #[cfg(test)]
 mod sessions;
+#[cfg(test)]
+mod typing;

@@ -6,7 +6,7 @@ use Rattle.std.proofs.lemmas.Fmt.{decimal_by_steps}
 use Rattle.std.proofs.lemmas.List.Folds.{list_all-append}
 use Rattle.bcd48.specs.Characters.{is_character}
 
-below_ten : (n : ℕ) → n < 10 → is_character (48 + n) ≡ true
+pub below_ten : (n : ℕ) → n < 10 → is_character (48 + n) ≡ true
 below_ten zero h = refl
 below_ten (suc zero) h = refl
 below_ten (suc (suc zero)) h = refl

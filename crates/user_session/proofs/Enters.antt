@@ -1,5 +1,5 @@
 -- A turn at a supervisor entry that does what the row says is a turn of the user.
-use Rattle.std.proofs.Common.{◌≡◌, ℕ, true, false, List, None}
+use Rattle.std.proofs.Common.{◌≡◌, ℕ, true, List, None}
 use Rattle.std.specs.declared.result.Result.{Result}
 use Rattle.machine_model.specs.Machine.{table}
 use Rattle.machine_model.specs.Step.{entry}

@@ -1,33 +1,29 @@
 -- Answers of a directory that tells its files, in the words of rows.
 use Rattle.std.proofs.Common.{◌≡◌, ◌≤◌, ℕ, zero, suc, Bool, true, List, [], ◌∷◌, ◌++◌, length, map, take, arith, append_assoc, Option, Some, None, Ok, Err, refl, sym, ap, ◌∙◌, subst}
-use Rattle.std.specs.Prelude.{option_to_list, IsErrOf}
 use Rattle.std.specs.declared.result.Result.{Result}
 use Rattle.ctss_types.specs.Names.{NamePair}
 use Rattle.ctss_types.specs.declared.file.FileBody.{FileBody}
 use Rattle.ctss_types.specs.declared.file.Refusal.{Refusal}
 use Rattle.time_sharing.specs.Machine.{Line, Item, In, Out, Ending}
 use Rattle.time_sharing.specs.Rows.{Outcome, out_all}
-use Rattle.file_model.specs.Files.{got, file_named, stat_of, put}
+use Rattle.file_model.specs.Files.{got, stat_of, put}
 use Rattle.file_model.specs.declared.Stat.{Stat}
-use Rattle.file_model.specs.Texts.{refusal_number, refusal_text}
+use Rattle.file_model.specs.Texts.{refusal_text}
 use Rattle.file_map.specs.declared.fault.PortFault.{PortFault}
-use Rattle.file_map.specs.declared.fault.PortFault.TheVariants.{Refused, Disk, NoMemory}
+use Rattle.file_map.specs.declared.fault.PortFault.TheVariants.{Refused}
 use Rattle.file_map.specs.Answers.{Answers, Leaves}
 use Rattle.file_map.specs.Known.{known, known_of, AnswersOver}
 use Rattle.program_model.specs.declared.Deck.{Deck}
 use Rattle.program_model.specs.declared.LoadFault.{LoadFault}
 use Rattle.program_model.specs.Decks.{filled, words_got}
-use Rattle.program_model.specs.Lines.{lines_of_words}
 use Rattle.cmd_program.specs.declared.load.PrepareFault.{PrepareFault}
 use Rattle.cmd_program.specs.declared.load.PrepareFault.TheVariants.{Load}
 use Rattle.cmd_program.specs.Loads.{Prepares, PreparesOver, FillsOver}
 use Rattle.cmd_files.specs.Lines.{lines_got}
 use Rattle.user_model.specs.Inner.{Inner}
-use Rattle.user_model.specs.Programs.{goes, replied, files_changed}
-use Rattle.user_model.specs.Commands.{says, printed, changed, input_begun, input_made}
+use Rattle.user_model.specs.Commands.{says, printed, input_begun, input_made}
 use Rattle.user_model.specs.User.{User}
 use Rattle.user_model.specs.Answers.{IsRow}
-use Rattle.user_session.specs.Changes.{change_number, change_text}
 
 -- where all is told, an answer is that of the files themselves
 pub told_over : {T : Type 0} (result : Result T PortFault) (files : List FileBody) (told : List FileBody → Result T Refusal) → AnswersOver true files result told → Answers result (told files)
@@ -58,26 +54,6 @@ known_told (Err r) = refl
 
 pub leaves_told : {T : Type 0} (done : Result T PortFault) (told : Result (List FileBody) Refusal) (old new : List FileBody) → Leaves done (known_of true told) old new → Leaves done told old new
 leaves_told done told old new h = subst (λ (r : Result (List FileBody) Refusal). Leaves done r old new) (known_told told) h
-
--- a change by a call, or its refusal
-pub called : {T : Type 0} (done : Result T PortFault) (told : Result (List FileBody) Refusal) (i : Inner) (new : List FileBody) (arguments : ℕ)
-    → ¬ IsErrOf done NoMemory → ¬ IsErrOf done Disk → Leaves done told i.files new
-    → files_changed i arguments told ≡ goes (record (replied i arguments (change_number done) None) { files = new })
-called (Ok x) told i new arguments memory disk h = ap (files_changed i arguments) h
-called (Err (Refused r)) told i new arguments memory disk h =
-    ap (files_changed i arguments) h.0 ∙ ap (λ (fs : List FileBody). goes (record (replied i arguments (refusal_number r) None) { files = fs })) (sym h.1)
-called (Err Disk) told i new arguments memory disk h = absurd (disk refl)
-called (Err NoMemory) told i new arguments memory disk h = absurd (memory refl)
-
--- a change by a command, or its refusal
-pub commanded : {T : Type 0} (done : Result T PortFault) (told : Result (List FileBody) Refusal) (i : Inner) (new : List FileBody) (n t : ℕ)
-    → ¬ IsErrOf done NoMemory → ¬ IsErrOf done Disk → Leaves done told i.files new
-    → changed told i n t ≡ says (option_to_list (change_text done)) (record i { files = new }) n t
-commanded (Ok x) told i new n t memory disk h = ap (λ (r : Result (List FileBody) Refusal). changed r i n t) h
-commanded (Err (Refused r)) told i new n t memory disk h =
-    ap (λ (q : Result (List FileBody) Refusal). changed q i n t) h.0 ∙ ap (λ (fs : List FileBody). says (refusal_text r ∷ []) (record i { files = fs }) n t) (sym h.1)
-commanded (Err Disk) told i new n t memory disk h = absurd (disk refl)
-commanded (Err NoMemory) told i new n t memory disk h = absurd (memory refl)
 
 -- INPUT of a file that is there, and of one that isn't
 pub input_there : (name : NamePair) (file : Option FileBody) (s : Stat) (i : Inner) (n t : ℕ) → stat_of file ≡ Ok s → input_begun name file i n t ≡ says (refusal_text Refusal.NameUsed ∷ []) i n t

@@ -1,7 +1,6 @@
 -- proof: what the answer of a call that changes the directory says.
-use Rattle.std.specs.Prelude.{◌≡◌, ℕ, Option, Some, None, Ok, Err}
+use Rattle.std.specs.Prelude.{ℕ, Option, Some, None, Ok, Err}
 use Rattle.std.specs.declared.result.Result.{Result}
-use Rattle.ctss_types.specs.declared.file.Refusal.{Refusal}
 use Rattle.time_sharing.specs.Machine.{Line}
 use Rattle.file_map.specs.declared.fault.PortFault.{PortFault}
 use Rattle.file_map.specs.declared.fault.PortFault.TheVariants.{Refused, Disk, NoMemory}

@@ -1,10 +1,7 @@
-use Rattle.std.proofs.Common.{◌≡◌, ◌∙◌, ℕ, List, Ok, Err, sym, ap}
-use Rattle.std.specs.declared.result.Result.{Result}
+use Rattle.std.proofs.Common.{◌≡◌, ◌∙◌, List, Ok, sym, ap}
 use Rattle.ctss_types.specs.Names.{NamePair}
 use Rattle.ctss_types.specs.declared.file.FileBody.{FileBody}
 use Rattle.file_model.specs.Files.{got}
-use Rattle.program_model.specs.declared.Deck.{Deck}
-use Rattle.program_model.specs.declared.LoadFault.{LoadFault}
 use Rattle.program_model.specs.Decks.{deck_of, deck_name}
 use Rattle.user_model.specs.User.{User}
 use Rattle.user_session.proofs.Files.{told_deck, refused_deck}

@@ -37,9 +37,11 @@ fn lines_go_in_and_out(rt: HostRuntime) -> Result<(), Fail> {
     let mut files = Files::new(rt.alloc(), 10);
     let line = LineText::from_bytes(b"DEAR PROFESSOR,")?;
     let words = line_words(&line);
+    let words = &words[..];
+    assert_eq!(rt; words.len(), 14);
     assert!(rt; words[0] == name_word(b"DEAR P"));
     assert!(rt; words[13] == name_word(b""));
-    assert!(rt; files.append(letter(), &words).is_ok());
+    assert!(rt; files.append(letter(), words).is_ok());
     assert!(rt; files.append(letter(), &[name_word(b"YES")]).is_ok());
     let Ok(lines) = printed(rt.alloc(), letter(), &mut files) else {
         panic!(rt; "not printed");

@@ -8,6 +8,8 @@ mod ends;
 #[cfg(test)]
 mod greetings;
 #[cfg(test)]
+mod keeping;
+#[cfg(test)]
 mod modes;
 #[cfg(test)]
 mod play;

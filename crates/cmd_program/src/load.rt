@@ -2,8 +2,8 @@
 ghost use Rattle.std.specs.Prelude.{◌≡◌, ◌≤◌, ◌<◌, ◌*◌, ◌^◌, IfOk, OnOk, OnErr, IsErrOf};
 ghost use Rattle.faults.specs.Faults.{Rose};
 ghost use Rattle.file_model.specs.Files.{got};
-ghost use Rattle.program_model.specs.Decks.{deck_of, words_got, filled};
-ghost use Rattle.cmd_program.specs.Loads.{Prepares};
+ghost use Rattle.program_model.specs.Decks.{deck_of};
+ghost use Rattle.cmd_program.specs.Loads.{PreparesOver, FillsOver};
 
 use crate::{deck_in, store_deck};
 use cpu_regs::{MemoryPort, Regs};
@@ -25,15 +25,16 @@ pub enum PrepareFault {
 
 /// Reads what a file says as a deck, for a user of so many blocks.
 pub fn prepare<F: FilePort>(name: FileName, quota: u8, files: &mut F) -> Result<Deck, PrepareFault>
-    ensures answer { Prepares result (deck_of quota (got name (F.files files.old))) }
+    requires works { F.Works files.old }
+    ensures answer { PreparesOver (F.tells files.old) (F.files files.old) result (λ fs. deck_of quota (got name fs)) }
     ensures blocks { IfOk result (λ d. d.blocks ≤ quota) }
     ensures start { IfOk result (λ d. d.start < 256 * d.blocks) }
     ensures most { IfOk result (λ d. d.blocks ≤ 128) }
-    ensures left { F.files files.new ≡ F.files files.old }
-    ensures same_quota { F.quota files.new ≡ F.quota files.old }
-    ensures past { F.history files.new ≡ F.history files.old }
+    ensures left { ¬ IsErrOf result PrepareFault.Disk → F.files files.new ≡ F.files files.old }
+    ensures told { ¬ IsErrOf result PrepareFault.Disk → F.tells files.new ≡ F.tells files.old }
+    ensures beside { ¬ IsErrOf result PrepareFault.Disk → F.beside files.new ≡ F.beside files.old }
+    ensures works { ¬ IsErrOf result PrepareFault.Disk → F.Works files.new }
     ensures keeps { F.Keeps files.old files.new }
-    ensures kept { F.faults files.old ≤ F.faults files.new }
     ensures cause { IsErrOf result PrepareFault.Disk → Rose (F.faults files.old) (F.faults files.new) }
 {
     match files.get(name) {
@@ -54,18 +55,19 @@ pub fn fill<M: MemoryPort, F: FilePort>(
     core: &mut M,
     files: &mut F,
 ) -> Result<(), StepFault>
-    requires { fill.now.start < 2 ^ 15 }
-    ensures words { OnOk result (M.words core.new
-        ≡ filled (words_got (got fill.now.name (F.files files.old))) (M.words core.old)) }
+    requires start { fill.now.start < 2 ^ 15 }
+    requires works { F.Works files.old }
+    ensures words { OnOk result (FillsOver (F.tells files.old) (F.files files.old) fill.now.name
+        (M.words core.old) (M.words core.new)) }
     ensures regs { OnOk result (regs.new ≡ record regs.old { ic = fill.now.start }) }
     ensures same_words { OnErr result (M.words core.new ≡ M.words core.old) }
     ensures same_regs { OnErr result (regs.new ≡ regs.old) }
     ensures core_keeps { M.Keeps core.old core.new }
-    ensures left { F.files files.new ≡ F.files files.old }
-    ensures same_quota { F.quota files.new ≡ F.quota files.old }
-    ensures past { F.history files.new ≡ F.history files.old }
+    ensures left { ¬ IsErrOf result StepFault.Disk → F.files files.new ≡ F.files files.old }
+    ensures told { ¬ IsErrOf result StepFault.Disk → F.tells files.new ≡ F.tells files.old }
+    ensures beside { ¬ IsErrOf result StepFault.Disk → F.beside files.new ≡ F.beside files.old }
+    ensures works { ¬ IsErrOf result StepFault.Disk → F.Works files.new }
     ensures keeps { F.Keeps files.old files.new }
-    ensures kept { F.faults files.old ≤ F.faults files.new }
     ensures cause { IsErrOf result StepFault.Disk → Rose (F.faults files.old) (F.faults files.new) }
 {
     match files.get(fill.name) {

@@ -24,5 +24,5 @@ pub use name::FileName;
 pub use number::{ConsoleNo, UserNo};
 pub use script::{Account, AccountList, Event, Params, Script, Timed, TimedList};
 pub use sequence::{Bytes, LineList, Sequence, WordList};
-pub use session::{Command, Console, CutKind, Ending, Service, Waiting};
+pub use session::{Console, CutKind, Ending, Service, Waiting};
 pub use words::{first_word, name_text, name_word};

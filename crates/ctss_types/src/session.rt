@@ -44,17 +44,3 @@ pub struct Waiting {
     pub user: u8,
     pub left: u64,
 }
-
-/// What a line asks for, by the table of commands.
-#[derive(Clone, Copy, Debug, PartialEq, Eq)]
-pub enum Command {
-    /// A line without a word.
-    Empty,
-    Logout,
-    /// A program of this name is loaded, and goes.
-    LoadGo(Word),
-    /// A known command with words that it doesn't take.
-    BadArguments,
-    /// A first word that is no command.
-    Unknown,
-}

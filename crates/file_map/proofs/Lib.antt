@@ -3,5 +3,7 @@ pub mod Entries
 pub mod Renaming
 pub mod Tracks
 pub mod Counts
+pub mod Modes
+pub mod Whole
 pub mod Operations
 pub mod Results

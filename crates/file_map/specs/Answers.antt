@@ -1,12 +1,8 @@
 -- proof: what a call on a directory answers and leaves, by what its definition tells: a call may also fail at the disk or want memory.
-use Rattle.std.specs.Prelude.{◌≡◌, ℕ, List, [], ◌∷◌, ◌++◌, Ok, Err}
+use Rattle.std.specs.Prelude.{◌≡◌, List, Ok, Err}
 use Rattle.std.specs.declared.result.Result.{Result}
 use Rattle.ctss_types.specs.declared.file.FileBody.{FileBody}
-use Rattle.ctss_types.specs.declared.file.CommonOp.{CommonOp}
-use Rattle.ctss_types.specs.declared.file.Reply.{Reply}
 use Rattle.ctss_types.specs.declared.file.Refusal.{Refusal}
-use Rattle.ctss_types.specs.declared.history.Entry.{Entry}
-use Rattle.ctss_types.specs.declared.history.Entry.TheVariants.{Common}
 use Rattle.file_map.specs.declared.fault.PortFault.{PortFault}
 use Rattle.file_map.specs.declared.fault.PortFault.TheVariants.{Refused, Disk, NoMemory}
 
@@ -30,8 +26,3 @@ IsNoRefusal (Ok x) = Unit {0}
 IsNoRefusal (Err (Refused r)) = ⊥
 IsNoRefusal (Err Disk) = Unit {0}
 IsNoRefusal (Err NoMemory) = Unit {0}
-
--- the history after an operation of a user: an entry more, if it was answered
-abbrev pub history_after : Result Reply PortFault → List Entry → ℕ → CommonOp → List Entry
-history_after (Ok reply) past user op = past ++ Common user op reply ∷ []
-history_after (Err fault) past user op = past

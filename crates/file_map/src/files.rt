@@ -1,5 +1,7 @@
 //! A directory in memory.
 ghost use Rattle.std.specs.Prelude.{◌≡◌, ◌+◌, ◌-◌, ◌≤◌, ◌<◌, ◌^◌, [], None, IfOk, MatchOption, IsErrOf};
+ghost use Rattle.std.specs.List.{All};
+ghost use Rattle.ctss_types.specs.declared.file.FileBody.{FileBody};
 ghost use Rattle.file_model.specs.Files.{file_named, with_new, if_they_fit, tracks_of};
 ghost use Rattle.file_map.specs.Answers.{Leaves};
 ghost use Rattle.file_map.specs.Directory.{NamesDiffer};
@@ -24,13 +26,13 @@ pub struct Files {
 }
 
 impl Model for Files {
-    ghost use Rattle.file_map.specs.Directory.{Directory, IsCounted};
+    ghost use Rattle.file_map.specs.Directory.{Directory, IsSound};
 
     ghost Value = { Directory };
 
     ghost view = { λ d. record { files = d.table; quota = d.quota } };
 
-    ghost invariant = { λ d. IsCounted d.table d.quota d.used };
+    ghost invariant = { λ d. IsSound d.table d.quota d.used };
 }
 
 /// Tracks in use after `after` of them came for `before`, if they keep the quota.
@@ -63,6 +65,7 @@ impl Files {
     pub fn with_first(alloc: Global, quota: u16, files: &[FileBody]) -> Result<Files, NoMemory>
         requires differ { NamesDiffer files.now }
         requires few { tracks_of files.now ≤ quota }
+        requires modes { All (λ (f : FileBody). f.mode ≤ 3) files.now }
         ensures { IfOk result (λ d. d ≡ record { files = files.now; quota = quota }) }
     {
         let table = FileTable::with_all(alloc, files)?;
@@ -98,19 +101,26 @@ impl Files {
 }
 
 impl FilePort for Files {
-    ghost use Rattle.std.specs.Prelude.{[]};
+    ghost use Rattle.std.specs.Prelude.{◌≡◌, [], true, refl};
+    ghost use Rattle.std.proofs.Common.{◌∙◌, lit≤};
 
     ghost files = { λ d. d.files };
 
     ghost quota = { λ d. d.quota };
 
-    ghost history = { λ _. [] };
+    ghost beside = { λ _. record { files = []; quota = 0; past = [] } };
+
+    ghost tells = { λ _. true };
 
     ghost faults = { λ _. 0 };
 
-    ghost Keeps = { λ _ _. Unit {0} };
+    ghost Works = { λ _. Unit {0} };
+
+    ghost Keeps = { λ a b. b.quota ≡ a.quota };
 
     fn stat(&self, name: FileName) -> Result<Stat, PortFault> {
+        // The quota is read for its range, which bounds a file's words.
+        let _quota = self.quota;
         match self.table.get(name) {
             Some(file) => Ok(Stat {
                 words: file.len() as u64,
@@ -208,13 +218,13 @@ impl FilePort for Files {
     }
 
     fn delete(&mut self, name: FileName) -> Result<(), PortFault> {
-        let Some(file) = self.table.get(name) else {
+        let Some(gone) = self.table.get(name) else {
             return Err(PortFault::Refused(Refusal::NoFile));
         };
-        if file.is_read_only() {
+        if gone.is_read_only() {
             return Err(PortFault::Refused(Refusal::ReadOnly));
         }
-        let tracks = file.tracks() as u32;
+        let tracks = gone.tracks() as u32;
         self.table.remove(name);
         self.used -= tracks;
         Ok(())
@@ -246,13 +256,16 @@ impl FilePort for Files {
         self.used
     }
 
-    fn drop_temporary(&mut self) -> Result<(), PortFault> {
+    fn drop_temporary(&mut self) {
         self.table.drop_temporary();
         self.used = self.table.tracks();
-        Ok(())
     }
 
-    ghost stays = { λ a. tt };
+    ghost stays = { λ a. refl };
 
-    ghost goes_on = { λ a b c one two. tt };
+    ghost goes_on = { λ a b c one two. two ∙ one };
+
+    ghost same_quota = { λ a b keeps. keeps };
+
+    ghost rises = { λ a b keeps. lit≤ tt };
 }

@@ -1,9 +1,10 @@
-ghost use Rattle.std.specs.Prelude.{◌≡◌, ◌≤◌, ℕ, List, Ok, IsErrOf};
+ghost use Rattle.std.specs.Prelude.{◌≡◌, ◌≤◌, ◌<◌, ◌^◌, ℕ, Bool, List, Ok, IfOk, IsErrOf};
 ghost use Rattle.faults.specs.Faults.{Rose};
 ghost use Rattle.ctss_types.specs.declared.file.FileBody.{FileBody};
-ghost use Rattle.ctss_types.specs.declared.history.Entry.{Entry};
 ghost use Rattle.file_model.specs.Files.{stat, read, got, written, appended, put, renamed, deleted, moded, lasting, tracks_of};
 ghost use Rattle.file_map.specs.Answers.{Answers, Leaves};
+ghost use Rattle.file_map.specs.Known.{AnswersOver, known_of};
+ghost use Rattle.file_map.specs.Beside.{Beside};
 ghost use Rattle.file_map.specs.Listing.{listing_of};
 
 use crate::PortFault;
@@ -22,10 +23,11 @@ pub struct ListingRow {
 /// A row for each file, in order of making.
 pub type Listing = Sequence<ListingRow>;
 
-/// A directory. In clauses it is the list of its files in order of making, and its quota.
+/// A directory. In clauses it is the list of its files in order of making, and its quota. Where its disk doesn't tell its
+/// records, names, modes and lengths are right, and each word stands as 0.
 ///
 /// A call answers what its definition says, or a fault: `Disk` only where the count of the disk's faults rose, and
-/// `NoMemory` where memory lacked, which leaves the files as they were. What `Disk` leaves isn't told.
+/// `NoMemory` where memory lacked, which leaves the files as they were. After `Disk` nothing may be asked any more.
 pub trait FilePort {
     /// The files in order of making.
     ghost files: { Self → List FileBody };
@@ -33,102 +35,120 @@ pub trait FilePort {
     /// How many tracks the files may take together.
     ghost quota: { Self → ℕ };
 
-    /// What was done to the common files through it; the calls here leave it as it is.
-    ghost history: { Self → List Entry };
+    /// The common files beside it, and what was done to them through it. The calls here leave them as they are.
+    ghost beside: { Self → Beside };
+
+    /// Whether the disk tells its records.
+    ghost tells: { Self → Bool };
 
     /// How often its disk has failed, up to the end of the count.
     ghost faults: { Self → ℕ };
 
-    /// The second stands over the same objects as the first.
+    /// No call has failed at the disk.
+    ghost Works: { Self → Type 0 };
+
+    /// The second stands over the same objects as the first, after calls.
     ghost Keeps: { Self → Self → Type 0 };
 
     /// How many words a file has, and its mode.
     fn stat(&self, name: FileName) -> Result<Stat, PortFault>
+        requires works { Works self.now }
         ensures answer { Answers result (stat name (files self.now)) }
+        ensures mode { IfOk result (λ s. s.mode ≤ 3) }
+        ensures words { IfOk result (λ s. s.words < 2 ^ 32) }
         ensures disk { ¬ IsErrOf result PortFault.Disk }
         ensures memory { ¬ IsErrOf result PortFault.NoMemory };
 
     /// So many words of a file from a place on.
     fn read(&mut self, name: FileName, place: u64, count: u16) -> Result<WordList, PortFault>
-        ensures answer { Answers result (read name place count (files self.old)) }
-        ensures left { files self.new ≡ files self.old }
-        ensures same_quota { quota self.new ≡ quota self.old }
-        ensures past { history self.new ≡ history self.old }
+        requires works { Works self.old }
+        ensures answer { AnswersOver (tells self.old) (files self.old) result (read name place count) }
+        ensures left { ¬ IsErrOf result PortFault.Disk → files self.new ≡ files self.old }
+        ensures told { ¬ IsErrOf result PortFault.Disk → tells self.new ≡ tells self.old }
+        ensures beside { ¬ IsErrOf result PortFault.Disk → beside self.new ≡ beside self.old }
+        ensures works { ¬ IsErrOf result PortFault.Disk → Works self.new }
         ensures keeps { Keeps self.old self.new }
-        ensures kept { faults self.old ≤ faults self.new }
         ensures cause { IsErrOf result PortFault.Disk → Rose (faults self.old) (faults self.new) };
 
     /// All words of a file.
     fn get(&mut self, name: FileName) -> Result<WordList, PortFault>
-        ensures answer { Answers result (got name (files self.old)) }
-        ensures left { files self.new ≡ files self.old }
-        ensures same_quota { quota self.new ≡ quota self.old }
-        ensures past { history self.new ≡ history self.old }
+        requires works { Works self.old }
+        ensures answer { AnswersOver (tells self.old) (files self.old) result (got name) }
+        ensures left { ¬ IsErrOf result PortFault.Disk → files self.new ≡ files self.old }
+        ensures told { ¬ IsErrOf result PortFault.Disk → tells self.new ≡ tells self.old }
+        ensures beside { ¬ IsErrOf result PortFault.Disk → beside self.new ≡ beside self.old }
+        ensures works { ¬ IsErrOf result PortFault.Disk → Works self.new }
         ensures keeps { Keeps self.old self.new }
-        ensures kept { faults self.old ≤ faults self.new }
         ensures cause { IsErrOf result PortFault.Disk → Rose (faults self.old) (faults self.new) };
 
     /// Writes words from a place on, over those that stand there and behind the end. At place 0 an absent file is made.
     fn write(&mut self, name: FileName, place: u64, words: &[Word]) -> Result<(), PortFault>
+        requires works { Works self.old }
         ensures left { let told = written name place words.now (quota self.old) (files self.old)
-            in Leaves result told (files self.old) (files self.new) }
-        ensures same_quota { quota self.new ≡ quota self.old }
-        ensures past { history self.new ≡ history self.old }
+            in Leaves result (known_of (tells self.old) told) (files self.old) (files self.new) }
+        ensures told { ¬ IsErrOf result PortFault.Disk → tells self.new ≡ tells self.old }
+        ensures beside { ¬ IsErrOf result PortFault.Disk → beside self.new ≡ beside self.old }
+        ensures works { ¬ IsErrOf result PortFault.Disk → Works self.new }
         ensures keeps { Keeps self.old self.new }
-        ensures kept { faults self.old ≤ faults self.new }
         ensures cause { IsErrOf result PortFault.Disk → Rose (faults self.old) (faults self.new) };
 
     /// Writes words behind a file's end. An absent file is made.
     fn append(&mut self, name: FileName, words: &[Word]) -> Result<(), PortFault>
+        requires works { Works self.old }
         ensures left { let told = appended name words.now (quota self.old) (files self.old)
-            in Leaves result told (files self.old) (files self.new) }
-        ensures same_quota { quota self.new ≡ quota self.old }
-        ensures past { history self.new ≡ history self.old }
+            in Leaves result (known_of (tells self.old) told) (files self.old) (files self.new) }
+        ensures told { ¬ IsErrOf result PortFault.Disk → tells self.new ≡ tells self.old }
+        ensures beside { ¬ IsErrOf result PortFault.Disk → beside self.new ≡ beside self.old }
+        ensures works { ¬ IsErrOf result PortFault.Disk → Works self.new }
         ensures keeps { Keeps self.old self.new }
-        ensures kept { faults self.old ≤ faults self.new }
         ensures cause { IsErrOf result PortFault.Disk → Rose (faults self.old) (faults self.new) };
 
     /// Replaces a file's content. An absent file is made.
     fn put(&mut self, name: FileName, words: &[Word]) -> Result<(), PortFault>
+        requires works { Works self.old }
         ensures left { let told = put name words.now (quota self.old) (files self.old)
-            in Leaves result told (files self.old) (files self.new) }
-        ensures same_quota { quota self.new ≡ quota self.old }
-        ensures past { history self.new ≡ history self.old }
+            in Leaves result (known_of (tells self.old) told) (files self.old) (files self.new) }
+        ensures told { ¬ IsErrOf result PortFault.Disk → tells self.new ≡ tells self.old }
+        ensures beside { ¬ IsErrOf result PortFault.Disk → beside self.new ≡ beside self.old }
+        ensures works { ¬ IsErrOf result PortFault.Disk → Works self.new }
         ensures keeps { Keeps self.old self.new }
-        ensures kept { faults self.old ≤ faults self.new }
         ensures cause { IsErrOf result PortFault.Disk → Rose (faults self.old) (faults self.new) };
 
-    /// Gives a file another name, in its place.
+    /// Gives a file another name, in its place. It makes no call of the disk.
     fn rename(&mut self, name: FileName, to: FileName) -> Result<(), PortFault>
+        requires works { Works self.old }
         ensures left { Leaves result (renamed name to (files self.old)) (files self.old) (files self.new) }
-        ensures same_quota { quota self.new ≡ quota self.old }
-        ensures past { history self.new ≡ history self.old }
-        ensures keeps { Keeps self.old self.new }
-        ensures kept { faults self.old ≤ faults self.new }
-        ensures cause { IsErrOf result PortFault.Disk → Rose (faults self.old) (faults self.new) };
+        ensures disk { ¬ IsErrOf result PortFault.Disk }
+        ensures told { tells self.new ≡ tells self.old }
+        ensures beside { beside self.new ≡ beside self.old }
+        ensures works { Works self.new }
+        ensures keeps { Keeps self.old self.new };
 
-    /// Takes a file out. It takes no memory.
+    /// Takes a file out. It takes no memory, and makes no call of the disk.
     fn delete(&mut self, name: FileName) -> Result<(), PortFault>
+        requires works { Works self.old }
         ensures left { Leaves result (deleted name (files self.old)) (files self.old) (files self.new) }
+        ensures disk { ¬ IsErrOf result PortFault.Disk }
         ensures memory { ¬ IsErrOf result PortFault.NoMemory }
-        ensures same_quota { quota self.new ≡ quota self.old }
-        ensures past { history self.new ≡ history self.old }
-        ensures keeps { Keeps self.old self.new }
-        ensures kept { faults self.old ≤ faults self.new }
-        ensures cause { IsErrOf result PortFault.Disk → Rose (faults self.old) (faults self.new) };
+        ensures told { tells self.new ≡ tells self.old }
+        ensures beside { beside self.new ≡ beside self.old }
+        ensures works { Works self.new }
+        ensures keeps { Keeps self.old self.new };
 
-    /// Gives a file another mode. It takes no memory.
+    /// Gives a file another mode. It takes no memory, and makes no call of the disk.
     fn chmode(&mut self, name: FileName, mode: u8) -> Result<(), PortFault>
+        requires works { Works self.old }
         ensures left { Leaves result (moded name mode (files self.old)) (files self.old) (files self.new) }
+        ensures disk { ¬ IsErrOf result PortFault.Disk }
         ensures memory { ¬ IsErrOf result PortFault.NoMemory }
-        ensures same_quota { quota self.new ≡ quota self.old }
-        ensures past { history self.new ≡ history self.old }
-        ensures keeps { Keeps self.old self.new }
-        ensures kept { faults self.old ≤ faults self.new }
-        ensures cause { IsErrOf result PortFault.Disk → Rose (faults self.old) (faults self.new) };
+        ensures told { tells self.new ≡ tells self.old }
+        ensures beside { beside self.new ≡ beside self.old }
+        ensures works { Works self.new }
+        ensures keeps { Keeps self.old self.new };
 
     /// A row for each file, in order.
     fn list(&self) -> Result<Listing, PortFault>
+        requires works { Works self.now }
         ensures answer { Answers result (Ok (listing_of (files self.now))) }
         ensures disk { ¬ IsErrOf result PortFault.Disk };
 
@@ -138,22 +158,28 @@ pub trait FilePort {
 
     /// How many tracks the files take together.
     fn tracks(&self) -> u32
+        requires works { Works self.now }
         ensures count { result ≡ tracks_of (files self.now) }
         ensures most { result ≤ quota self.now };
 
-    /// Takes the files of mode 0 out. It takes no memory.
-    fn drop_temporary(&mut self) -> Result<(), PortFault>
-        ensures left { Leaves result (Ok (lasting (files self.old))) (files self.old) (files self.new) }
-        ensures memory { ¬ IsErrOf result PortFault.NoMemory }
-        ensures same_quota { quota self.new ≡ quota self.old }
-        ensures past { history self.new ≡ history self.old }
-        ensures keeps { Keeps self.old self.new }
-        ensures kept { faults self.old ≤ faults self.new }
-        ensures cause { IsErrOf result PortFault.Disk → Rose (faults self.old) (faults self.new) };
+    /// Takes the files of mode 0 out. It takes no memory, and makes no call of the disk.
+    fn drop_temporary(&mut self)
+        requires works { Works self.old }
+        ensures left { files self.new ≡ lasting (files self.old) }
+        ensures told { tells self.new ≡ tells self.old }
+        ensures beside { beside self.new ≡ beside self.old }
+        ensures works { Works self.new }
+        ensures keeps { Keeps self.old self.new };
 
     /// A port that nothing was done to stands over the same objects.
     ghost stays: { (a : Self) → Keeps a a };
 
     /// So does one after several calls.
     ghost goes_on: { (a b c : Self) → Keeps a b → Keeps b c → Keeps a c };
+
+    /// The quota never changes.
+    ghost same_quota: { (a b : Self) → Keeps a b → quota b ≡ quota a };
+
+    /// The count of faults never falls.
+    ghost rises: { (a b : Self) → Keeps a b → faults a ≤ faults b };
 }

@@ -1,12 +1,13 @@
 -- claim: worked rows of files.
-use Rattle.std.specs.Prelude.{◌≡◌, ℕ, List, [], ◌∷◌, ◌++◌, replicate, Ok, Err}
-use Rattle.std.specs.declared.result.Result.{Result}
+use Rattle.std.specs.Prelude.{◌≡◌, ℕ, List, [], ◌∷◌, ◌++◌, replicate, codes, Ok, Err}
 use Rattle.ctss_types.specs.Names.{NamePair}
+use Rattle.ctss_types.specs.Words.{name_of}
 use Rattle.ctss_types.specs.declared.file.FileBody.{FileBody}
 use Rattle.ctss_types.specs.declared.file.CommonOp.TheVariants as op
-use Rattle.ctss_types.specs.declared.file.Reply.TheVariants.{Done, Words, Refused}
+use Rattle.ctss_types.specs.declared.file.Reply.TheVariants.{Words, Refused}
 use Rattle.ctss_types.specs.declared.file.Refusal.TheVariants.{NoFile, ReadOnly, Quota, NameUsed, PastEnd, BadMode}
 use Rattle.file_model.specs.Files.{read, written, put, renamed, deleted, moded, appended, lasting}
+use Rattle.file_model.specs.Texts.{listing_lines, refusal_text, refusal_number}
 use Rattle.file_model.specs.Commons.{reply_to, files_after}
 
 abbrev pub x : NamePair
@@ -52,3 +53,18 @@ pub record RowOfCommons : Type 0 where
   pub refused : reply_to 1 (file x 1 (1 ∷ 2 ∷ []) ∷ []) (op.Write y 0 (3 ∷ [])) ≡ Refused Quota
   pub kept : files_after 1 (file x 1 (1 ∷ 2 ∷ []) ∷ []) (op.Write y 0 (3 ∷ [])) ≡ file x 1 (1 ∷ 2 ∷ []) ∷ []
   pub answer : reply_to 1 (file x 1 (1 ∷ 2 ∷ []) ∷ []) (op.Read x 0 2) ≡ Words (1 ∷ 2 ∷ [])
+
+abbrev pub hello : NamePair
+hello = record { first = name_of (codes "HELLO"); second = name_of (codes "BSS") }
+
+abbrev pub note : NamePair
+note = record { first = name_of (codes "A"); second = name_of (codes "LETTER") }
+
+-- 10 words take a track, 433 words two, and no file none
+pub record RowOfTexts : Type 0 where
+  pub one : listing_lines 10 (file hello 1 (replicate 10 0) ∷ []) ≡ codes "HELLO  BSS    1      10" ∷ codes "1 OF 10 TRACKS" ∷ []
+  pub more : listing_lines 65535 (file note 3 (replicate 433 0) ∷ file hello 0 [] ∷ [])
+      ≡ codes "A      LETTER 3     433" ∷ codes "HELLO  BSS    0       0" ∷ codes "3 OF 65535 TRACKS" ∷ []
+  pub none : listing_lines 2 [] ≡ codes "0 OF 2 TRACKS" ∷ []
+  pub refused : refusal_text Quota ≡ codes "QUOTA EXCEEDED"
+  pub number : refusal_number Quota ≡ 3

@@ -1,3 +1,5 @@
+ghost use Rattle.std.specs.Prelude.{IsErrOf};
+
 use ctss_types::{FileBody, FileName, NoMemory, Refusal, Sequence};
 use file_map::{FilePort, Files, PortFault};
 use std::alloc::Global;
@@ -49,7 +51,10 @@ fn two_tracks(alloc: Global) -> Result<Vec<Word>, NoMemory> {
     Ok(words)
 }
 
-fn done<P: FilePort>(port: &mut P, change: &Change<'_>) -> Answer {
+fn done<P: FilePort>(port: &mut P, change: &Change<'_>) -> Answer
+    requires { P.Works port.old }
+    ensures { ¬ IsErrOf result PortFault.Disk → P.Works port.new }
+{
     match change {
         Change::Write(n, place, words) => port.write(name(*n), *place, words),
         Change::Append(n, words) => port.append(name(*n), words),
@@ -57,23 +62,33 @@ fn done<P: FilePort>(port: &mut P, change: &Change<'_>) -> Answer {
         Change::Rename(n, to) => port.rename(name(*n), name(*to)),
         Change::Delete(n) => port.delete(name(*n)),
         Change::Mode(n, mode) => port.chmode(name(*n), *mode),
-        Change::DropTemporary => port.drop_temporary(),
+        Change::DropTemporary => {
+            port.drop_temporary();
+            Ok(())
+        }
     }
 }
 
-/// Makes each change, again where memory lacked, which must be answered so.
-fn all_done<P: FilePort>(rt: &impl Abort, port: &mut P, changes: &[(Change<'_>, Answer)]) {
+/// Makes each change, again where memory lacked, which must be answered so. After a fault of the disk none is made.
+fn all_done<P: FilePort>(rt: &impl Abort, port: &mut P, changes: &[(Change<'_>, Answer)])
+    requires { P.Works port.old }
+{
     for (change, answer) in changes {
         let mut told = done(port, change);
         if told == Err(PortFault::NoMemory) {
             told = done(port, change);
         }
         assert_eq!(rt; told, *answer);
+        if told == Err(PortFault::Disk) {
+            return;
+        }
     }
 }
 
 /// Whether a directory has just the files of these numbers, in this order.
-fn has<P: FilePort>(port: &P, numbers: &[u32]) -> Result<bool, PortFault> {
+fn has<P: FilePort>(port: &P, numbers: &[u32]) -> Result<bool, PortFault>
+    requires { P.Works port.now }
+{
     let rows = port.list()?;
     let mut alike = rows.len() == numbers.len();
     for (row, n) in rows.as_slice().iter().zip(numbers) {
@@ -89,13 +104,17 @@ fn reads<P: FilePort>(
     place: u64,
     count: u16,
     words: &[Word],
-) -> Result<bool, PortFault> {
+) -> Result<bool, PortFault>
+    requires { P.Works port.old }
+{
     let read = port.read(name(n), place, count)?;
     Ok(read.as_slice() == words)
 }
 
 /// How many words and which mode a file has.
-fn sizes<P: FilePort>(port: &P, n: u32) -> Option<(u64, u8)> {
+fn sizes<P: FilePort>(port: &P, n: u32) -> Option<(u64, u8)>
+    requires { P.Works port.now }
+{
     let stat = port.stat(name(n)).ok()?;
     Some((stat.words, stat.mode))
 }

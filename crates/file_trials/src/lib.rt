@@ -5,3 +5,5 @@
 mod decks;
 #[cfg(test)]
 mod directories;
+#[cfg(test)]
+mod texts;

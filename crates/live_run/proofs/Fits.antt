@@ -1,6 +1,7 @@
 -- Scripts that are read fit what a supervisor asks.
-use Rattle.std.proofs.Common.{◌≡◌, ℕ, zero, suc, ◌+◌, ◌-◌, ◌<◌, ◌≤◌, Bool, true, false, not, ◌&&◌, ◌||◌, List, [], ◌∷◌, map, length, get_or, refl, ap, subst, ◌∙◌, arith}
-use Rattle.std.specs.List.{IsDistinct, AllByRecursion, list_any}
+use Rattle.std.proofs.Common.{◌≡◌, ℕ, zero, suc, ◌+◌, ◌-◌, ◌<◌, ◌≤◌, Bool, true, false, not, ◌&&◌, ◌||◌, List, [], ◌∷◌, map, filter, cond, nat_eq, length, get_or, refl, ap, subst, ◌∙◌, arith}
+use Rattle.std.specs.List.{All, IsDistinct, AllByRecursion, list_any}
+use Rattle.std.proofs.lemmas.List.Elements.{All-from_recursion, recursion_from_All}
 use Rattle.ctss_types.specs.declared.script.Script.{Script}
 use Rattle.ctss_types.specs.declared.script.Account.{Account}
 use Rattle.ctss_types.specs.declared.file.FileBody.{FileBody}
@@ -37,16 +38,28 @@ differ [] h = tt
 differ (f ∷ fs) h =
     (none_same f fs (first_false (list_any (λ (g : FileBody). same_name f.name g.name) fs) (names_differ fs) h), differ fs (second_true (list_any (λ (g : FileBody). same_name f.name g.name) fs) (names_differ fs) h))
 
+-- a user's files have modes 0 to 3
+modes_by : (v : ℕ) (files : List OwnedFile) → AllByRecursion (λ (f : OwnedFile). f.body.mode ≤ 3) files → AllByRecursion (λ (f : FileBody). f.mode ≤ 3) (files_of v files)
+modes_by v [] h = tt
+modes_by v (f ∷ fs) h =
+    elim (nat_eq f.owner v) as
+    (λ b. AllByRecursion (λ (g : FileBody). g.mode ≤ 3) (map (λ (g : OwnedFile). g.body) (cond b (f ∷ filter (λ (g : OwnedFile). nat_eq g.owner v) fs) (filter (λ (g : OwnedFile). nat_eq g.owner v) fs))))
+    [ true ↦ (h.0, modes_by v fs h.1) | false ↦ modes_by v fs h.1 ]
+
+modes_of : (v : ℕ) (files : List OwnedFile) → All (λ (f : OwnedFile). f.body.mode ≤ 3) files → All (λ (f : FileBody). f.mode ≤ 3) (files_of v files)
+modes_of v files h = All-from_recursion (λ (f : FileBody). f.mode ≤ 3) (files_of v files) (modes_by v files (recursion_from_All (λ (f : OwnedFile). f.body.mode ≤ 3) files h))
+
 fit_from : (u : ℕ) (accounts : List Account) (files : List OwnedFile) → ((k : ℕ) (d : Account) → k < length accounts → (get_or accounts k d).blocks ≤ 128)
-    → ((v : ℕ) → names_differ (files_of v files) ≡ true)
+    → ((v : ℕ) → names_differ (files_of v files) ≡ true) → ((v : ℕ) → All (λ (f : FileBody). f.mode ≤ 3) (files_of v files))
     → ((k : ℕ) (d : Account) → k < length accounts → tracks_of (files_of (u + k) files) ≤ (get_or accounts k d).tracks) → AreFit u accounts files
-fit_from u [] files blocks names tracks = tt
-fit_from u (a ∷ accounts) files blocks names tracks =
+fit_from u [] files blocks names modes tracks = tt
+fit_from u (a ∷ accounts) files blocks names modes tracks =
     let here : u + 0 ≡ u = omega arith in (
       blocks 0 a (omega arith),
       differ (files_of u files) (names u),
+      modes u,
       subst (λ (v : ℕ). tracks_of (files_of v files) ≤ a.tracks) here (tracks 0 a (omega arith)),
-      fit_from (suc u) accounts files (λ k d h. blocks (suc k) d (omega (arith, h))) names
+      fit_from (suc u) accounts files (λ k d h. blocks (suc k) d (omega (arith, h))) names modes
           (λ k d h. let e : u + suc k ≡ suc u + k = omega arith in subst (λ (v : ℕ). tracks_of (files_of v files) ≤ (get_or accounts k d).tracks) e (tracks (suc k) d (omega (arith, h)))),
     )
 
@@ -57,7 +70,7 @@ any_default (a ∷ accounts) (suc k) d e h = any_default accounts k d e (omega (
 
 pub fits : (script : Script) → IsInRange script → AreFit 1 script.accounts script.files
 fits script range =
-    fit_from 1 script.accounts script.files (λ k d h. range.blocks k d h) range.names
+    fit_from 1 script.accounts script.files (λ k d h. range.blocks k d h) range.names (λ v. modes_of v script.files range.modes)
     (λ k d h.
     let some : 1 ≤ 1 + k = omega arith in
     let within : 1 + k ≤ length script.accounts = omega (arith, h) in

@@ -2,15 +2,19 @@
 use Rattle.std.proofs.Common.{refl}
 use Rattle.ctss_types.specs.Words.{name_of}
 use Rattle.program_model.specs.Decks.{filled}
-use Rattle.program_model.specs.Rows.{RowOfCalls, RowOfLines, RowOfDecks}
+use Rattle.program_model.specs.Rows.{RowOfCalls, RowOfFileCalls, RowOfLines, RowOfDecks}
 
 pub row_of_calls : RowOfCalls
 unfolding name_of
 row_of_calls = record { reads = refl; writes = refl; past = refl; long = refl; none = refl; argument = refl; size = refl; time = refl; dead = refl; unknown = refl; behind = refl; round = refl; reply = refl; value = refl }
 
+pub row_of_file_calls : RowOfFileCalls
+unfolding name_of
+row_of_file_calls = record { stat = refl; delete = refl; rename = refl; mode = refl; read = refl; written = refl; minus = refl; argument = refl; names = refl; place = refl; buffer = refl; second = refl }
+
 pub row_of_lines : RowOfLines
 unfolding name_of
-row_of_lines = record { padded = refl; cut = refl; line = refl; zeros = refl; part = refl; within = refl }
+row_of_lines = record { padded = refl; cut = refl; line = refl; zeros = refl; lines = refl; no_lines = refl; part = refl; within = refl }
 
 pub row_of_decks : RowOfDecks
 unfolding filled

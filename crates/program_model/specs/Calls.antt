@@ -1,12 +1,13 @@
 -- claim: supervisor entries: how the arguments of a call are read, and what an answer leaves in the registers.
 use Rattle.std.specs.Prelude.{ℕ, ◌+◌, ◌-◌, ◌%◌, ◌^◌, Bool, true, false, ◌&&◌, nat_eq, nat_lt, nat_le, if◌then◌else◌, List, length, slice_index, codes, Option, Some, None, Ok, Err}
 use Rattle.std.specs.declared.result.Result.{Result}
-use Rattle.word36.specs.Bits.{address_of, decrement_of}
+use Rattle.word36.specs.Bits.{address_of, decrement_of, magnitude_of}
+use Rattle.ctss_types.specs.Names.{NamePair}
 use Rattle.ctss_types.specs.Words.{name_of}
 use Rattle.cpu_regs.specs.declared.regs.Regs.{Regs}
 use Rattle.cpu_regs.specs.Registers.{xr}
 use Rattle.program_model.specs.declared.Call.{Call}
-use Rattle.program_model.specs.declared.Call.TheVariants.{ReadLine, WriteLine, GetTime, GetMemory, SetMemory, Dead, Dormant}
+use Rattle.program_model.specs.declared.Call.TheVariants.{ReadLine, WriteLine, GetTime, GetMemory, SetMemory, FileStat, ReadFile, WriteFile, DeleteFile, RenameFile, ChangeMode, Dead, Dormant}
 use Rattle.program_model.specs.declared.EntryFault.{EntryFault}
 use Rattle.program_model.specs.declared.EntryFault.TheVariants.{NoSuchEntry, Outside}
 
@@ -38,13 +39,53 @@ line_call r core call =
     let count = decrement_of w in
     if is_line_count count then with_buffer core at count (call at count) else Ok (call at count))
 
+-- a file's two names, from an address on, round the end of core
+abbrev pub with_file : List ℕ → ℕ → (NamePair → Result Call EntryFault) → Result Call EntryFault
+with_file core a f = with_word core a (λ first. with_word core ((a + 1) % 2 ^ 15) (λ second. f (record { first = first; second = second })))
+
+-- a call whose one argument points at a file's names
+abbrev pub file_call : Regs → List ℕ → (NamePair → Call) → Result Call EntryFault
+file_call r core call = with_word core (behind_call r 1) (λ n. with_file core (address_of n) (λ name. Ok (call name)))
+
+-- A call whose arguments point at a file's names, hold a buffer in address and decrement, and point at a word whose magnitude is
+-- a place. The argument words are looked at first, then what they point at, then the buffer.
+abbrev pub transfer_call : Regs → List ℕ → (NamePair → (at count place : ℕ) → Call) → Result Call EntryFault
+transfer_call r core call =
+    with_word core (behind_call r 1) (λ n. with_word core (behind_call r 2) (λ buffer. with_word core (behind_call r 3) (λ p.
+    with_file core (address_of n) (λ name. with_word core (address_of p) (λ place.
+    let at = address_of buffer in
+    let count = decrement_of buffer in
+    with_buffer core at count (call name at count (magnitude_of place)))))))
+
+-- a call whose arguments point at the names of a file and at other names
+abbrev pub rename_call : Regs → List ℕ → Result Call EntryFault
+rename_call r core =
+    with_word core (behind_call r 1) (λ n. with_word core (behind_call r 2) (λ m.
+    with_file core (address_of n) (λ name. with_file core (address_of m) (λ to. Ok (RenameFile name to)))))
+
+-- a call whose arguments point at a file's names and hold a mode in the address
+abbrev pub mode_call : Regs → List ℕ → Result Call EntryFault
+mode_call r core =
+    with_word core (behind_call r 1) (λ n. with_word core (behind_call r 2) (λ m.
+    with_file core (address_of n) (λ name. Ok (ChangeMode name (address_of m)))))
+
+-- the entries that ask for something of a file
+abbrev pub call_of_file : Regs → List ℕ → ℕ → Result Call EntryFault
+call_of_file r core name =
+    if nat_eq name (name_of (codes "FSTAT")) then file_call r core (λ file. FileStat file)
+    else (if nat_eq name (name_of (codes "RDFILE")) then transfer_call r core (λ file at count place. ReadFile file at count place)
+    else (if nat_eq name (name_of (codes "WRFILE")) then transfer_call r core (λ file at count place. WriteFile file at count place)
+    else (if nat_eq name (name_of (codes "DELETE")) then file_call r core (λ file. DeleteFile file)
+    else (if nat_eq name (name_of (codes "RENAME")) then rename_call r core
+    else (if nat_eq name (name_of (codes "CHMODE")) then mode_call r core else Err NoSuchEntry)))))
+
 -- the entries without arguments
-abbrev pub simple_call : ℕ → Result Call EntryFault
-simple_call name =
+abbrev pub simple_call : Regs → List ℕ → ℕ → Result Call EntryFault
+simple_call r core name =
     if nat_eq name (name_of (codes "GETTM")) then Ok GetTime
     else (if nat_eq name (name_of (codes "GETMEM")) then Ok GetMemory
     else (if nat_eq name (name_of (codes "DEAD")) then Ok Dead
-    else (if nat_eq name (name_of (codes "DORMNT")) then Ok Dormant else Err NoSuchEntry)))
+    else (if nat_eq name (name_of (codes "DORMNT")) then Ok Dormant else call_of_file r core name)))
 
 -- the call of an entry by name
 abbrev pub call_of : Regs → List ℕ → ℕ → Result Call EntryFault
@@ -52,7 +93,7 @@ call_of r core name =
     if nat_eq name (name_of (codes "RDFLX")) then line_call r core (λ at count. ReadLine at count)
     else (if nat_eq name (name_of (codes "WRFLX")) then line_call r core (λ at count. WriteLine at count)
     else (if nat_eq name (name_of (codes "SETMEM")) then with_word core (behind_call r 1) (λ w. Ok (SetMemory (address_of w)))
-    else simple_call name))
+    else simple_call r core name))
 
 -- a value goes to the multiplier-quotient, which else stays
 abbrev pub value_or : Option ℕ → ℕ → ℕ

@@ -1,16 +1,17 @@
 -- claim: worked rows of programs.
 use Rattle.std.specs.Prelude.{◌≡◌, ℕ, ◌^◌, ◌*◌, ◌+◌, ◌-◌, false, List, [], ◌∷◌, ◌++◌, replicate, codes, Ok, Err, Some, None}
 use Rattle.std.specs.declared.result.Result.{Result}
+use Rattle.ctss_types.specs.Names.{NamePair}
 use Rattle.ctss_types.specs.Words.{name_of}
 use Rattle.cpu_regs.specs.declared.regs.Regs.{Regs}
 use Rattle.cpu_regs.specs.Registers.{no_registers, set_xr}
 use Rattle.program_model.specs.declared.Deck.{Deck}
-use Rattle.program_model.specs.declared.Call.TheVariants.{ReadLine, WriteLine, GetTime, SetMemory, Dead}
+use Rattle.program_model.specs.declared.Call.TheVariants.{ReadLine, WriteLine, GetTime, SetMemory, FileStat, ReadFile, WriteFile, DeleteFile, RenameFile, ChangeMode, Dead}
 use Rattle.program_model.specs.declared.EntryFault.TheVariants.{NoSuchEntry, Outside}
 use Rattle.program_model.specs.declared.LoadFault.TheVariants.{NoFile, BadDeck, TooLarge}
 use Rattle.ctss_types.specs.declared.file.Refusal.TheVariants as refusal
 use Rattle.program_model.specs.Calls.{call_of, answered, behind_call}
-use Rattle.program_model.specs.Lines.{line_of_words, words_of_line, words_at, with_words}
+use Rattle.program_model.specs.Lines.{line_of_words, lines_of_words, words_of_line, words_at, with_words}
 use Rattle.program_model.specs.Decks.{deck_in, deck_of, filled}
 
 -- registers of a program that called from a place
@@ -43,12 +44,38 @@ pub record RowOfCalls : Type 0 where
   pub reply : (answered (called_from 2) 1 3 (Some 9)).ac ≡ record { negative = false; magnitude = 3 }
   pub value : (answered (called_from 2) 0 0 (Some 9)).mq ≡ 9
 
+-- a call at 2 in a core of ten words: three arguments, a file's names at 6, and a place at 8
+abbrev pub file_core : (a b c place : ℕ) → List ℕ
+file_core a b c place = 0 ∷ 0 ∷ 0 ∷ a ∷ b ∷ c ∷ 21 ∷ 22 ∷ place ∷ 0 ∷ []
+
+abbrev pub pair : ℕ → ℕ → NamePair
+pair a b = record { first = a; second = b }
+
+pub record RowOfFileCalls : Type 0 where
+  pub stat : call_of (called_from 2) (file_core 6 0 0 5) (name_of (codes "FSTAT")) ≡ Ok (FileStat (pair 21 22))
+  pub delete : call_of (called_from 2) (file_core 7 0 0 5) (name_of (codes "DELETE")) ≡ Ok (DeleteFile (pair 22 5))
+  pub rename : call_of (called_from 2) (file_core 6 7 0 5) (name_of (codes "RENAME")) ≡ Ok (RenameFile (pair 21 22) (pair 22 5))
+  pub mode : call_of (called_from 2) (file_core 6 (counted 9 4) 0 5) (name_of (codes "CHMODE")) ≡ Ok (ChangeMode (pair 21 22) 4)
+  pub read : call_of (called_from 2) (file_core 6 (counted 2 8) 8 5) (name_of (codes "RDFILE")) ≡ Ok (ReadFile (pair 21 22) 8 2 5)
+  pub written : call_of (called_from 2) (file_core 6 (counted 10 0) 8 0) (name_of (codes "WRFILE")) ≡ Ok (WriteFile (pair 21 22) 0 10 0)
+  -- a place's sign counts for nothing, and a buffer of no words may stand right behind the core
+  pub minus : call_of (called_from 2) (file_core 6 (counted 0 10) 8 (2 ^ 35 + 5)) (name_of (codes "RDFILE")) ≡ Ok (ReadFile (pair 21 22) 10 0 5)
+  -- the arguments are looked at first, then the names, then the place, then the buffer
+  pub argument : call_of (called_from 7) (file_core 11 (counted 3 8) 11 5) (name_of (codes "RDFILE")) ≡ Err (Outside 10)
+  pub names : call_of (called_from 2) (file_core 9 (counted 3 8) 11 5) (name_of (codes "RDFILE")) ≡ Err (Outside 10)
+  pub place : call_of (called_from 2) (file_core 6 (counted 3 8) 11 5) (name_of (codes "RDFILE")) ≡ Err (Outside 11)
+  pub buffer : call_of (called_from 2) (file_core 6 (counted 3 8) 8 5) (name_of (codes "RDFILE")) ≡ Err (Outside 8)
+  pub second : call_of (called_from 2) (file_core 6 12 0 5) (name_of (codes "RENAME")) ≡ Err (Outside 12)
+
 pub record RowOfLines : Type 0 where
   pub padded : words_of_line 2 (codes "HELLO") ≡ name_of (codes "HELLO ") ∷ name_of (codes "      ") ∷ []
   pub cut : words_of_line 1 (codes "HELLO THERE") ≡ name_of (codes "HELLO ") ∷ []
   pub line : line_of_words (name_of (codes "HELLO ") ∷ name_of (codes "THERE") ∷ []) ≡ codes "HELLO THERE"
   -- a word of zeros prints as zeros
   pub zeros : line_of_words (0 ∷ []) ≡ codes "000000"
+  -- 14 words a line, and a last line of what is left
+  pub lines : lines_of_words (replicate 14 (name_of (codes "A")) ++ name_of (codes "HELLO") ∷ []) ≡ line_of_words (replicate 14 (name_of (codes "A"))) ∷ codes "HELLO" ∷ []
+  pub no_lines : lines_of_words [] ≡ []
   pub part : words_at (1 ∷ 2 ∷ 3 ∷ 4 ∷ []) 1 2 ≡ 2 ∷ 3 ∷ []
   pub within : with_words (1 ∷ 2 ∷ 3 ∷ 4 ∷ []) 1 (8 ∷ 9 ∷ []) ≡ 1 ∷ 8 ∷ 9 ∷ 4 ∷ []
 

@@ -5,24 +5,64 @@
 //! (worked rows). The functions here do nothing: each carries a row.
 #![tactic(auto)]
 
-ghost use Rattle.program_model.specs.Rows.{RowOfCalls, RowOfLines, RowOfDecks};
+ghost use Rattle.program_model.specs.Rows.{RowOfCalls, RowOfFileCalls, RowOfLines, RowOfDecks};
 
 use ctss_types::FileName;
 use thiserror::Error;
 
-/// A supervisor entry that a program calls, with its arguments. Addresses and counts are below 2^15.
+/// A supervisor entry that a program calls, with its arguments. Addresses, counts and modes are below 2^15, places below 2^35.
 #[derive(Clone, Copy, Debug, PartialEq, Eq)]
 pub enum Call {
     /// RDFLX: the next line as so many words, from an address on.
-    ReadLine { at: u16, count: u16 },
+    ReadLine {
+        at: u16,
+        count: u16,
+    },
     /// WRFLX: so many words from an address on as a line.
-    WriteLine { at: u16, count: u16 },
+    WriteLine {
+        at: u16,
+        count: u16,
+    },
     /// GETTM: the clock.
     GetTime,
     /// GETMEM: the size in words.
     GetMemory,
     /// SETMEM: another size.
-    SetMemory { blocks: u16 },
+    SetMemory {
+        blocks: u16,
+    },
+    /// FSTAT: the size and the mode of a file.
+    FileStat {
+        name: FileName,
+    },
+    /// RDFILE: so many words of a file, from a place on, to a buffer.
+    ReadFile {
+        name: FileName,
+        at: u16,
+        count: u16,
+        place: u64,
+    },
+    /// WRFILE: a buffer to a file, from a place on.
+    WriteFile {
+        name: FileName,
+        at: u16,
+        count: u16,
+        place: u64,
+    },
+    /// DELETE: a file goes.
+    DeleteFile {
+        name: FileName,
+    },
+    /// RENAME: a file gets another name.
+    RenameFile {
+        name: FileName,
+        to: FileName,
+    },
+    /// CHMODE: a file gets another mode.
+    ChangeMode {
+        name: FileName,
+        mode: u16,
+    },
     /// DEAD: the program is over and goes.
     Dead,
     /// DORMNT: the program is over and stays.
@@ -81,6 +121,12 @@ pub enum ProgramState {
 #[tactic(auto, using(crate::proofs::RowsComputed::row_of_calls))]
 pub fn row_of_calls()
     ensures { RowOfCalls }
+{}
+
+/// Calls for files: their arguments, what these point at, and the order in which they are looked at.
+#[tactic(auto, using(crate::proofs::RowsComputed::row_of_file_calls))]
+pub fn row_of_file_calls()
+    ensures { RowOfFileCalls }
 {}
 
 /// Lines as words, and words as lines.

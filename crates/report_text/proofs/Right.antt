@@ -6,8 +6,8 @@ use Rattle.std.specs.List.{repeat}
 use Rattle.std.specs.Fmt.{padded_integral, format_spec, char_count, decimal}
 use Rattle.bcd48.specs.Words.{characters_of}
 use Rattle.ctss_types.specs.declared.file.FileBody.{FileBody}
-use Rattle.text_model.specs.Report.{file_line}
-use Rattle.text_model.specs.Parts.{line, blank, number, right}
+use Rattle.file_model.specs.Texts.{right, file_line}
+use Rattle.text_model.specs.Parts.{line, blank, number}
 
 blanks : (n : ℕ) → repeat n (encode_utf8 32) ≡ replicate n 32
 unfolding encode_utf8
@@ -28,5 +28,5 @@ columns old one two new a b m r p q s = rw (s, q, p) (simp append_assoc)
 
 pub file_line_is : (f : FileBody) (first second : List ℕ) (count : ℕ) → first ≡ characters_of f.name.first → second ≡ characters_of f.name.second
     → count ≡ length f.words
-    → line (first ++ (blank second ++ (number f.mode ++ blank (right (decimal count))))) ≡ file_line f
+    → line (first ++ (blank second ++ (number f.mode ++ blank (right (decimal count))))) ≡ line (file_line f)
 file_line_is f first second count p q r = rw (p, q, r) refl

@@ -1,17 +1,11 @@
 ghost use Rattle.std.specs.Prelude.{◌≡◌, ◌++◌, OnOk, string_bytes};
 ghost use Rattle.std.specs.List.{flat_map};
-ghost use Rattle.text_model.specs.Report.{op_text, refusal_number, reply_number, entry_text};
+ghost use Rattle.text_model.specs.Report.{op_text, reply_number, entry_text};
 
-use ctss_types::{CommonOp, Entry, Refusal, Reply};
+use ctss_types::{CommonOp, Entry, Reply};
+use file_model::refusal_number;
 use std::alloc::AllocError;
 use std::fmt::Write;
-
-/// The number of a refusal.
-fn refusal_number(refusal: Refusal) -> u8
-    ensures { result ≡ refusal_number refusal }
-{
-    refusal as u8
-}
 
 /// What a reply says in one number.
 fn reply_number(reply: &Reply) -> u8

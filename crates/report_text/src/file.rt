@@ -2,8 +2,9 @@ ghost use Rattle.std.specs.Prelude.{◌≡◌, ◌++◌, OnOk, string_bytes};
 ghost use Rattle.std.specs.List.{flat_map};
 ghost use Rattle.std.specs.Fmt.{decimal};
 ghost use Rattle.bcd48.specs.Words.{characters_of};
-ghost use Rattle.text_model.specs.Parts.{line, blank, number, right};
-ghost use Rattle.text_model.specs.Report.{file_line, file_text};
+ghost use Rattle.file_model.specs.Texts.{right, file_line};
+ghost use Rattle.text_model.specs.Parts.{line, blank, number};
+ghost use Rattle.text_model.specs.Report.{file_text};
 
 use bcd48::text6;
 use ctss_types::{FileBody, FileName, LineText};
@@ -55,7 +56,7 @@ fn add_columns(
 
 /// Adds a file's own line.
 fn add_file_line(out: &mut String, file: &FileBody) -> Result<(), AllocError>
-    ensures { OnOk result (string_bytes out.new ≡ string_bytes out.old ++ file_line file.now) }
+    ensures { OnOk result (string_bytes out.new ≡ string_bytes out.old ++ line (file_line file.now)) }
 {
     let (first, second) = both_names(&file.name);
     add_columns(out, first, second, file.mode, file.words.len())

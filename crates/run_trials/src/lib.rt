@@ -8,6 +8,8 @@ mod ends;
 #[cfg(test)]
 mod greetings;
 #[cfg(test)]
+mod keeping;
+#[cfg(test)]
 mod modes;
 #[cfg(test)]
 mod play;
@@ -15,3 +17,5 @@ mod play;
 mod services;
 #[cfg(test)]
 mod sessions;
+#[cfg(test)]
+mod typing;

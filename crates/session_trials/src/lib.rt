@@ -8,4 +8,6 @@ mod levels;
 #[cfg(test)]
 mod lines;
 #[cfg(test)]
+mod requests;
+#[cfg(test)]
 mod sessions;

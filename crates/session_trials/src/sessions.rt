@@ -173,7 +173,7 @@ fn logs_out(
     core: &mut PlainCore,
 ) -> Result<(), Fail> {
     session.login()?;
-    assert!(rt; session.is_open() && session.takes_commands());
+    assert!(rt; session.is_open() && !session.works());
     assert!(rt; types(session, b"LOGOUT")? == Put::Kept);
     let done = Step {
         ending: Ending::LoggedOut,

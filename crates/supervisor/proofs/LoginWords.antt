@@ -4,11 +4,12 @@ use Rattle.std.specs.Prelude.{bytes_eq}
 use Rattle.time_sharing.specs.Machine.{Line}
 use Rattle.time_sharing.specs.System.{at}
 use Rattle.ctss_types.specs.declared.script.Account.{Account}
-use Rattle.system_model.specs.Round.{asked_by, password_by, name_in, account_in}
+use Rattle.system_model.specs.Round.{asked_by, password_by, account_in}
+use Rattle.user_model.specs.Requests.{word_name}
 use Rattle.accounts.specs.declared.accounts.Login.TheVariants.{Right, Unknown, Already}
 use Rattle.accounts.specs.Logins.{login_by}
 
-pub asked_two : (ws : List Line) → length ws ≡ 2 → asked_by ws ≡ cond (bytes_eq (get_or ws 0 []) (codes "LOGIN")) (name_in (get_or ws 1 [])) None
+pub asked_two : (ws : List Line) → length ws ≡ 2 → asked_by ws ≡ cond (bytes_eq (get_or ws 0 []) (codes "LOGIN")) (word_name (get_or ws 1 [])) None
 asked_two [] e = absurd (omega (arith, e))
 asked_two (w ∷ []) e = absurd (omega (arith, e))
 asked_two (w ∷ name ∷ []) e = refl
@@ -20,7 +21,7 @@ asked_other (w ∷ []) e = refl
 asked_other (w ∷ name ∷ []) e = absurd (e refl)
 asked_other (w ∷ name ∷ x ∷ ws) e = refl
 
-pub password_one : (ws : List Line) → length ws ≡ 1 → password_by ws ≡ name_in (get_or ws 0 [])
+pub password_one : (ws : List Line) → length ws ≡ 1 → password_by ws ≡ word_name (get_or ws 0 [])
 password_one [] e = absurd (omega (arith, e))
 password_one (w ∷ []) e = refl
 password_one (w ∷ x ∷ ws) e = absurd (omega (arith, e))

@@ -1,6 +1,8 @@
 -- claim: the state that the fields stand for, with users' blocks in these places.
 use Rattle.std.specs.Prelude.{◌≡◌, ℕ, suc, ◌≤◌, Bool, false, List, [], ◌∷◌, map, Option, Some, None, Result, IfOk, OnOk, OnErr}
+use Rattle.std.specs.List.{All}
 use Rattle.ctss_types.specs.declared.script.Account.{Account}
+use Rattle.ctss_types.specs.declared.file.FileBody.{FileBody}
 use Rattle.ctss_types.specs.declared.file.OwnedFile.{OwnedFile}
 use Rattle.ctss_types.specs.declared.history.Record.{Record}
 use Rattle.file_model.specs.Files.{tracks_of}
@@ -106,11 +108,13 @@ left_queues (Some Size) u unread blocks q = entered blocks u (dropped u q)
 left_queues (Some Preempt) u unread blocks q = q
 left_queues (Some AtEnd) u unread blocks q = q
 
--- accounts that are numbered from u on, with files: each has at most 128 blocks, its files differ in their names and keep
--- its quota of tracks
+-- accounts that are numbered from u on, with files: each has at most 128 blocks, its files differ in their names, have modes 0
+-- to 3 and keep its quota of tracks
 abbrev pub AreFit : ℕ → List Account → List OwnedFile → Type 0
 AreFit u [] owned = Unit {0}
-AreFit u (a ∷ accounts) owned = (a.blocks ≤ 128) × NamesDiffer (files_of u owned) × (tracks_of (files_of u owned) ≤ a.tracks) × AreFit (suc u) accounts owned
+AreFit u (a ∷ accounts) owned =
+    (a.blocks ≤ 128) × NamesDiffer (files_of u owned) × All (λ (f : FileBody). f.mode ≤ 3) (files_of u owned)
+    × (tracks_of (files_of u owned) ≤ a.tracks) × AreFit (suc u) accounts owned
 
 -- the record of a run that stopped, without files
 abbrev pub record_so_far : Run → Record

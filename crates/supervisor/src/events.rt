@@ -35,11 +35,7 @@ fn blocks_for_line(session: &Session) -> u8
     ensures value { result ≡ line_blocks session.now }
     ensures few { result ≤ 128 }
 {
-    if session.takes_commands() {
-        4
-    } else {
-        session.blocks()
-    }
+    if session.works() { session.blocks() } else { 4 }
 }
 
 impl State {

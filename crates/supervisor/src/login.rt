@@ -2,24 +2,14 @@
 ghost use Rattle.std.specs.Prelude.{◌≡◌, ◌<◌, ◌≤◌, ℕ, false, length};
 ghost use Rattle.ctss_types.specs.Words.{words_of};
 ghost use Rattle.time_sharing.specs.System.{at};
-ghost use Rattle.system_model.specs.Round.{asked as asked_in, name_in as name_by, password_by};
+ghost use Rattle.system_model.specs.Round.{asked as asked_in, password_by};
 ghost use Rattle.system_model.specs.Cases.{user_at};
 
 use accounts::{Accounts, split};
-use ctss_types::{LineText, UserNo, name_word};
+use command_table::word_name;
+use ctss_types::{LineText, UserNo};
 use user_session::Session;
 use word36::Word;
-
-/// A word of at most six characters is a name.
-fn name_in(word: &[u8]) -> Option<Word>
-    ensures { result ≡ name_by word.now }
-{
-    if word.len() <= 6 {
-        Some(name_word(word))
-    } else {
-        None
-    }
-}
 
 /// The name that the line LOGIN asks for.
 #[tactic(auto, using(crate::proofs::LoginWords::asked_two, crate::proofs::LoginWords::asked_other), unfolding(system_model::specs::Round::asked))]
@@ -28,7 +18,7 @@ pub(crate) fn asked(line: &LineText) -> Option<Word>
 {
     let words = split(line);
     if words.len() == 2 && words.word(0) == b"LOGIN".as_slice() {
-        name_in(words.word(1))
+        word_name(words.word(1))
     } else {
         None
     }
@@ -41,7 +31,7 @@ pub(crate) fn password_in(line: &LineText) -> Option<Word>
 {
     let words = split(line);
     if words.len() == 1 {
-        name_in(words.word(0))
+        word_name(words.word(0))
     } else {
         None
     }

@@ -4,7 +4,7 @@ use Rattle.std.specs.Fmt.{digits}
 use Rattle.ctss_types.specs.Words.{name_of, text_of_name}
 use Rattle.plan_model.specs.Levels.{greatest, level_of_words, chosen, waits, entered, dropped, ticked, sunk, charged, woken}
 use Rattle.user_model.specs.Texts.{time_text, logged_in_text, logged_out_text, ready_text}
-use Rattle.user_model.specs.Commands.{command_of}
+use Rattle.user_model.specs.Requests.{command_of}
 use Rattle.system_model.specs.Round.{asked, check}
 use Rattle.system_model.specs.Run.{run_to, ended}
 use Rattle.system_model.specs.Record.{record_of, start_of}

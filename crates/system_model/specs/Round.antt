@@ -1,13 +1,14 @@
 -- claim: what is round the users: the queues, the loads, the logins, the common files.
-use Rattle.std.specs.Prelude.{ℕ, suc, Bool, true, false, if◌then◌else◌, ◌&&◌, nat_eq, nat_le, List, [], ◌∷◌, Option, Some, None, bytes_eq, codes, length}
+use Rattle.std.specs.Prelude.{ℕ, suc, Bool, true, false, if◌then◌else◌, ◌&&◌, nat_eq, List, [], ◌∷◌, Option, Some, None, bytes_eq, codes}
 use Rattle.ctss_types.specs.declared.script.Account.{Account}
 use Rattle.ctss_types.specs.declared.file.FileBody.{FileBody}
-use Rattle.ctss_types.specs.Words.{words_of, name_of}
+use Rattle.ctss_types.specs.Words.{words_of}
 use Rattle.time_sharing.specs.Machine.{Line, CutKind, Done}
 use Rattle.time_sharing.specs.Rows.{some_line}
 use Rattle.time_sharing.specs.System.{World, Cause, Time, Wait, Stop, Size, Preempt, AtEnd}
 use Rattle.user_model.specs.Inner.{Inner, blocks_of}
-use Rattle.user_model.specs.Session.{nobody, is_command_in}
+use Rattle.user_model.specs.Session.{nobody, works_in}
+use Rattle.user_model.specs.Requests.{word_name}
 use Rattle.user_model.specs.User.{User}
 use Rattle.plan_model.specs.Levels.{Levels, chosen, user_of, level_in, has_time, charged, dropped, woken, entered, entered_again, command_blocks}
 use Rattle.plan_model.specs.Plan.{Plan, must_load, with_load, move_of, places_after, places_cut}
@@ -23,17 +24,13 @@ leaves q u AtEnd p = q
 
 -- as how many blocks a user enters that gets a line: as a command's, or as its program's where that works
 abbrev pub line_blocks : User → ℕ
-line_blocks p = if is_command_in p.inner.state then command_blocks else blocks_of p.inner
-
--- a word of at most six characters is a name
-abbrev pub name_in : Line → Option ℕ
-name_in w = if nat_le (length w) 6 then Some (name_of w) else None
+line_blocks p = if works_in p.inner.state then blocks_of p.inner else command_blocks
 
 -- the name that LOGIN and a name, just these two words, ask for
 abbrev pub asked_by : List Line → Option ℕ
 asked_by [] = None
 asked_by (w ∷ []) = None
-asked_by (w ∷ name ∷ []) = if bytes_eq w (codes "LOGIN") then name_in name else None
+asked_by (w ∷ name ∷ []) = if bytes_eq w (codes "LOGIN") then word_name name else None
 asked_by (w ∷ name ∷ x ∷ ws) = None
 
 unfoldable pub asked : Line → Option ℕ
@@ -52,7 +49,7 @@ account_with accounts name (Some password) = account_in 1 accounts name password
 -- a password is a line of just one word
 abbrev pub password_by : List Line → Option ℕ
 password_by [] = None
-password_by (w ∷ []) = name_in w
+password_by (w ∷ []) = word_name w
 password_by (w ∷ x ∷ ws) = None
 
 unfoldable pub check : List Account → ℕ → Line → Option ℕ

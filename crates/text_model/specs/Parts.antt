@@ -1,5 +1,5 @@
 -- claim: parts of lines.
-use Rattle.std.specs.Prelude.{ℕ, ◌-◌, List, [], ◌∷◌, ◌++◌, length, replicate}
+use Rattle.std.specs.Prelude.{ℕ, List, [], ◌∷◌, ◌++◌}
 use Rattle.std.specs.Fmt.{decimal}
 use Rattle.ctss_types.specs.Words.{text_of_name}
 
@@ -17,7 +17,3 @@ number n = blank (decimal n)
 -- a name as it is written, behind a blank
 abbrev pub name : ℕ → List ℕ
 name word = blank (text_of_name word)
-
--- a text right in 7 places
-abbrev pub right : List ℕ → List ℕ
-right text = replicate (7 - length text) 32 ++ text

@@ -1,8 +1,6 @@
 -- claim: the report of a script's record.
-use Rattle.std.specs.Prelude.{ℕ, suc, ◌-◌, Bool, if◌then◌else◌, List, [], ◌∷◌, ◌++◌, codes, get_or, length}
+use Rattle.std.specs.Prelude.{ℕ, suc, ◌-◌, Bool, if◌then◌else◌, List, [], ◌∷◌, ◌++◌, codes, get_or}
 use Rattle.std.specs.List.{flat_map}
-use Rattle.std.specs.Fmt.{decimal}
-use Rattle.bcd48.specs.Words.{characters_of}
 use Rattle.ctss_types.specs.Entries.{cause_text, kind_text}
 use Rattle.ctss_types.specs.declared.script.Script.{Script}
 use Rattle.ctss_types.specs.declared.script.Account.{Account}
@@ -11,15 +9,14 @@ use Rattle.ctss_types.specs.declared.file.CommonOp.{CommonOp}
 use Rattle.ctss_types.specs.declared.file.CommonOp.TheVariants as op
 use Rattle.ctss_types.specs.declared.file.Reply.{Reply}
 use Rattle.ctss_types.specs.declared.file.Reply.TheVariants as reply
-use Rattle.ctss_types.specs.declared.file.Refusal.{Refusal}
-use Rattle.ctss_types.specs.declared.file.Refusal.TheVariants as refusal
 use Rattle.ctss_types.specs.declared.history.Record.{Record}
 use Rattle.ctss_types.specs.declared.history.Item.{Item}
 use Rattle.ctss_types.specs.declared.history.Item.TheVariants as item
 use Rattle.ctss_types.specs.declared.history.Entry.{Entry}
 use Rattle.ctss_types.specs.declared.history.Entry.TheVariants.{Taken, Login, Refused, Idle, Swap, Serve, Clock, Common}
 use Rattle.text_model.specs.Canonical.{word_cards}
-use Rattle.text_model.specs.Parts.{line, blank, number, name, right}
+use Rattle.file_model.specs.Texts.{file_line, refusal_number}
+use Rattle.text_model.specs.Parts.{line, blank, number, name}
 
 -- a letter and a text, the letter alone where the text is empty
 abbrev pub labelled : ℕ → List ℕ → List ℕ
@@ -32,14 +29,9 @@ item_text (item.Out text) = line (labelled 79 text)
 item_text item.Quit = line (codes "Q")
 item_text item.Hang = line (codes "H")
 
--- the names in 6 places each, the mode, the number of words in 7 places
-abbrev pub file_line : FileBody → List ℕ
-file_line f =
-    line (characters_of f.name.first ++ (blank (characters_of f.name.second) ++ (number f.mode ++ blank (right (decimal (length f.words))))))
-
 -- a file, and in a dump its words behind it
 abbrev pub file_text : Bool → FileBody → List ℕ
-file_text dump f = file_line f ++ (if dump then word_cards f.words else [])
+file_text dump f = line (file_line f) ++ (if dump then word_cards f.words else [])
 
 -- one account: what it saw and its files
 abbrev pub account_text : Bool → ℕ → Account → List Item → List FileBody → List ℕ
@@ -62,15 +54,6 @@ op_text (op.Write name place words) = codes "WRITE"
 op_text (op.Delete name) = codes "DELETE"
 op_text (op.Put name words) = codes "PUT"
 op_text (op.Get name) = codes "GET"
-
-abbrev pub refusal_number : Refusal → ℕ
-refusal_number refusal.NoFile = 1
-refusal_number refusal.ReadOnly = 2
-refusal_number refusal.Quota = 3
-refusal_number refusal.NameUsed = 4
-refusal_number refusal.PastEnd = 5
-refusal_number refusal.BadMode = 6
-refusal_number refusal.BadCount = 7
 
 -- 0, or the number of the refusal
 abbrev pub reply_number : Reply → ℕ

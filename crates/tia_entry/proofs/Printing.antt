@@ -6,7 +6,7 @@ use Rattle.bcd48.specs.Words.{characters_of}
 use Rattle.bcd48.proofs.Table.{all_characters}
 use Rattle.ctss_types.specs.Line.{trimmed}
 use Rattle.ctss_types.proofs.NameText.{trimmed_length, trimmed_all}
-use Rattle.program_model.specs.Lines.{words_at, words_of_line}
+use Rattle.program_model.specs.Lines.{words_at}
 
 words_first : (core : List ℕ) (at n : ℕ) → 0 < n → words_at core at n ≡ slice_index core at ∷ words_at core (suc at) (n - 1)
 words_first core at zero h = absurd (omega arith)

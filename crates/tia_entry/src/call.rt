@@ -1,8 +1,9 @@
-ghost use Rattle.std.specs.Prelude.{◌≡◌, ◌≤◌, ◌<◌, ◌+◌, ◌^◌, ℕ, true, length, IfOk, IfSome, slice_index};
-ghost use Rattle.program_model.specs.declared.Call.{Call};
-ghost use Rattle.program_model.specs.Calls.{call_of, behind_call, line_call, simple_call, is_line_count, answered};
+ghost use Rattle.std.specs.Prelude.{◌≡◌, ◌≤◌, ◌<◌, ◌^◌, length, IfOk, IfSome};
+ghost use Rattle.program_model.specs.Calls.{call_of, line_call, simple_call, is_line_count, answered};
 ghost use Rattle.tia_entry.specs.Buffers.{HasBuffer, call_with};
 
+use crate::argument::{argument, behind_call, is_within};
+use crate::file_call::call_of_file;
 use cpu_regs::{MemoryPort, Regs};
 use program_model::{Call, EntryFault};
 use word36::{Acc, Word};
@@ -47,16 +48,6 @@ fn call_with(entry: LineEntry, at: u16, count: u16) -> Call
     }
 }
 
-/// The n-th place behind the call, from 1 on.
-fn behind_call(regs: &Regs, n: u16) -> u16
-    requires { n ≤ 4 }
-    ensures place { result ≡ behind_call regs.now n }
-    ensures below { result < 2 ^ 15 }
-{
-    let call = (0o100000 - regs.xr(4)) & 0o77777;
-    (call + n) & 0o77777
-}
-
 /// The call with the buffer that the first argument names; where no line has so many words, the buffer isn't looked at.
 fn read_line_call<M: MemoryPort>(
     regs: &Regs,
@@ -66,14 +57,10 @@ fn read_line_call<M: MemoryPort>(
     ensures value { result ≡ line_call regs.now (M.words core.now) (call_with entry) }
     ensures within { IfOk result (HasBuffer (length (M.words core.now))) }
 {
-    let place = behind_call(regs, 1);
-    let Ok(word) = core.load(place) else {
-        return Err(EntryFault::Outside(place));
-    };
-    let at = word.address();
-    let count = word.decrement();
-    let words = 256 * u32::from(core.size());
-    if is_line_count(count) && u32::from(at) + u32::from(count) > words {
+    let buffer = argument(regs, core, 1)?;
+    let at = buffer.address();
+    let count = buffer.decrement();
+    if is_line_count(count) && !is_within(core, at, count) {
         return Err(EntryFault::Outside(at));
     }
     Ok(call_with(entry, at, count))
@@ -99,21 +86,19 @@ pub fn read_call<M: MemoryPort>(regs: &Regs, core: &M, name: Word) -> Result<Cal
         return read_line_call(regs, core, LineEntry::Write);
     }
     if name.bits() == SET_MEMORY {
-        let place = behind_call(regs, 1);
-        let Ok(word) = core.load(place) else {
-            return Err(EntryFault::Outside(place));
-        };
+        let size = argument(regs, core, 1)?;
         return Ok(Call::SetMemory {
-            blocks: word.address(),
+            blocks: size.address(),
         });
     }
-    simple_call(name)
+    simple_call(regs, core, name)
 }
 
-/// The calls without arguments.
+/// The calls without arguments, and those that ask for something of a file.
 #[tactic(auto, unfolding(ctss_types::specs::Words::name_of))]
-fn simple_call(name: Word) -> Result<Call, EntryFault>
-    ensures { result ≡ simple_call name }
+fn simple_call<M: MemoryPort>(regs: &Regs, core: &M, name: Word) -> Result<Call, EntryFault>
+    ensures value { result ≡ simple_call regs.now (M.words core.now) name }
+    ensures within { IfOk result (HasBuffer (length (M.words core.now))) }
 {
     if name.bits() == GET_TIME {
         Ok(Call::GetTime)
@@ -124,7 +109,7 @@ fn simple_call(name: Word) -> Result<Call, EntryFault>
     } else if name.bits() == DORMANT {
         Ok(Call::Dormant)
     } else {
-        Err(EntryFault::NoSuchEntry)
+        call_of_file(regs, core, name)
     }
 }
 

@@ -1,8 +1,12 @@
-//! Supervisor entries: what a program's call asks for, how it is answered, and lines as words of its core.
+//! Supervisor entries: what a program's call asks for, how it is answered, and words of its core, lines among them.
 #![tactic(auto)]
 
+mod argument;
+mod buffer;
 mod call;
+mod file_call;
 mod line;
 
+pub use buffer::{store_words, words_in};
 pub use call::{answer, is_line_count, read_call};
 pub use line::{line_in, store_line};

@@ -4,3 +4,4 @@ pub mod TurnLaws
 pub mod WentLaws
 pub mod RunLaws
 pub mod RowTurns
+pub mod RowsComputed

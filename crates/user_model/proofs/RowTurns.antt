@@ -1,24 +1,26 @@
 -- Any row as a step of a user whose words lie apart: one law for all ends of an instruction and all supervisor entries, one for all
--- commands.
+-- commands, one for lines of INPUT.
 use Rattle.std.proofs.Common.{◌≡◌, ℕ, suc, ◌-◌, Bool, true, false, not, ◌&&◌, ◌||◌, List, [], ◌∷◌, ◌++◌, drop, Option, Some, None, refl, sym, ap, ◌∙◌, subst}
 use Rattle.std.specs.Prelude.{slice_get, if◌then◌else◌}
 use Rattle.std.specs.declared.result.Result.{Result}
 use Rattle.time_sharing.specs.Machine.{Line, Item, Ending}
 use Rattle.time_sharing.specs.Rows.{Outcome, some_line, is_logout, in_line, out_all, behind, first_line}
-use Rattle.ctss_types.specs.declared.session.Command.{Command}
+use Rattle.ctss_types.specs.Names.{NamePair}
 use Rattle.machine_model.specs.Step.{Step, entry}
 use Rattle.machine_model.specs.Machine.{table}
 use Rattle.program_model.specs.declared.Call.{Call}
 use Rattle.program_model.specs.declared.EntryFault.{EntryFault}
 use Rattle.program_model.specs.Calls.{call_of}
 use Rattle.user_model.specs.Inner.{Inner}
-use Rattle.user_model.specs.Commands.{command_of, command_row}
+use Rattle.user_model.specs.declared.Command.{Command}
+use Rattle.user_model.specs.Requests.{command_of}
+use Rattle.user_model.specs.Commands.{command_row, input_row}
 use Rattle.user_model.specs.Programs.{step_row, reads_line, asks_time, is_read}
-use Rattle.user_model.specs.Session.{is_command_in}
+use Rattle.user_model.specs.Session.{works_in}
 use Rattle.user_model.specs.User.{User, can_step, in_core, core_after, IsStep}
 use Rattle.user_model.specs.Steps.{left}
-use Rattle.user_model.specs.Answers.{IsRow, noted, line_count, by_row, DidEntry, DidCommand}
-use Rattle.user_model.proofs.StepLaws.{run_left, run_ends, run_asks, run_can, command_left, command_ends, command_asks, command_can}
+use Rattle.user_model.specs.Answers.{IsRow, noted, line_count, by_row, DidEntry, DidCommand, DidInput}
+use Rattle.user_model.proofs.StepLaws.{run_left, run_ends, run_asks, run_can, command_left, command_ends, command_asks, command_can, input_left, input_ends, input_asks}
 
 -- the two forms of what a row leaves
 append-nil : (xs : List Item) → xs ++ [] ≡ xs
@@ -61,7 +63,7 @@ line_at s p = first_line (reads_line s p.inner) p.unread
 abbrev said_at : Step → ℕ → User → Outcome Inner
 said_at s t p = step_row s p.inner (line_at s p) (suc p.own - p.before) t
 
-pub row_turn : (t : ℕ) (p q : User) (c d : List ℕ) (s : Step) (e : Ending) (asked : Bool) → is_command_in p.inner.state ≡ false → p.inner.fill ≡ None → table p.inner.regs c ≡ s → p.on ≡ true → p.given ≡ 0
+pub row_turn : (t : ℕ) (p q : User) (c d : List ℕ) (s : Step) (e : Ending) (asked : Bool) → works_in p.inner.state ≡ true → p.inner.fill ≡ None → table p.inner.regs c ≡ s → p.on ≡ true → p.given ≡ 0
     → IsRow (not (reads_line s (in_core c p).inner) || some_line p.unread) false (line_at s (in_core c p)) (said_at s t (in_core c p)) (asks_time s (in_core c p).inner) e asked p q d
     → IsStep e asked t p q c d
 row_turn t p q c d s e asked h none is on zero_given row =
@@ -73,7 +75,7 @@ row_turn t p q c d s e asked h none is on zero_given row =
     }
 
 -- a supervisor entry
-pub entry_turn : (t : ℕ) (p q : User) (c d : List ℕ) (w : ℕ) (call : Result Call EntryFault) (e : Ending) (asked : Bool) → is_command_in p.inner.state ≡ false → p.inner.fill ≡ None → table p.inner.regs c ≡ entry w → call_of p.inner.regs c w ≡ call → p.on ≡ true → p.given ≡ 0
+pub entry_turn : (t : ℕ) (p q : User) (c d : List ℕ) (w : ℕ) (call : Result Call EntryFault) (e : Ending) (asked : Bool) → works_in p.inner.state ≡ true → p.inner.fill ≡ None → table p.inner.regs c ≡ entry w → call_of p.inner.regs c w ≡ call → p.on ≡ true → p.given ≡ 0
     → DidEntry call e asked t p q c d
     → IsStep e asked t p q c d
 entry_turn t p q c d w call e asked h none is what on zero_given row =
@@ -86,15 +88,27 @@ some_at : (xs : List Line) (l : Line) → slice_get xs 0 ≡ Some l → some_lin
 some_at [] l h = cc
 some_at (x ∷ xs) l h = refl
 
-pub command_turn : (t : ℕ) (p q : User) (c d : List ℕ) (l : Line) (command : Command) (e : Ending) (asked : Bool) → is_command_in p.inner.state ≡ true → slice_get p.unread 0 ≡ Some l → command_of l ≡ command → p.on ≡ true → p.given ≡ 0
+pub command_turn : (t : ℕ) (p q : User) (c d : List ℕ) (l : Line) (command : Command) (e : Ending) (asked : Bool) → works_in p.inner.state ≡ false → p.inner.input ≡ None → slice_get p.unread 0 ≡ Some l → command_of l ≡ command → p.on ≡ true → p.given ≡ 0
     → DidCommand l command e asked t p q c d
     → IsStep e asked t p q c d
-command_turn t p q c d l command e asked h first what on zero_given row =
+command_turn t p q c d l command e asked h none first what on zero_given row =
     record {
       can = command_can (in_core c p) h ∙ (λ j. on j && some_at p.unread l first j);
-      left = given_back true true (Some l) (command_row command (in_core c p).inner 1 t) true e asked p q c d on zero_given row ∙ sym (command_left t (in_core c p) l command h first zero_given what);
-      ends = row.3 ∙ sym (command_ends t (in_core c p) l command h first what);
-      asks = row.4 ∙ sym (command_asks (in_core c p) l h first);
+      left = given_back true true (Some l) (command_row command (in_core c p).inner 1 t) true e asked p q c d on zero_given row ∙ sym (command_left t (in_core c p) l command h none first zero_given what);
+      ends = row.3 ∙ sym (command_ends t (in_core c p) l command h none first what);
+      asks = row.4 ∙ sym (command_asks (in_core c p) l h none first);
+    }
+
+-- a line of INPUT
+pub input_turn : (t : ℕ) (p q : User) (c d : List ℕ) (l : Line) (name : NamePair) (e : Ending) (asked : Bool) → works_in p.inner.state ≡ false → p.inner.input ≡ Some name → slice_get p.unread 0 ≡ Some l → p.on ≡ true → p.given ≡ 0
+    → DidInput l name e asked p q c d
+    → IsStep e asked t p q c d
+input_turn t p q c d l name e asked h some first on zero_given row =
+    record {
+      can = command_can (in_core c p) h ∙ (λ j. on j && some_at p.unread l first j);
+      left = given_back true false (Some l) (input_row name l (in_core c p).inner (suc p.own - p.before)) false e asked p q c d on zero_given row ∙ sym (input_left t (in_core c p) l name h some first zero_given);
+      ends = row.3 ∙ sym (input_ends t (in_core c p) l name h some first);
+      asks = row.4 ∙ sym (input_asks (in_core c p) l name h some first);
     }
 
 -- a supervisor entry that waits for a line
@@ -106,15 +120,15 @@ and_none : (a : Bool) → (a && false) ≡ false
 and_none true = refl
 and_none false = refl
 
-pub entry_waits : (p : User) (c : List ℕ) (w : ℕ) (call : Result Call EntryFault) → is_command_in p.inner.state ≡ false → p.inner.fill ≡ None → table p.inner.regs c ≡ entry w → call_of p.inner.regs c w ≡ call
+pub entry_waits : (p : User) (c : List ℕ) (w : ℕ) (call : Result Call EntryFault) → works_in p.inner.state ≡ true → p.inner.fill ≡ None → table p.inner.regs c ≡ entry w → call_of p.inner.regs c w ≡ call
     → is_read call ≡ true → slice_get p.unread 0 ≡ None → can_step (in_core c p) ≡ false
 entry_waits p c w call h none is what reads empty =
     run_can (in_core c p) (entry w) h none is
     ∙ (λ j. p.on && (not ((ap is_read what ∙ reads) j) || none_at p.unread empty j))
     ∙ and_none p.on
 
--- a command that waits for a line
-pub command_waits : (p : User) (c : List ℕ) → is_command_in p.inner.state ≡ true → slice_get p.unread 0 ≡ None → can_step (in_core c p) ≡ false
+-- no program works, and a line is waited for
+pub command_waits : (p : User) (c : List ℕ) → works_in p.inner.state ≡ false → slice_get p.unread 0 ≡ None → can_step (in_core c p) ≡ false
 command_waits p c h none = command_can (in_core c p) h ∙ ap (λ (b : Bool). p.on && b) (none_at p.unread none) ∙ and_none p.on
 
 and_off : (a b : Bool) → a ≡ false → (a && b) ≡ false

@@ -5,13 +5,15 @@ use Rattle.std.specs.declared.result.Result.{Result}
 use Rattle.time_sharing.specs.Machine.{Line, Went}
 use Rattle.time_sharing.specs.Rows.{Outcome, some_line, is_logout, out_all, in_line, behind, one_less, first_line, line_of, before_of, done}
 use Rattle.time_sharing.specs.System.{clock_for}
-use Rattle.ctss_types.specs.declared.session.Command.{Command}
-use Rattle.ctss_types.specs.declared.session.Command.TheVariants.{Empty, Logout, LoadGo, BadArguments, Unknown}
-use Rattle.file_model.specs.Files.{got}
+use Rattle.ctss_types.specs.Names.{NamePair}
+use Rattle.ctss_types.specs.declared.file.FileBody.{FileBody}
+use Rattle.ctss_types.specs.declared.file.Refusal.{Refusal}
+use Rattle.file_model.specs.declared.Stat.{Stat}
+use Rattle.file_model.specs.Files.{file_named, stat, read, got, written, put, appended, renamed, deleted, moded}
 use Rattle.machine_model.specs.Step.{Step, went, halt, entry, illegal, outside}
 use Rattle.machine_model.specs.Machine.{table}
 use Rattle.program_model.specs.declared.Call.{Call}
-use Rattle.program_model.specs.declared.Call.TheVariants.{ReadLine, WriteLine, GetTime, GetMemory, SetMemory, Dead as EndsDead, Dormant as EndsDormant}
+use Rattle.program_model.specs.declared.Call.TheVariants.{ReadLine, WriteLine, GetTime, GetMemory, SetMemory, FileStat, ReadFile, WriteFile, DeleteFile, RenameFile, ChangeMode as ChangesMode, Dead as EndsDead, Dormant as EndsDormant}
 use Rattle.program_model.specs.declared.EntryFault.{EntryFault}
 use Rattle.program_model.specs.declared.EntryFault.TheVariants.{NoSuchEntry, Outside}
 use Rattle.program_model.specs.declared.LoadFault.{LoadFault}
@@ -21,10 +23,14 @@ use Rattle.program_model.specs.declared.ProgramState.{ProgramState}
 use Rattle.program_model.specs.declared.ProgramState.TheVariants.{Dead, Dormant, Working}
 use Rattle.program_model.specs.Calls.{call_of, is_line_count}
 use Rattle.program_model.specs.Decks.{deck_of, deck_name}
+use Rattle.program_model.specs.Lines.{words_at, words_of_line}
 use Rattle.user_model.specs.Inner.{Inner}
-use Rattle.user_model.specs.Commands.{command_of, command_row, prepared}
-use Rattle.user_model.specs.Programs.{step_row, entry_row, call_row, program_row, program_reads, program_asks, reads_line, is_clock, asks_time, filled_program, goes}
-use Rattle.user_model.specs.Session.{user_rows, is_command_in, act_in, asks_clock_in, takes_line_in}
+use Rattle.user_model.specs.declared.Command.{Command}
+use Rattle.user_model.specs.declared.Command.TheVariants.{Empty, Logout, LoadGo, List as Lists, Print, Rename, Delete, ChangeMode, Input, BadArguments, Unknown}
+use Rattle.user_model.specs.Requests.{command_of}
+use Rattle.user_model.specs.Commands.{command_row, prepared, changed, input_made, input_begun, input_row, line_entered}
+use Rattle.user_model.specs.Programs.{step_row, entry_row, call_row, file_told, file_read, files_changed, program_row, program_reads, program_asks, reads_line, is_clock, asks_time, filled_program, goes}
+use Rattle.user_model.specs.Session.{user_rows, works_in, is_none, counts_anew, act_in, line_row, asks_clock_in, takes_line_in}
 use Rattle.user_model.specs.User.{User, can_step, step, ending, asks_clock}
 use Rattle.user_model.specs.Steps.{left}
 
@@ -34,6 +40,18 @@ if_front : (b : Bool) (x y : Outcome Inner) → x.front ≡ [] → y.front ≡ [
 if_front true x y one other = one
 if_front false x y one other = other
 
+told_front : (i : Inner) (told : Result Stat Refusal) → (file_told i told).front ≡ []
+told_front i (Ok s) = refl
+told_front i (Err r) = refl
+
+read_front : (i : Inner) (at : ℕ) (told : Result (List ℕ) Refusal) → (file_read i at told).front ≡ []
+read_front i at (Ok words) = refl
+read_front i at (Err r) = refl
+
+changed_front : (i : Inner) (arguments : ℕ) (told : Result (List FileBody) Refusal) → (files_changed i arguments told).front ≡ []
+changed_front i arguments (Ok files) = refl
+changed_front i arguments (Err r) = refl
+
 call_front : (c : Call) (i : Inner) (l : Option Line) (n t : ℕ) → (call_row c i l n t).front ≡ []
 call_front (ReadLine at count) i None n t = if_front (is_line_count count) _ _ refl refl
 call_front (ReadLine at count) i (Some l) n t = if_front (is_line_count count) _ _ refl refl
@@ -41,6 +59,12 @@ call_front (WriteLine at count) i l n t = if_front (is_line_count count) _ _ ref
 call_front GetTime i l n t = refl
 call_front GetMemory i l n t = refl
 call_front (SetMemory blocks) i l n t = if_front (nat_eq blocks 0 || nat_lt i.account.blocks blocks) _ _ refl (if_front (nat_eq blocks i.blocks) _ _ refl refl)
+call_front (FileStat name) i l n t = told_front i (stat name i.files)
+call_front (ReadFile name at count place) i l n t = read_front i at (read name place count i.files)
+call_front (WriteFile name at count place) i l n t = changed_front i 3 (written name place (words_at i.core at count) i.account.tracks i.files)
+call_front (DeleteFile name) i l n t = changed_front i 1 (deleted name i.files)
+call_front (RenameFile name to) i l n t = changed_front i 2 (renamed name to i.files)
+call_front (ChangesMode name mode) i l n t = changed_front i 2 (moded name mode i.files)
 call_front EndsDead i l n t = refl
 call_front EndsDormant i l n t = refl
 
@@ -64,16 +88,41 @@ prepared_front : (name : ℕ) (deck : Result Deck LoadFault) (i : Inner) (n t : 
 prepared_front name (Ok deck) i n t = refl
 prepared_front name (Err fault) i n t = refl
 
+change_front : (told : Result (List FileBody) Refusal) (i : Inner) (n t : ℕ) → (changed told i n t).front ≡ []
+change_front (Ok files) i n t = refl
+change_front (Err r) i n t = refl
+
+made_front : (name : NamePair) (told : Result (List FileBody) Refusal) (i : Inner) (n t : ℕ) → (input_made name told i n t).front ≡ []
+made_front name (Ok files) i n t = refl
+made_front name (Err r) i n t = refl
+
+begun_front : (name : NamePair) (file : Option FileBody) (i : Inner) (n t : ℕ) → (input_begun name file i n t).front ≡ []
+begun_front name None i n t = made_front name (put name [] i.account.tracks i.files) i n t
+begun_front name (Some f) i n t = refl
+
+entered_front : (told : Result (List FileBody) Refusal) (i : Inner) (n : ℕ) → (line_entered told i n).front ≡ []
+entered_front (Ok files) i n = refl
+entered_front (Err r) i n = refl
+
+input_front : (name : NamePair) (l : Line) (i : Inner) (n : ℕ) → (input_row name l i n).front ≡ []
+input_front name l i n = if_front (nat_eq (length l) 0) _ _ refl (entered_front (appended name (words_of_line 14 l) i.account.tracks i.files) i n)
+
 command_front : (c : Command) (i : Inner) (n t : ℕ) → (command_row c i n t).front ≡ []
 command_front Empty i n t = refl
 command_front Logout i n t = refl
 command_front (LoadGo name) i n t = prepared_front name (deck_of i.account.blocks (got (deck_name name) i.files)) i n t
+command_front Lists i n t = refl
+command_front (Print name) i n t = refl
+command_front (Rename name to) i n t = change_front (renamed name to i.files) i n t
+command_front (Delete name) i n t = change_front (deleted name i.files) i n t
+command_front (ChangeMode name mode) i n t = change_front (moded name mode i.files) i n t
+command_front (Input name) i n t = begun_front name (file_named name i.files) i n t
 command_front BadArguments i n t = refl
 command_front Unknown i n t = refl
 
 -- what the frame does with an outcome that puts no lines in front
 frame : (p : User) (line : Option Line) (o : Outcome Inner) → line_of user_rows p ≡ line → o.front ≡ [] → p.given ≡ 0 →
-    done user_rows p o ≡ left (is_command_in p.inner.state) line o p
+    done user_rows p o ≡ left (counts_anew p.inner) line o p
 unfolding left
 frame p line o is none zero_given =
     λ j. record p {
@@ -102,6 +151,12 @@ call_clock (WriteLine at count) i l n t = refl
 call_clock GetTime i l n t = refl
 call_clock GetMemory i l n t = refl
 call_clock (SetMemory blocks) i l n t = refl
+call_clock (FileStat name) i l n t = refl
+call_clock (ReadFile name at count place) i l n t = refl
+call_clock (WriteFile name at count place) i l n t = refl
+call_clock (DeleteFile name) i l n t = refl
+call_clock (RenameFile name to) i l n t = refl
+call_clock (ChangesMode name mode) i l n t = refl
 call_clock EndsDead i l n t = refl
 call_clock EndsDormant i l n t = refl
 
@@ -130,57 +185,107 @@ front_is : (xs : List Line) (l : Line) → slice_get xs 0 ≡ Some l → first_l
 front_is [] l h = cc
 front_is (x ∷ xs) l h = h
 
--- the program's state in sight
-with_state : User → ProgramState → User
-with_state p s = record p { inner = record p.inner { state = s } }
+or_true : (b : Bool) → (b && true) ≡ b
+or_true true = refl
+or_true false = refl
 
-line_in_command : (s : ProgramState) (p : User) (l : Line) → is_command_in s ≡ true → slice_get p.unread 0 ≡ Some l → first_line (takes_line_in s p.inner) p.unread ≡ Some l
+since_before : (b : Bool) (own before : ℕ) → b ≡ false → suc own - (if b then own else before) ≡ suc own - before
+since_before true own before h = cc
+since_before false own before h = refl
+
+line_in_command : (s : ProgramState) (p : User) (l : Line) → works_in s ≡ false → slice_get p.unread 0 ≡ Some l → first_line (takes_line_in s p.inner) p.unread ≡ Some l
 line_in_command Dead p l h is = front_is p.unread l is
 line_in_command Dormant p l h is = front_is p.unread l is
 line_in_command Working p l h is = cc
 
-act_command : (s : ProgramState) (i : Inner) (c : Command) (l : Line) (n t : ℕ) → is_command_in s ≡ true → command_of l ≡ c →
+-- whether own steps count anew, where no program works
+anew : (i : Inner) → works_in i.state ≡ false → counts_anew i ≡ is_none i.input
+anew i h = ap (λ (b : Bool). not b && is_none i.input) h
+
+act_command : (s : ProgramState) (i : Inner) (c : Command) (l : Line) (n t : ℕ) → works_in s ≡ false → i.input ≡ None → command_of l ≡ c →
     act_in s i (Some l) n (clock_for (asks_clock_in s i (Some l)) t) ≡ command_row c i n t
-act_command Dead i c l n t h e = ap (λ (d : Command). command_row d i n t) e
-act_command Dormant i c l n t h e = ap (λ (d : Command). command_row d i n t) e
-act_command Working i c l n t h e = cc
+act_command Dead i c l n t h none e = (λ j. line_row (none j) l i n (clock_for (is_none (none j) && true) t)) ∙ ap (λ (d : Command). command_row d i n t) e
+act_command Dormant i c l n t h none e = (λ j. line_row (none j) l i n (clock_for (is_none (none j) && true) t)) ∙ ap (λ (d : Command). command_row d i n t) e
+act_command Working i c l n t h none e = cc
 
 since : (b : Bool) (own before : ℕ) → b ≡ true → suc own - (if b then own else before) ≡ 1
 since true own before h = first_step own
 since false own before h = cc
 
-command_outcome : (t : ℕ) (p : User) (l : Line) (c : Command) → is_command_in p.inner.state ≡ true → slice_get p.unread 0 ≡ Some l → command_of l ≡ c →
+-- a command is one that counts anew
+counted : (p : User) → works_in p.inner.state ≡ false → p.inner.input ≡ None → counts_anew p.inner ≡ true
+counted p h none = anew p.inner h ∙ ap is_none none
+
+command_outcome : (t : ℕ) (p : User) (l : Line) (c : Command) → works_in p.inner.state ≡ false → p.inner.input ≡ None → slice_get p.unread 0 ≡ Some l → command_of l ≡ c →
     act_in p.inner.state p.inner (line_of user_rows p) (suc p.own - before_of user_rows p) (clock_for (asks_clock_in p.inner.state p.inner (line_of user_rows p)) t) ≡ command_row c p.inner 1 t
-command_outcome t p l c h is e =
+command_outcome t p l c h none is e =
     ap (λ (line : Option Line). act_in p.inner.state p.inner line (suc p.own - before_of user_rows p) (clock_for (asks_clock_in p.inner.state p.inner line) t)) (line_in_command p.inner.state p l h is)
-    ∙ act_command p.inner.state p.inner c l (suc p.own - before_of user_rows p) t h e
-    ∙ ap (λ (n : ℕ). command_row c p.inner n t) (since (is_command_in p.inner.state) p.own p.before h)
+    ∙ act_command p.inner.state p.inner c l (suc p.own - before_of user_rows p) t h none e
+    ∙ ap (λ (n : ℕ). command_row c p.inner n t) (since (counts_anew p.inner) p.own p.before (counted p h none))
 
 -- a command's step
-pub command_left : (t : ℕ) (p : User) (l : Line) (c : Command) → is_command_in p.inner.state ≡ true → slice_get p.unread 0 ≡ Some l → p.given ≡ 0 → command_of l ≡ c →
+pub command_left : (t : ℕ) (p : User) (l : Line) (c : Command) → works_in p.inner.state ≡ false → p.inner.input ≡ None → slice_get p.unread 0 ≡ Some l → p.given ≡ 0 → command_of l ≡ c →
     step t p ≡ left true (Some l) (command_row c p.inner 1 t) p
 unfolding step
-command_left t p l c h is none e =
-    ap (done user_rows p) (command_outcome t p l c h is e)
+command_left t p l c h input is none e =
+    ap (done user_rows p) (command_outcome t p l c h input is e)
     ∙ frame p (Some l) (command_row c p.inner 1 t) (line_in_command p.inner.state p l h is) (command_front c p.inner 1 t) none
-    ∙ ap (λ (b : Bool). left b (Some l) (command_row c p.inner 1 t) p) h
+    ∙ ap (λ (b : Bool). left b (Some l) (command_row c p.inner 1 t) p) (counted p h input)
 
-pub command_ends : (t : ℕ) (p : User) (l : Line) (c : Command) → is_command_in p.inner.state ≡ true → slice_get p.unread 0 ≡ Some l → command_of l ≡ c →
+pub command_ends : (t : ℕ) (p : User) (l : Line) (c : Command) → works_in p.inner.state ≡ false → p.inner.input ≡ None → slice_get p.unread 0 ≡ Some l → command_of l ≡ c →
     ending t p ≡ (command_row c p.inner 1 t).ending
 unfolding ending
-command_ends t p l c h is e = ap (λ (o : Outcome Inner). o.ending) (command_outcome t p l c h is e)
+command_ends t p l c h none is e = ap (λ (o : Outcome Inner). o.ending) (command_outcome t p l c h none is e)
 
-asks_in : (s : ProgramState) (i : Inner) (l : Line) → is_command_in s ≡ true → asks_clock_in s i (Some l) ≡ true
-asks_in Dead i l h = refl
-asks_in Dormant i l h = refl
+asks_in : (s : ProgramState) (i : Inner) (l : Line) → works_in s ≡ false → asks_clock_in s i (Some l) ≡ is_none i.input
+asks_in Dead i l h = or_true (is_none i.input)
+asks_in Dormant i l h = or_true (is_none i.input)
 asks_in Working i l h = cc
 
-pub command_asks : (p : User) (l : Line) → is_command_in p.inner.state ≡ true → slice_get p.unread 0 ≡ Some l → asks_clock p ≡ true
+line_asks : (p : User) (l : Line) → works_in p.inner.state ≡ false → slice_get p.unread 0 ≡ Some l → asks_clock p ≡ is_none p.inner.input
 unfolding asks_clock
-command_asks p l h is =
+line_asks p l h is =
     ap (λ (line : Option Line). asks_clock_in p.inner.state p.inner line) (line_in_command p.inner.state p l h is) ∙ asks_in p.inner.state p.inner l h
 
-takes_in : (s : ProgramState) (i : Inner) → is_command_in s ≡ true → takes_line_in s i ≡ true
+pub command_asks : (p : User) (l : Line) → works_in p.inner.state ≡ false → p.inner.input ≡ None → slice_get p.unread 0 ≡ Some l → asks_clock p ≡ true
+command_asks p l h none is = line_asks p l h is ∙ ap is_none none
+
+-- a line of INPUT
+
+act_input : (s : ProgramState) (i : Inner) (name : NamePair) (l : Line) (n t : ℕ) → works_in s ≡ false → i.input ≡ Some name →
+    act_in s i (Some l) n t ≡ input_row name l i n
+act_input Dead i name l n t h some = λ j. line_row (some j) l i n t
+act_input Dormant i name l n t h some = λ j. line_row (some j) l i n t
+act_input Working i name l n t h some = cc
+
+typed_on : (p : User) (name : NamePair) → works_in p.inner.state ≡ false → p.inner.input ≡ Some name → counts_anew p.inner ≡ false
+typed_on p name h some = anew p.inner h ∙ ap is_none some
+
+input_outcome : (t : ℕ) (p : User) (l : Line) (name : NamePair) → works_in p.inner.state ≡ false → p.inner.input ≡ Some name → slice_get p.unread 0 ≡ Some l →
+    act_in p.inner.state p.inner (line_of user_rows p) (suc p.own - before_of user_rows p) t ≡ input_row name l p.inner (suc p.own - p.before)
+input_outcome t p l name h some is =
+    ap (λ (line : Option Line). act_in p.inner.state p.inner line (suc p.own - before_of user_rows p) t) (line_in_command p.inner.state p l h is)
+    ∙ act_input p.inner.state p.inner name l (suc p.own - before_of user_rows p) t h some
+    ∙ ap (λ (n : ℕ). input_row name l p.inner n) (since_before (counts_anew p.inner) p.own p.before (typed_on p name h some))
+
+pub input_left : (t : ℕ) (p : User) (l : Line) (name : NamePair) → works_in p.inner.state ≡ false → p.inner.input ≡ Some name → slice_get p.unread 0 ≡ Some l → p.given ≡ 0 →
+    step t p ≡ left false (Some l) (input_row name l p.inner (suc p.own - p.before)) p
+unfolding step
+input_left t p l name h some is none =
+    ap (done user_rows p) (input_outcome (clock_for (asks_clock_in p.inner.state p.inner (line_of user_rows p)) t) p l name h some is)
+    ∙ frame p (Some l) (input_row name l p.inner (suc p.own - p.before)) (line_in_command p.inner.state p l h is) (input_front name l p.inner (suc p.own - p.before)) none
+    ∙ ap (λ (b : Bool). left b (Some l) (input_row name l p.inner (suc p.own - p.before)) p) (typed_on p name h some)
+
+pub input_ends : (t : ℕ) (p : User) (l : Line) (name : NamePair) → works_in p.inner.state ≡ false → p.inner.input ≡ Some name → slice_get p.unread 0 ≡ Some l →
+    ending t p ≡ (input_row name l p.inner (suc p.own - p.before)).ending
+unfolding ending
+input_ends t p l name h some is =
+    ap (λ (o : Outcome Inner). o.ending) (input_outcome (clock_for (asks_clock_in p.inner.state p.inner (line_of user_rows p)) t) p l name h some is)
+
+pub input_asks : (p : User) (l : Line) (name : NamePair) → works_in p.inner.state ≡ false → p.inner.input ≡ Some name → slice_get p.unread 0 ≡ Some l → asks_clock p ≡ false
+input_asks p l name h some is = line_asks p l h is ∙ ap is_none some
+
+takes_in : (s : ProgramState) (i : Inner) → works_in s ≡ false → takes_line_in s i ≡ true
 takes_in Dead i h = refl
 takes_in Dormant i h = refl
 takes_in Working i h = cc
@@ -194,24 +299,24 @@ none_at [] h = refl
 none_at (x ∷ xs) h = cc
 
 -- a session without a program that works can step where a line is unread
-pub command_can : (p : User) → is_command_in p.inner.state ≡ true → can_step p ≡ (p.on && some_line p.unread)
+pub command_can : (p : User) → works_in p.inner.state ≡ false → can_step p ≡ (p.on && some_line p.unread)
 unfolding can_step
 command_can p h = ap (λ (b : Bool). p.on && (not b || some_line p.unread)) (takes_in p.inner.state p.inner h)
 
 -- programs
 
-act_program : (s : ProgramState) (i : Inner) (line : Option Line) (n t : ℕ) → is_command_in s ≡ false →
+act_program : (s : ProgramState) (i : Inner) (line : Option Line) (n t : ℕ) → works_in s ≡ true →
     act_in s i line n (clock_for (asks_clock_in s i line) t) ≡ program_row i.fill i line n t
 act_program Dead i line n t h = cc
 act_program Dormant i line n t h = cc
 act_program Working i line n t h = program_clock i.fill i line n t
 
-takes_program : (s : ProgramState) (i : Inner) → is_command_in s ≡ false → takes_line_in s i ≡ program_reads i.fill i
+takes_program : (s : ProgramState) (i : Inner) → works_in s ≡ true → takes_line_in s i ≡ program_reads i.fill i
 takes_program Dead i h = cc
 takes_program Dormant i h = cc
 takes_program Working i h = refl
 
-asks_program : (s : ProgramState) (i : Inner) (line : Option Line) → is_command_in s ≡ false → asks_clock_in s i line ≡ program_asks i.fill i
+asks_program : (s : ProgramState) (i : Inner) (line : Option Line) → works_in s ≡ true → asks_clock_in s i line ≡ program_asks i.fill i
 asks_program Dead i line h = cc
 asks_program Dormant i line h = cc
 asks_program Working i line h = refl
@@ -220,62 +325,58 @@ asks_program Working i line h = refl
 abbrev program_line : User → Option Line
 program_line p = first_line (program_reads p.inner.fill p.inner) p.unread
 
-line_in_program : (p : User) → is_command_in p.inner.state ≡ false → line_of user_rows p ≡ program_line p
+line_in_program : (p : User) → works_in p.inner.state ≡ true → line_of user_rows p ≡ program_line p
 line_in_program p h = ap (λ (b : Bool). first_line b p.unread) (takes_program p.inner.state p.inner h)
 
-since_before : (b : Bool) (own before : ℕ) → b ≡ false → suc own - (if b then own else before) ≡ suc own - before
-since_before true own before h = cc
-since_before false own before h = refl
+-- a program's step is no command
+not_anew : (p : User) → works_in p.inner.state ≡ true → counts_anew p.inner ≡ false
+not_anew p h = ap (λ (b : Bool). not b && is_none p.inner.input) h
 
-program_outcome : (t : ℕ) (p : User) → is_command_in p.inner.state ≡ false →
+program_outcome : (t : ℕ) (p : User) → works_in p.inner.state ≡ true →
     act_in p.inner.state p.inner (line_of user_rows p) (suc p.own - before_of user_rows p) (clock_for (asks_clock_in p.inner.state p.inner (line_of user_rows p)) t)
     ≡ program_row p.inner.fill p.inner (program_line p) (suc p.own - p.before) t
 program_outcome t p h =
     act_program p.inner.state p.inner (line_of user_rows p) (suc p.own - before_of user_rows p) t h
     ∙ ap (λ (line : Option Line). program_row p.inner.fill p.inner line (suc p.own - before_of user_rows p) t) (line_in_program p h)
-    ∙ ap (λ (n : ℕ). program_row p.inner.fill p.inner (program_line p) n t) (since_before (is_command_in p.inner.state) p.own p.before h)
+    ∙ ap (λ (n : ℕ). program_row p.inner.fill p.inner (program_line p) n t) (since_before (counts_anew p.inner) p.own p.before (not_anew p h))
 
-program_step : (t : ℕ) (p : User) → is_command_in p.inner.state ≡ false → p.given ≡ 0 →
+program_step : (t : ℕ) (p : User) → works_in p.inner.state ≡ true → p.given ≡ 0 →
     step t p ≡ left false (program_line p) (program_row p.inner.fill p.inner (program_line p) (suc p.own - p.before) t) p
 unfolding step
 program_step t p h none =
     ap (done user_rows p) (program_outcome t p h)
     ∙ frame p (program_line p) (program_row p.inner.fill p.inner (program_line p) (suc p.own - p.before) t) (line_in_program p h) (program_front p.inner.fill p.inner (program_line p) (suc p.own - p.before) t) none
-    ∙ ap (λ (b : Bool). left b (program_line p) (program_row p.inner.fill p.inner (program_line p) (suc p.own - p.before) t) p) h
+    ∙ ap (λ (b : Bool). left b (program_line p) (program_row p.inner.fill p.inner (program_line p) (suc p.own - p.before) t) p) (not_anew p h)
 
-program_ends : (t : ℕ) (p : User) → is_command_in p.inner.state ≡ false → ending t p ≡ (program_row p.inner.fill p.inner (program_line p) (suc p.own - p.before) t).ending
+program_ends : (t : ℕ) (p : User) → works_in p.inner.state ≡ true → ending t p ≡ (program_row p.inner.fill p.inner (program_line p) (suc p.own - p.before) t).ending
 unfolding ending
 program_ends t p h = ap (λ (o : Outcome Inner). o.ending) (program_outcome t p h)
 
-program_can : (p : User) → is_command_in p.inner.state ≡ false → can_step p ≡ (p.on && (not (program_reads p.inner.fill p.inner) || some_line p.unread))
+program_can : (p : User) → works_in p.inner.state ≡ true → can_step p ≡ (p.on && (not (program_reads p.inner.fill p.inner) || some_line p.unread))
 unfolding can_step
 program_can p h = ap (λ (b : Bool). p.on && (not b || some_line p.unread)) (takes_program p.inner.state p.inner h)
 
-program_asks_clock : (p : User) → is_command_in p.inner.state ≡ false → asks_clock p ≡ program_asks p.inner.fill p.inner
+program_asks_clock : (p : User) → works_in p.inner.state ≡ true → asks_clock p ≡ program_asks p.inner.fill p.inner
 unfolding asks_clock
 program_asks_clock p h = asks_program p.inner.state p.inner (line_of user_rows p) h
 
 -- a program that is still to be filled
 
-pub fill_left : (t : ℕ) (p : User) (f : Fill) → is_command_in p.inner.state ≡ false → p.inner.fill ≡ Some f → p.given ≡ 0 →
+pub fill_left : (t : ℕ) (p : User) (f : Fill) → works_in p.inner.state ≡ true → p.inner.fill ≡ Some f → p.given ≡ 0 →
     step t p ≡ left false None (goes (filled_program f p.inner)) p
 fill_left t p f h is none =
     program_step t p h none
     ∙ ap (λ (fill : Option Fill). left false (first_line (program_reads fill p.inner) p.unread) (program_row fill p.inner (first_line (program_reads fill p.inner) p.unread) (suc p.own - p.before) t) p) is
 
-pub fill_ends : (t : ℕ) (p : User) (f : Fill) → is_command_in p.inner.state ≡ false → p.inner.fill ≡ Some f → ending t p ≡ Went
+pub fill_ends : (t : ℕ) (p : User) (f : Fill) → works_in p.inner.state ≡ true → p.inner.fill ≡ Some f → ending t p ≡ Went
 fill_ends t p f h is =
     program_ends t p h
     ∙ ap (λ (fill : Option Fill). (program_row fill p.inner (first_line (program_reads fill p.inner) p.unread) (suc p.own - p.before) t).ending) is
 
-pub fill_asks : (p : User) (f : Fill) → is_command_in p.inner.state ≡ false → p.inner.fill ≡ Some f → asks_clock p ≡ false
+pub fill_asks : (p : User) (f : Fill) → works_in p.inner.state ≡ true → p.inner.fill ≡ Some f → asks_clock p ≡ false
 fill_asks p f h is = program_asks_clock p h ∙ ap (λ (fill : Option Fill). program_asks fill p.inner) is
 
-or_true : (b : Bool) → (b && true) ≡ b
-or_true true = refl
-or_true false = refl
-
-pub fill_can : (p : User) (f : Fill) → is_command_in p.inner.state ≡ false → p.inner.fill ≡ Some f → can_step p ≡ p.on
+pub fill_can : (p : User) (f : Fill) → works_in p.inner.state ≡ true → p.inner.fill ≡ Some f → can_step p ≡ p.on
 fill_can p f h is =
     program_can p h ∙ ap (λ (fill : Option Fill). p.on && (not (program_reads fill p.inner) || some_line p.unread)) is ∙ or_true p.on
 
@@ -285,25 +386,25 @@ fill_can p f h is =
 abbrev line_at : Step → User → Option Line
 line_at s p = first_line (reads_line s p.inner) p.unread
 
-pub run_left : (t : ℕ) (p : User) (s : Step) → is_command_in p.inner.state ≡ false → p.inner.fill ≡ None → table p.inner.regs p.inner.core ≡ s → p.given ≡ 0 →
+pub run_left : (t : ℕ) (p : User) (s : Step) → works_in p.inner.state ≡ true → p.inner.fill ≡ None → table p.inner.regs p.inner.core ≡ s → p.given ≡ 0 →
     step t p ≡ left false (first_line (reads_line s p.inner) p.unread) (step_row s p.inner (first_line (reads_line s p.inner) p.unread) (suc p.own - p.before) t) p
 run_left t p s h is e none =
     program_step t p h none
     ∙ ap (λ (fill : Option Fill). left false (first_line (program_reads fill p.inner) p.unread) (program_row fill p.inner (first_line (program_reads fill p.inner) p.unread) (suc p.own - p.before) t) p) is
     ∙ ap (λ (u : Step). left false (line_at u p) (step_row u p.inner (line_at u p) (suc p.own - p.before) t) p) e
 
-pub run_ends : (t : ℕ) (p : User) (s : Step) → is_command_in p.inner.state ≡ false → p.inner.fill ≡ None → table p.inner.regs p.inner.core ≡ s →
+pub run_ends : (t : ℕ) (p : User) (s : Step) → works_in p.inner.state ≡ true → p.inner.fill ≡ None → table p.inner.regs p.inner.core ≡ s →
     ending t p ≡ (step_row s p.inner (first_line (reads_line s p.inner) p.unread) (suc p.own - p.before) t).ending
 run_ends t p s h is e =
     program_ends t p h
     ∙ ap (λ (fill : Option Fill). (program_row fill p.inner (first_line (program_reads fill p.inner) p.unread) (suc p.own - p.before) t).ending) is
     ∙ ap (λ (u : Step). (step_row u p.inner (line_at u p) (suc p.own - p.before) t).ending) e
 
-pub run_asks : (p : User) (s : Step) → is_command_in p.inner.state ≡ false → p.inner.fill ≡ None → table p.inner.regs p.inner.core ≡ s → asks_clock p ≡ asks_time s p.inner
+pub run_asks : (p : User) (s : Step) → works_in p.inner.state ≡ true → p.inner.fill ≡ None → table p.inner.regs p.inner.core ≡ s → asks_clock p ≡ asks_time s p.inner
 run_asks p s h is e =
     program_asks_clock p h ∙ ap (λ (fill : Option Fill). program_asks fill p.inner) is ∙ ap (λ (u : Step). asks_time u p.inner) e
 
-pub run_can : (p : User) (s : Step) → is_command_in p.inner.state ≡ false → p.inner.fill ≡ None → table p.inner.regs p.inner.core ≡ s →
+pub run_can : (p : User) (s : Step) → works_in p.inner.state ≡ true → p.inner.fill ≡ None → table p.inner.regs p.inner.core ≡ s →
     can_step p ≡ (p.on && (not (reads_line s p.inner) || some_line p.unread))
 run_can p s h is e =
     program_can p h

@@ -1,16 +1,18 @@
 -- A step that goes on leaves the program's size.
-use Rattle.std.proofs.Common.{◌≡◌, ℕ, suc, ◌-◌, Bool, true, false, ◌||◌, Option, Some, None, Ok, Err, refl}
-use Rattle.std.specs.Prelude.{if◌then◌else◌, nat_eq, nat_lt}
+use Rattle.std.proofs.Common.{◌≡◌, ℕ, suc, ◌-◌, Bool, true, false, ◌||◌, List, [], Option, Some, None, Ok, Err, refl}
+use Rattle.std.specs.Prelude.{if◌then◌else◌, nat_eq, nat_lt, length}
 use Rattle.std.specs.declared.result.Result.{Result}
 use Rattle.time_sharing.specs.Machine.{Line, Went}
 use Rattle.time_sharing.specs.Rows.{Outcome, line_of, before_of}
-use Rattle.ctss_types.specs.declared.session.Command.{Command}
-use Rattle.ctss_types.specs.declared.session.Command.TheVariants.{Empty, Logout, LoadGo, BadArguments, Unknown}
-use Rattle.file_model.specs.Files.{got}
+use Rattle.ctss_types.specs.Names.{NamePair}
+use Rattle.ctss_types.specs.declared.file.FileBody.{FileBody}
+use Rattle.ctss_types.specs.declared.file.Refusal.{Refusal}
+use Rattle.file_model.specs.declared.Stat.{Stat}
+use Rattle.file_model.specs.Files.{file_named, stat, read, got, written, put, appended, renamed, deleted, moded}
 use Rattle.machine_model.specs.Step.{Step, went, halt, entry, illegal, outside}
 use Rattle.machine_model.specs.Machine.{table}
 use Rattle.program_model.specs.declared.Call.{Call}
-use Rattle.program_model.specs.declared.Call.TheVariants.{ReadLine, WriteLine, GetTime, GetMemory, SetMemory, Dead as EndsDead, Dormant as EndsDormant}
+use Rattle.program_model.specs.declared.Call.TheVariants.{ReadLine, WriteLine, GetTime, GetMemory, SetMemory, FileStat, ReadFile, WriteFile, DeleteFile, RenameFile, ChangeMode as ChangesMode, Dead as EndsDead, Dormant as EndsDormant}
 use Rattle.program_model.specs.declared.EntryFault.{EntryFault}
 use Rattle.program_model.specs.declared.EntryFault.TheVariants.{NoSuchEntry, Outside}
 use Rattle.program_model.specs.declared.LoadFault.{LoadFault}
@@ -20,10 +22,14 @@ use Rattle.program_model.specs.declared.ProgramState.{ProgramState}
 use Rattle.program_model.specs.declared.ProgramState.TheVariants.{Dead, Dormant, Working}
 use Rattle.program_model.specs.Calls.{call_of, is_line_count}
 use Rattle.program_model.specs.Decks.{deck_of, deck_name}
+use Rattle.program_model.specs.Lines.{words_at, words_of_line}
 use Rattle.user_model.specs.Inner.{Inner, blocks_of}
-use Rattle.user_model.specs.Commands.{command_of, command_row, prepared}
-use Rattle.user_model.specs.Programs.{step_row, entry_row, call_row, program_row}
-use Rattle.user_model.specs.Session.{user_rows, act_in}
+use Rattle.user_model.specs.declared.Command.{Command}
+use Rattle.user_model.specs.declared.Command.TheVariants.{Empty, Logout, LoadGo, List as Lists, Print, Rename, Delete, ChangeMode, Input, BadArguments, Unknown}
+use Rattle.user_model.specs.Requests.{command_of}
+use Rattle.user_model.specs.Commands.{command_row, prepared, changed, input_made, input_begun, input_row, line_entered}
+use Rattle.user_model.specs.Programs.{step_row, entry_row, call_row, file_told, file_read, files_changed, program_row}
+use Rattle.user_model.specs.Session.{user_rows, act_in, line_row}
 use Rattle.user_model.specs.User.{User, step, ending}
 
 -- where an outcome goes on, the size is as it was
@@ -34,6 +40,18 @@ either_way : (b : Bool) (i : Inner) (x y : Outcome Inner) → SizeStays i x → 
 either_way true i x y one other = one
 either_way false i x y one other = other
 
+told_stays : (i : Inner) (told : Result Stat Refusal) → SizeStays i (file_told i told)
+told_stays i (Ok s) = λ e. refl
+told_stays i (Err r) = λ e. refl
+
+read_stays : (i : Inner) (at : ℕ) (told : Result (List ℕ) Refusal) → SizeStays i (file_read i at told)
+read_stays i at (Ok words) = λ e. refl
+read_stays i at (Err r) = λ e. refl
+
+files_stay : (i : Inner) (arguments : ℕ) (told : Result (List FileBody) Refusal) → SizeStays i (files_changed i arguments told)
+files_stay i arguments (Ok files) = λ e. refl
+files_stay i arguments (Err r) = λ e. refl
+
 call_stays : (c : Call) (i : Inner) (l : Option Line) (n t : ℕ) → SizeStays i (call_row c i l n t)
 call_stays (ReadLine at count) i None n t = either_way (is_line_count count) i _ _ (λ e. refl) (λ e. refl)
 call_stays (ReadLine at count) i (Some l) n t = either_way (is_line_count count) i _ _ (λ e. refl) (λ e. refl)
@@ -41,6 +59,12 @@ call_stays (WriteLine at count) i l n t = either_way (is_line_count count) i _ _
 call_stays GetTime i l n t = λ e. refl
 call_stays GetMemory i l n t = λ e. refl
 call_stays (SetMemory blocks) i l n t = either_way (nat_eq blocks 0 || nat_lt i.account.blocks blocks) i _ _ (λ e. refl) (either_way (nat_eq blocks i.blocks) i _ _ (λ e. refl) (λ e. cc))
+call_stays (FileStat name) i l n t = told_stays i (stat name i.files)
+call_stays (ReadFile name at count place) i l n t = read_stays i at (read name place count i.files)
+call_stays (WriteFile name at count place) i l n t = files_stay i 3 (written name place (words_at i.core at count) i.account.tracks i.files)
+call_stays (DeleteFile name) i l n t = files_stay i 1 (deleted name i.files)
+call_stays (RenameFile name to) i l n t = files_stay i 2 (renamed name to i.files)
+call_stays (ChangesMode name mode) i l n t = files_stay i 2 (moded name mode i.files)
 call_stays EndsDead i l n t = λ e. cc
 call_stays EndsDormant i l n t = λ e. cc
 
@@ -64,18 +88,47 @@ load_stays : (name : ℕ) (deck : Result Deck LoadFault) (i : Inner) (n t : ℕ)
 load_stays name (Ok deck) i n t = λ e. cc
 load_stays name (Err fault) i n t = λ e. cc
 
+change_stays : (told : Result (List FileBody) Refusal) (i : Inner) (n t : ℕ) → SizeStays i (changed told i n t)
+change_stays (Ok files) i n t = λ e. cc
+change_stays (Err r) i n t = λ e. cc
+
+made_stays : (name : NamePair) (told : Result (List FileBody) Refusal) (i : Inner) (n t : ℕ) → SizeStays i (input_made name told i n t)
+made_stays name (Ok files) i n t = λ e. cc
+made_stays name (Err r) i n t = λ e. cc
+
+begun_stays : (name : NamePair) (file : Option FileBody) (i : Inner) (n t : ℕ) → SizeStays i (input_begun name file i n t)
+begun_stays name None i n t = made_stays name (put name [] i.account.tracks i.files) i n t
+begun_stays name (Some f) i n t = λ e. cc
+
+entered_stays : (told : Result (List FileBody) Refusal) (i : Inner) (n : ℕ) → SizeStays i (line_entered told i n)
+entered_stays (Ok files) i n = λ e. cc
+entered_stays (Err r) i n = λ e. cc
+
+input_stays : (name : NamePair) (l : Line) (i : Inner) (n : ℕ) → SizeStays i (input_row name l i n)
+input_stays name l i n = either_way (nat_eq (length l) 0) i _ _ (λ e. cc) (entered_stays (appended name (words_of_line 14 l) i.account.tracks i.files) i n)
+
 command_stays : (c : Command) (i : Inner) (n t : ℕ) → SizeStays i (command_row c i n t)
 command_stays Empty i n t = λ e. cc
 command_stays Logout i n t = λ e. cc
 command_stays (LoadGo name) i n t = load_stays name (deck_of i.account.blocks (got (deck_name name) i.files)) i n t
+command_stays Lists i n t = λ e. cc
+command_stays (Print name) i n t = λ e. cc
+command_stays (Rename name to) i n t = change_stays (renamed name to i.files) i n t
+command_stays (Delete name) i n t = change_stays (deleted name i.files) i n t
+command_stays (ChangeMode name mode) i n t = change_stays (moded name mode i.files) i n t
+command_stays (Input name) i n t = begun_stays name (file_named name i.files) i n t
 command_stays BadArguments i n t = λ e. cc
 command_stays Unknown i n t = λ e. cc
 
+line_stays : (input : Option NamePair) (l : Line) (i : Inner) (n t : ℕ) → SizeStays i (line_row input l i n t)
+line_stays None l i n t = command_stays (command_of l) i n t
+line_stays (Some name) l i n t = input_stays name l i n
+
 act_stays : (s : ProgramState) (i : Inner) (l : Option Line) (n t : ℕ) → SizeStays i (act_in s i l n t)
 act_stays Dead i None n t = λ e. refl
-act_stays Dead i (Some l) n t = command_stays (command_of l) i n t
+act_stays Dead i (Some l) n t = line_stays i.input l i n t
 act_stays Dormant i None n t = λ e. refl
-act_stays Dormant i (Some l) n t = command_stays (command_of l) i n t
+act_stays Dormant i (Some l) n t = line_stays i.input l i n t
 act_stays Working i l n t = program_stays i.fill i l n t
 
 pub went_stays : (t : ℕ) (p : User) → ending t p ≡ Went → blocks_of (step t p).inner ≡ blocks_of p.inner

@@ -3,12 +3,13 @@ use Rattle.std.specs.Prelude.{◌≡◌, ℕ, suc, ◌-◌, Bool, true, false, n
 use Rattle.std.specs.declared.result.Result.{Result}
 use Rattle.time_sharing.specs.Machine.{Line, Item, Ending}
 use Rattle.time_sharing.specs.Rows.{Outcome, some_line, is_logout, in_line, out_all, first_line}
-use Rattle.ctss_types.specs.declared.session.Command.{Command}
+use Rattle.ctss_types.specs.Names.{NamePair}
 use Rattle.program_model.specs.declared.Call.{Call}
 use Rattle.program_model.specs.declared.EntryFault.{EntryFault}
 use Rattle.user_model.specs.Inner.{Inner}
 use Rattle.user_model.specs.Programs.{entry_row, is_read, is_clock}
-use Rattle.user_model.specs.Commands.{command_row}
+use Rattle.user_model.specs.declared.Command.{Command}
+use Rattle.user_model.specs.Commands.{command_row, input_row}
 use Rattle.user_model.specs.User.{User, in_core, core_after}
 
 -- how many unread lines are taken
@@ -53,3 +54,7 @@ DidEntry call e asked t old new before after =
 -- a step that did what the row of this command says
 abbrev pub DidCommand : Line → Command → Ending → Bool → ℕ → (old new : User) → (before after : List ℕ) → Type 0
 DidCommand l command e asked t old new before after = IsRow true true (Some l) (command_row command (in_core before old).inner 1 t) true e asked old new after
+
+-- a step that did what the row of a line of INPUT says
+abbrev pub DidInput : Line → NamePair → Ending → Bool → (old new : User) → (before after : List ℕ) → Type 0
+DidInput l name e asked old new before after = IsRow true false (Some l) (input_row name l (in_core before old).inner (suc old.own - old.before)) false e asked old new after

@@ -1,6 +1,7 @@
 -- claim: one user's inner state: all of a user but the unread lines, the transcript and the counts.
 use Rattle.std.specs.Prelude.{ℕ, ◌-◌, ◌*◌, List, [], ◌++◌, length, take, replicate, Option, None}
 use Rattle.ctss_types.specs.declared.script.Account.{Account}
+use Rattle.ctss_types.specs.Names.{NamePair}
 use Rattle.ctss_types.specs.declared.file.FileBody.{FileBody}
 use Rattle.cpu_regs.specs.declared.regs.Regs.{Regs}
 use Rattle.cpu_regs.specs.Registers.{no_registers}
@@ -18,6 +19,8 @@ pub record Inner : Type 0 where
   pub core : List ℕ
   -- what is still to be stored into the core
   pub fill : Option Fill
+  -- the file that lines are typed into
+  pub input : Option NamePair
 
 -- the size of the user's program in blocks; no program is 0
 abbrev pub blocks_of : Inner → ℕ

@@ -1,9 +1,11 @@
 pub mod Inner
 pub mod Texts
 pub mod Programs
+pub mod Requests
 pub mod Commands
 pub mod Session
 pub mod User
 pub mod Steps
 pub mod Answers
 pub mod Runs
+pub mod Rows

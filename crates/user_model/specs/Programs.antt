@@ -1,13 +1,17 @@
 -- claim: the steps of a program that works: what each end of an instruction and each supervisor entry does.
-use Rattle.std.specs.Prelude.{ℕ, ◌*◌, Bool, true, false, if◌then◌else◌, ◌||◌, nat_eq, nat_lt, List, [], ◌∷◌, ◌++◌, length, codes, Option, Some, None, Ok, Err}
+use Rattle.std.specs.Prelude.{ℕ, ◌+◌, ◌*◌, Bool, true, false, if◌then◌else◌, ◌||◌, nat_eq, nat_lt, List, [], ◌∷◌, ◌++◌, length, codes, Option, Some, None, Ok, Err}
 use Rattle.std.specs.declared.result.Result.{Result}
 use Rattle.time_sharing.specs.Machine.{Line, Went, Stopped, Resized}
 use Rattle.time_sharing.specs.Rows.{Outcome}
-use Rattle.file_model.specs.Files.{got}
+use Rattle.ctss_types.specs.declared.file.FileBody.{FileBody}
+use Rattle.ctss_types.specs.declared.file.Refusal.{Refusal}
+use Rattle.file_model.specs.declared.Stat.{Stat}
+use Rattle.file_model.specs.Files.{stat, read, got, written, renamed, deleted, moded}
+use Rattle.file_model.specs.Texts.{refusal_number}
 use Rattle.machine_model.specs.Step.{Step, went, halt, entry, illegal, outside}
 use Rattle.machine_model.specs.Machine.{table}
 use Rattle.program_model.specs.declared.Call.{Call}
-use Rattle.program_model.specs.declared.Call.TheVariants.{ReadLine, WriteLine, GetTime, GetMemory, SetMemory, Dead, Dormant}
+use Rattle.program_model.specs.declared.Call.TheVariants.{ReadLine, WriteLine, GetTime, GetMemory, SetMemory, FileStat, ReadFile, WriteFile, DeleteFile, RenameFile, ChangeMode, Dead, Dormant}
 use Rattle.program_model.specs.declared.EntryFault.{EntryFault}
 use Rattle.program_model.specs.declared.EntryFault.TheVariants.{NoSuchEntry, Outside}
 use Rattle.program_model.specs.declared.ProgramState.TheVariants as program
@@ -47,6 +51,25 @@ set_memory i blocks =
     else (if nat_eq blocks i.blocks then goes (replied i 1 0 None)
     else record { inner = record (replied i 1 0 None) { blocks = blocks; core = recut blocks i.core }; written = []; front = []; ending = Resized })
 
+-- an answer that is a refusal
+abbrev pub refused : Inner → ℕ → Refusal → Outcome Inner
+refused i arguments r = goes (replied i arguments (refusal_number r) None)
+
+-- 4 times a file's words, and its mode
+abbrev pub file_told : Inner → Result Stat Refusal → Outcome Inner
+file_told i (Ok s) = goes (replied i 1 0 (Some (4 * s.words + s.mode)))
+file_told i (Err r) = refused i 1 r
+
+-- words of a file are read into a buffer
+abbrev pub file_read : Inner → ℕ → Result (List ℕ) Refusal → Outcome Inner
+file_read i at (Ok words) = goes (record (replied i 3 0 None) { core = with_words i.core at words })
+file_read i at (Err r) = refused i 3 r
+
+-- a change of the directory, by a call with so many arguments
+abbrev pub files_changed : Inner → ℕ → Result (List FileBody) Refusal → Outcome Inner
+files_changed i arguments (Ok files) = goes (record (replied i arguments 0 None) { files = files })
+files_changed i arguments (Err r) = refused i arguments r
+
 -- the row of an entry, with the line that it takes, n own steps since the command, and the clock at t
 abbrev pub call_row : Call → Inner → Option Line → ℕ → ℕ → Outcome Inner
 call_row (ReadLine at count) i l n t = if is_line_count count then read_line i at count l else goes (replied i 1 7 None)
@@ -54,6 +77,12 @@ call_row (WriteLine at count) i l n t = if is_line_count count then write_line i
 call_row GetTime i l n t = goes (replied i 0 0 (Some t))
 call_row GetMemory i l n t = goes (replied i 0 0 (Some (256 * i.blocks)))
 call_row (SetMemory blocks) i l n t = set_memory i blocks
+call_row (FileStat name) i l n t = file_told i (stat name i.files)
+call_row (ReadFile name at count place) i l n t = file_read i at (read name place count i.files)
+call_row (WriteFile name at count place) i l n t = files_changed i 3 (written name place (words_at i.core at count) i.account.tracks i.files)
+call_row (DeleteFile name) i l n t = files_changed i 1 (deleted name i.files)
+call_row (RenameFile name to) i l n t = files_changed i 2 (renamed name to i.files)
+call_row (ChangeMode name mode) i l n t = files_changed i 2 (moded name mode i.files)
 call_row Dead i l n t = record { inner = without_program i; written = ready_text n ∷ []; front = []; ending = Stopped }
 call_row Dormant i l n t = stops [] (replied i 0 0 None) n
 

@@ -1,15 +1,15 @@
 -- proof: many instructions of a program.
-use Rattle.std.specs.Prelude.{◌≡◌, ℕ, ◌+◌, ◌<◌, true, false, List, None}
+use Rattle.std.specs.Prelude.{◌≡◌, ℕ, ◌+◌, ◌<◌, true, List, None}
 use Rattle.cpu_regs.specs.declared.regs.Regs.{Regs}
 use Rattle.machine_model.specs.Step.{went}
 use Rattle.machine_model.specs.Runs.{many}
-use Rattle.user_model.specs.Session.{is_command_in}
+use Rattle.user_model.specs.Session.{works_in}
 use Rattle.user_model.specs.User.{User}
 
 -- a program works, and nothing is still to be stored
 pub record IsAtWork (p : User) : Type 0 where
   pub on : p.on ≡ true
-  pub works : is_command_in p.inner.state ≡ false
+  pub works : works_in p.inner.state ≡ true
   pub filled : p.inner.fill ≡ None
   pub given : p.given ≡ 0
 

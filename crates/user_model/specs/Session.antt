@@ -1,5 +1,6 @@
 -- claim: the rows of a user: what the machine made of rows is made of.
-use Rattle.std.specs.Prelude.{ℕ, Bool, true, false, List, [], ◌∷◌, Option, Some, None, codes}
+use Rattle.std.specs.Prelude.{ℕ, Bool, true, false, not, ◌&&◌, List, [], ◌∷◌, Option, Some, None, codes}
+use Rattle.ctss_types.specs.Names.{NamePair}
 use Rattle.ctss_types.specs.declared.script.Account.{Account}
 use Rattle.ctss_types.specs.declared.file.FileBody.{FileBody}
 use Rattle.time_sharing.specs.Machine.{Line, CutKind, Quit, Hang, Spent, End}
@@ -10,18 +11,23 @@ use Rattle.program_model.specs.declared.ProgramState.{ProgramState}
 use Rattle.program_model.specs.declared.ProgramState.TheVariants.{Dead, Dormant, Working}
 use Rattle.user_model.specs.Inner.{Inner, without_program}
 use Rattle.user_model.specs.Texts.{logged_in_text, ready_text}
-use Rattle.user_model.specs.Commands.{command_of, command_row}
+use Rattle.user_model.specs.Requests.{command_of}
+use Rattle.user_model.specs.Commands.{command_row, input_row}
 use Rattle.user_model.specs.Programs.{goes, program_row, program_reads, program_asks}
 
--- without a program that works each step is a command, and takes a line
-abbrev pub command_step : Inner → Option Line → ℕ → ℕ → Outcome Inner
-command_step i None n t = goes i
-command_step i (Some l) n t = command_row (command_of l) i n t
+-- without a program that works each step takes a line: of INPUT, or a command
+abbrev pub line_row : Option NamePair → Line → Inner → ℕ → ℕ → Outcome Inner
+line_row None l i n t = command_row (command_of l) i n t
+line_row (Some name) l i n t = input_row name l i n
+
+abbrev pub line_step : Inner → Option Line → ℕ → ℕ → Outcome Inner
+line_step i None n t = goes i
+line_step i (Some l) n t = line_row i.input l i n t
 
 -- a step with the line that it takes
 abbrev pub act_in : ProgramState → Inner → Option Line → ℕ → ℕ → Outcome Inner
-act_in Dead i l n t = command_step i l n t
-act_in Dormant i l n t = command_step i l n t
+act_in Dead i l n t = line_step i l n t
+act_in Dormant i l n t = line_step i l n t
 act_in Working i l n t = program_row i.fill i l n t
 
 abbrev pub takes_line_in : ProgramState → Inner → Bool
@@ -29,18 +35,28 @@ takes_line_in Dead i = true
 takes_line_in Dormant i = true
 takes_line_in Working i = program_reads i.fill i
 
-abbrev pub is_command_in : ProgramState → Bool
-is_command_in Dead = true
-is_command_in Dormant = true
-is_command_in Working = false
+-- whether a program works
+abbrev pub works_in : ProgramState → Bool
+works_in Dead = false
+works_in Dormant = false
+works_in Working = true
+
+abbrev pub is_none : {A : Type 0} → Option A → Bool
+is_none None = true
+is_none (Some a) = false
+
+-- a command counts own steps anew: not so a line of INPUT
+abbrev pub counts_anew : Inner → Bool
+counts_anew i = not (works_in i.state) && is_none i.input
 
 abbrev pub some_text : Option Line → Bool
 some_text None = false
 some_text (Some l) = true
 
+-- a command asks for the clock, which it prints: not so a line of INPUT
 abbrev pub asks_clock_in : ProgramState → Inner → Option Line → Bool
-asks_clock_in Dead i l = some_text l
-asks_clock_in Dormant i l = some_text l
+asks_clock_in Dead i l = is_none i.input && some_text l
+asks_clock_in Dormant i l = is_none i.input && some_text l
 asks_clock_in Working i l = program_asks i.fill i
 
 -- a quit stops a program that works
@@ -55,18 +71,18 @@ quit_text Dead n = codes "QUIT," ∷ []
 quit_text Dormant n = codes "QUIT," ∷ []
 quit_text Working n = codes "QUIT," ∷ ready_text n ∷ []
 
--- what a cut does to the inner state: with the session its program and its files of mode 0 go
+-- what a cut does to the inner state: INPUT is over, and with the session its program and its files of mode 0 go
 abbrev pub inner_cut : CutKind → Inner → Inner
-inner_cut Quit i = record i { state = quitted i.state; fill = None }
-inner_cut Hang i = without_program (record i { files = lasting i.files })
-inner_cut Spent i = without_program (record i { files = lasting i.files })
+inner_cut Quit i = record i { state = quitted i.state; fill = None; input = None }
+inner_cut Hang i = without_program (record i { files = lasting i.files; input = None })
+inner_cut Spent i = without_program (record i { files = lasting i.files; input = None })
 inner_cut End i = i
 
 abbrev pub user_rows : Rows Inner
 user_rows =
     record {
       takes_line = λ i. takes_line_in i.state i;
-      is_command = λ i. is_command_in i.state;
+      is_command = counts_anew;
       asks_clock = λ i l. asks_clock_in i.state i l;
       asks_common = λ i l. None;
       act = λ i l n k t r. act_in i.state i l n t;
@@ -80,7 +96,7 @@ user_rows =
 abbrev pub first_state : Account → List FileBody → Private Inner
 first_state account files =
     record {
-      inner = record { account = account; files = files; state = Dead; regs = no_registers; blocks = 0; core = []; fill = None };
+      inner = record { account = account; files = files; state = Dead; regs = no_registers; blocks = 0; core = []; fill = None; input = None };
       on = false;
       unread = [];
       lines = 0;

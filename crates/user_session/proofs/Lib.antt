@@ -1,3 +1,4 @@
 pub mod Enters
+pub mod Files
 pub mod Texts
 pub mod Turns

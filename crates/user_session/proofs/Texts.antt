@@ -1,24 +1,9 @@
 -- Texts of numbers are of the 48 characters.
-use Rattle.std.proofs.Common.{◌≡◌, ◌<◌, ◌%◌, ◌+◌, ◌/◌, ℕ, zero, suc, true, [], ◌∷◌, refl, ◌∙◌, arith, ◌^◌}
+use Rattle.std.proofs.Common.{◌≡◌, ◌%◌, ◌+◌, ◌/◌, ℕ, true, [], ◌∷◌, refl, arith}
 use Rattle.std.specs.List.{list_all}
-use Rattle.std.specs.Fmt.{decimal}
-use Rattle.std.proofs.lemmas.Fmt.{decimal_by_steps}
-use Rattle.std.proofs.lemmas.List.Folds.{list_all-append}
 use Rattle.bcd48.specs.Characters.{is_character}
 use Rattle.user_model.specs.Texts.{digit, time_text}
-
-below_ten : (n : ℕ) → n < 10 → is_character (48 + n) ≡ true
-below_ten zero h = refl
-below_ten (suc zero) h = refl
-below_ten (suc (suc zero)) h = refl
-below_ten (suc (suc (suc zero))) h = refl
-below_ten (suc (suc (suc (suc zero)))) h = refl
-below_ten (suc (suc (suc (suc (suc zero))))) h = refl
-below_ten (suc (suc (suc (suc (suc (suc zero)))))) h = refl
-below_ten (suc (suc (suc (suc (suc (suc (suc zero))))))) h = refl
-below_ten (suc (suc (suc (suc (suc (suc (suc (suc zero)))))))) h = refl
-below_ten (suc (suc (suc (suc (suc (suc (suc (suc (suc zero))))))))) h = refl
-below_ten (suc (suc (suc (suc (suc (suc (suc (suc (suc (suc n)))))))))) h = absurd (omega arith)
+use Rattle.cmd_files.proofs.Decimals.{below_ten}
 
 digit_is : (n : ℕ) → is_character (digit n) ≡ true
 digit_is n = below_ten (n % 10) (omega arith)
@@ -27,11 +12,6 @@ pub time_is_line : (t : ℕ) → list_all is_character (time_text t) ≡ true
 unfolding time_text
 time_is_line t =
     rw (digit_is (t / 600000 % 24 / 10), digit_is (t / 600000 % 24), digit_is (t / 10000 % 60 / 10), digit_is (t / 10000 % 60), digit_is (t / 1000)) refl
-
-pub decimal_is : (n : ℕ) → n < 2 ^ 64 → list_all is_character (decimal n) ≡ true
-decimal_is n h =
-    decimal_by_steps (λ n ds. list_all is_character ds ≡ true) (λ n k. rw (below_ten n k) refl)
-    (λ n ds k rest. list_all-append is_character ds ((48 + n % 10) ∷ []) ∙ rw (rest, digit_is n) refl) n h
 
 octal_digit : (n : ℕ) → is_character (48 + n % 8) ≡ true
 octal_digit n = below_ten (n % 8) (omega arith)

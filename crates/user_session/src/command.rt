@@ -1,28 +1,30 @@
-//! Steps of a user without a program that works: the command of the first unread line.
+//! Steps of a user without a program that works: the first unread line as a command, or in INPUT.
 ghost use Rattle.std.specs.Prelude.{◌≡◌, ◌<◌, ◌≤◌, ◌+◌, ◌-◌, ◌*◌, ◌^◌, ◌++◌, ◌∷◌, [], suc, true, false, Some, None, length, drop, option_to_list, slice_get, IfOk, OnOk, OnErr};
 ghost use Rattle.std.specs.List.{list_all};
 ghost use Rattle.bcd48.specs.Characters.{is_character};
 ghost use Rattle.cpu_regs.specs.Registers.{no_registers};
-ghost use Rattle.ctss_types.specs.declared.session.Command.{Command};
+ghost use Rattle.user_model.specs.declared.Command.{Command};
 ghost use Rattle.file_model.specs.Files.{got, lasting};
 ghost use Rattle.program_model.specs.Decks.{deck_of, deck_name};
 ghost use Rattle.program_model.specs.declared.ProgramState.TheVariants.{Dead, Working};
 ghost use Rattle.time_sharing.specs.Machine.{In, Out};
 ghost use Rattle.time_sharing.specs.Rows.{out_all};
-ghost use Rattle.user_model.specs.Commands.{command_of};
-ghost use Rattle.user_model.specs.Session.{is_command_in};
+ghost use Rattle.user_model.specs.Session.{works_in};
 ghost use Rattle.user_model.specs.Texts.{time_text, ready_text, logged_out_text};
 ghost use Rattle.user_model.specs.Answers.{DidCommand};
 ghost use Rattle.user_session.specs.Turns.{IsTurn};
 
+use crate::file_command::note_command;
 use crate::session::{Session, note};
-use crate::text::{command_of, load_text, logged_out_text, ready_text, time_text};
+use crate::text::{load_text, logged_out_text, time_text};
 use crate::{Step, Turn};
 use cmd_program::{PrepareFault, prepare};
+use command_table::command_of;
 use cpu_regs::{MemoryPort, Regs};
-use ctss_types::{Command, Ending, FileName, Item, LineText, NoMemory, name_word};
+use ctss_types::{Ending, FileName, Item, LineText, NoMemory, name_word};
 use file_map::FilePort;
 use program_model::{Deck, Fill, LoadFault, ProgramState};
+use user_model::Command;
 use word36::Word;
 
 /// The file that a program of this name is loaded from.
@@ -46,15 +48,8 @@ impl Session {
         ensures err { OnErr result (self.new ≡ self.old) }
     {
         self.items.reserve(4)?;
-        let _ = self.lines.take();
-        self.before = self.own;
-        self.own += 1;
-        note(&mut self.items, Item::In(line));
-        note(&mut self.items, Item::Out(time_text(now)));
-        if let Some(text) = text {
-            note(&mut self.items, Item::Out(text));
-        }
-        note(&mut self.items, Item::Out(ready_text(1)));
+        note_command(&mut self.items, line, text, now);
+        self.take_command();
         Ok(())
     }
 
@@ -96,7 +91,7 @@ impl Session {
             &mut self.items,
             Item::Out(logged_out_text(self.account.name)),
         );
-        let _ = self.files.drop_temporary();
+        self.files.drop_temporary();
         self.on = false;
         self.lines.drop_all();
         self.state = ProgramState::Dead;
@@ -215,6 +210,12 @@ impl Session {
             }
             Command::Logout => self.log_out(core, line, now),
             Command::LoadGo(name) => self.load(core, line, name, now),
+            Command::List => self.list_files(core, line, now),
+            Command::Print(name) => self.print_file(core, line, name, now),
+            Command::Rename { name, to } => self.rename(core, line, name, to, now),
+            Command::Delete(name) => self.delete(core, line, name, now),
+            Command::ChangeMode { name, mode } => self.chmode(core, line, name, mode, now),
+            Command::Input(name) => self.begin_input(core, line, name, now),
             Command::BadArguments => {
                 self.say_why(line, b"BAD ARGUMENTS", now)?;
                 Ok(Step {
@@ -232,11 +233,11 @@ impl Session {
         }
     }
 
-    /// The command of the first unread line.
+    /// The first unread line: of INPUT, or a command.
     #[tactic(auto, using(user_model::proofs::RowTurns::command_waits))]
-    pub(crate) fn command<M: MemoryPort>(&mut self, core: &M, now: u64) -> Result<Turn, NoMemory>
+    pub(crate) fn take_line<M: MemoryPort>(&mut self, core: &M, now: u64) -> Result<Turn, NoMemory>
         requires on { self.old.on ≡ true }
-        requires command { is_command_in self.old.inner.state ≡ true }
+        requires works { works_in self.old.inner.state ≡ false }
         requires size { length (M.words core.now) ≡ 256 * self.old.inner.blocks }
         requires fits { self.old.own < 2 ^ 64 - 1 }
         ensures turn { IfOk result (λ turn. IsTurn turn now self.old self.new (M.words core.now) (M.words core.now)) }
@@ -247,7 +248,10 @@ impl Session {
         let Some(line) = self.first_line() else {
             return Ok(Turn::Waits);
         };
-        let done = self.obey(core, line, command_of(&line), now)?;
+        let done = match self.input {
+            Some(name) => self.type_line(core, line, name, now)?,
+            None => self.obey(core, line, command_of(&line), now)?,
+        };
         Ok(Turn::Done(done))
     }
 }

@@ -11,7 +11,7 @@ ghost use Rattle.program_model.specs.Lines.{line_of_words, words_of_line, words_
 ghost use Rattle.program_model.specs.declared.ProgramState.TheVariants as program;
 ghost use Rattle.time_sharing.specs.Machine.{In, Out};
 ghost use Rattle.tia_entry.specs.Buffers.{HasBuffer};
-ghost use Rattle.user_model.specs.Session.{is_command_in};
+ghost use Rattle.user_model.specs.Session.{works_in};
 ghost use Rattle.user_model.specs.Texts.{ready_text, stop_text};
 ghost use Rattle.user_session.specs.Turns.{IsTurn, Enters};
 
@@ -99,7 +99,7 @@ impl Session {
     }
 
     /// An answer to a call with so many arguments, and the program goes on.
-    fn reply(&mut self, arguments: u8, reply: u8, value: Option<u64>)
+    pub(crate) fn reply(&mut self, arguments: u8, reply: u8, value: Option<u64>)
         requires arguments { arguments ≤ 3 }
         requires reply { reply ≤ 7 }
         requires value { IfSome value (λ v. v < 2 ^ 35) }
@@ -330,6 +330,22 @@ impl Session {
             Call::GetTime => Ok(self.tell_time(core, now)),
             Call::GetMemory => Ok(self.tell_memory(core, now)),
             Call::SetMemory { blocks } => Ok(self.set_memory(core, blocks, now)),
+            Call::FileStat { name } => Ok(self.tell_file(core, name, now)),
+            Call::ReadFile {
+                name,
+                at,
+                count,
+                place,
+            } => self.read_file(core, name, at, count, place, now),
+            Call::WriteFile {
+                name,
+                at,
+                count,
+                place,
+            } => self.write_file(core, name, at, count, place, now),
+            Call::DeleteFile { name } => self.delete_file(core, name, now),
+            Call::RenameFile { name, to } => self.rename_file(core, name, to, now),
+            Call::ChangeMode { name, mode } => self.change_mode(core, name, mode, now),
             Call::Dead => self.end_dead(core, now),
             Call::Dormant => self.end_dormant(core, now),
         }
@@ -344,7 +360,7 @@ impl Session {
         now: u64,
     ) -> Result<Turn, NoMemory>
         requires on { self.old.on ≡ true }
-        requires works { is_command_in self.old.inner.state ≡ false }
+        requires works { works_in self.old.inner.state ≡ true }
         requires filled { self.old.inner.fill ≡ None }
         requires at { table self.old.inner.regs (M.words core.old) ≡ entry name }
         requires size { length (M.words core.old) ≡ 256 * self.old.inner.blocks }

@@ -6,6 +6,9 @@
 
 mod command;
 mod entry;
+mod file_command;
+mod file_entry;
+mod input;
 mod program;
 mod session;
 mod text;

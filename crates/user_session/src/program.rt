@@ -3,12 +3,12 @@ ghost use Rattle.std.specs.Prelude.{◌≡◌, ◌<◌, ◌≤◌, ◌+◌, ◌-
 ghost use Rattle.file_model.specs.Files.{got};
 ghost use Rattle.program_model.specs.Decks.{words_got, filled};
 ghost use Rattle.program_model.specs.declared.Fill.{Fill};
-ghost use Rattle.user_model.specs.Session.{is_command_in};
+ghost use Rattle.user_model.specs.Session.{works_in};
 ghost use Rattle.user_model.specs.Runs.{HaveGone, IsAtWork};
 ghost use Rattle.user_session.specs.Turns.{IsTurn};
 
 use crate::entry::note_stop;
-use crate::session::{Session, is_command_in};
+use crate::session::{Session, works_in};
 use crate::{Step, Turn};
 use cmd_program::fill;
 use cpu_regs::MemoryPort;
@@ -31,12 +31,14 @@ impl Session {
         ensures err_core { OnErr result (M.words core.new ≡ M.words core.old) }
         ensures keeps { M.Keeps core.old core.new }
     {
-        if fill(&deck, &mut self.regs, core, &mut self.files).is_err() {
-            return Err(NoMemory);
+        match fill(&deck, &mut self.regs, core, &mut self.files) {
+            Ok(()) => {
+                self.fill = None;
+                self.own += 1;
+                Ok(())
+            }
+            Err(_) => Err(NoMemory),
         }
-        self.fill = None;
-        self.own += 1;
-        Ok(())
     }
 
     /// A program that has its core is filled with its deck's words.
@@ -47,7 +49,7 @@ impl Session {
         now: u64,
     ) -> Result<Turn, NoMemory>
         requires on { self.old.on ≡ true }
-        requires works { is_command_in self.old.inner.state ≡ false }
+        requires works { works_in self.old.inner.state ≡ true }
         requires waits { self.old.inner.fill ≡ Some deck }
         requires start { deck.start < 2 ^ 15 }
         requires size { length (M.words core.old) ≡ 256 * self.old.inner.blocks }
@@ -68,7 +70,7 @@ impl Session {
     /// The next instruction of a program.
     fn run<M: MemoryPort>(&mut self, core: &mut M, now: u64) -> Result<Turn, NoMemory>
         requires on { self.old.on ≡ true }
-        requires works { is_command_in self.old.inner.state ≡ false }
+        requires works { works_in self.old.inner.state ≡ true }
         requires filled { self.old.inner.fill ≡ None }
         requires size { length (M.words core.old) ≡ 256 * self.old.inner.blocks }
         requires fits { self.old.own < 2 ^ 64 - 1 }
@@ -122,7 +124,7 @@ impl Session {
     fn is_at_work(&self) -> bool
         ensures { result ≡ true → IsAtWork self.now }
     {
-        self.on && !is_command_in(self.state) && self.fill.is_none()
+        self.on && works_in(self.state) && self.fill.is_none()
     }
 
     /// Does as many instructions of a program that works as go on, at most so many, and says how many steps they were.
@@ -141,7 +143,7 @@ impl Session {
         done
     }
 
-    /// A step at a tick, if one can be done: the command of the first unread line, or the next step of a program.
+    /// A step at a tick, if one can be done: the first unread line as a command or in INPUT, or the next step of a program.
     ///
     /// The port is to the words of the user's program. Where a step gives the program another size or another program,
     /// `blocks` is the new size, and the caller cuts, extends or clears the words.
@@ -158,8 +160,8 @@ impl Session {
         if !self.is_open() {
             return Ok(Turn::Waits);
         }
-        if self.takes_commands() {
-            return self.command(core, now);
+        if !self.works() {
+            return self.take_line(core, now);
         }
         match self.fill {
             Some(deck) => self.fill_core(core, deck, now),

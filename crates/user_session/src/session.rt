@@ -1,7 +1,9 @@
 ghost use Rattle.std.specs.Prelude.{◌≡◌, ◌<◌, ◌≤◌, ◌+◌, ◌-◌, ◌^◌, ◌++◌, ◌∷◌, ◌↔◌, [], ℕ, true, false, OnOk, OnErr, IfOk, vec_len, vec_capacity, slice_get};
 ghost use Rattle.file_model.specs.Files.{tracks_of};
 ghost use Rattle.file_map.specs.Directory.{NamesDiffer};
-ghost use Rattle.user_model.specs.Session.{first_state, is_command_in};
+ghost use Rattle.std.specs.List.{All};
+ghost use Rattle.ctss_types.specs.declared.file.FileBody.{FileBody};
+ghost use Rattle.user_model.specs.Session.{first_state, works_in};
 ghost use Rattle.user_model.specs.Inner.{blocks_of};
 ghost use Rattle.user_model.specs.User.{typed, opened, cut};
 ghost use Rattle.time_sharing.specs.Machine.{Quit, Hang, Spent};
@@ -9,7 +11,9 @@ ghost use Rattle.time_sharing.specs.Rows.{some_line};
 
 use crate::text::{logged_in_text, ready_text};
 use cpu_regs::Regs;
-use ctss_types::{Account, FileBody, FileList, Item, Items, LineText, NoMemory, Sequence};
+use ctss_types::{
+    Account, FileBody, FileList, FileName, Item, Items, LineText, NoMemory, Sequence,
+};
 use file_map::{FilePort, Files};
 use line_buffer::{Lines, Put};
 use program_model::{Fill, ProgramState};
@@ -33,6 +37,7 @@ pub struct Session {
     pub(crate) regs: Regs,
     pub(crate) blocks: u8,
     pub(crate) fill: Option<Fill>,
+    pub(crate) input: Option<FileName>,
 }
 
 impl Model for Session {
@@ -51,6 +56,7 @@ impl Model for Session {
         blocks = s.blocks;
         core = [];
         fill = s.fill;
+        input = s.input;
       };
       on = s.on;
       unread = s.lines.lines;
@@ -62,7 +68,7 @@ impl Model for Session {
     } };
 
     ghost invariant = { λ s. (s.before ≤ s.own) × (s.regs.ic < 2 ^ 15) × (s.blocks ≤ s.account.blocks)
-        × (s.account.blocks ≤ 128) × IfSome s.fill (λ f. f.start < 2 ^ 15) };
+        × (s.account.blocks ≤ 128) × IfSome s.fill (λ f. f.start < 2 ^ 15) × (s.files.quota ≡ s.account.tracks) };
 }
 
 /// An item more, where there is room.
@@ -75,13 +81,13 @@ pub(crate) fn note(items: &mut Vec<Item>, item: Item)
     let _ = items.push(item);
 }
 
-/// Whether a user's next step is a command.
-pub(crate) fn is_command_in(state: ProgramState) -> bool
-    ensures { result ≡ is_command_in state }
+/// Whether a program works.
+pub(crate) fn works_in(state: ProgramState) -> bool
+    ensures { result ≡ works_in state }
 {
     match state {
-        ProgramState::Working => false,
-        ProgramState::Dead | ProgramState::Dormant => true,
+        ProgramState::Working => true,
+        ProgramState::Dead | ProgramState::Dormant => false,
     }
 }
 
@@ -90,6 +96,7 @@ impl Session {
     pub fn new(alloc: Global, account: &Account, files: &[FileBody]) -> Result<Session, NoMemory>
         requires blocks { account.now.blocks ≤ 128 }
         requires names { NamesDiffer files.now }
+        requires modes { All (λ (f : FileBody). f.mode ≤ 3) files.now }
         requires tracks { tracks_of files.now ≤ account.now.tracks }
         ensures { IfOk result (λ s. s ≡ first_state account.now files.now) }
     {
@@ -107,6 +114,7 @@ impl Session {
             regs: Regs::new(),
             blocks: 0,
             fill: None,
+            input: None,
         })
     }
 
@@ -124,11 +132,11 @@ impl Session {
         self.on
     }
 
-    /// Whether the next step is a command.
-    pub fn takes_commands(&self) -> bool
-        ensures { result ≡ is_command_in self.now.inner.state }
+    /// Whether a program works, or waits for a line.
+    pub fn works(&self) -> bool
+        ensures { result ≡ works_in self.now.inner.state }
     {
-        is_command_in(self.state)
+        works_in(self.state)
     }
 
     /// The size of the user's program in blocks.
@@ -203,7 +211,7 @@ impl Session {
         Ok(())
     }
 
-    /// A quit: the unread lines go, and a program that works stops.
+    /// A quit: the unread lines go, INPUT is over, and a program that works stops.
     #[tactic(auto, unfolding(user_model::specs::User::cut))]
     pub fn quit(&mut self) -> Result<(), NoMemory>
         ensures ok { OnOk result (self.new ≡ cut Quit self.old) }
@@ -219,6 +227,7 @@ impl Session {
         }
         self.lines.drop_all();
         self.fill = None;
+        self.input = None;
         Ok(())
     }
 
@@ -230,13 +239,14 @@ impl Session {
     {
         self.items.reserve(1)?;
         note(&mut self.items, Item::Hang);
-        let _ = self.files.drop_temporary();
+        self.files.drop_temporary();
         self.on = false;
         self.lines.drop_all();
         self.state = ProgramState::Dead;
         self.regs = Regs::new();
         self.blocks = 0;
         self.fill = None;
+        self.input = None;
         Ok(())
     }
 

@@ -4,10 +4,9 @@ ghost use Rattle.std.specs.List.{list_all};
 ghost use Rattle.std.specs.Prelude.{true};
 ghost use Rattle.bcd48.specs.Characters.{is_character};
 ghost use Rattle.user_model.specs.Texts.{digit, time_text, ready_text, logged_in_text, logged_out_text, stop_text};
-ghost use Rattle.user_model.specs.Commands.{command_of, alone, with_name, load_text};
-ghost use Rattle.ctss_types.specs.Words.{words_of};
+ghost use Rattle.user_model.specs.Commands.{load_text};
 
-use ctss_types::{Command, LineText, first_word, name_text, name_word};
+use ctss_types::{LineText, name_text};
 use itoa::Buffer;
 use program_model::LoadFault;
 use word36::Word;
@@ -37,7 +36,7 @@ pub fn time_text(t: u64) -> LineText
 }
 
 /// `R n` for a number of own steps.
-#[tactic(auto, using(crate::proofs::Texts::decimal_is), unfolding(user_model::specs::Texts::ready_text))]
+#[tactic(auto, using(cmd_files::proofs::Decimals::decimal_is), unfolding(user_model::specs::Texts::ready_text))]
 pub fn ready_text(n: u64) -> LineText
     ensures { result ≡ ready_text n }
 {
@@ -92,50 +91,5 @@ pub fn load_text(fault: LoadFault) -> LineText
         LoadFault::NoFile => LineText::of(b"FILE NOT FOUND"),
         LoadFault::BadDeck => LineText::of(b"BAD DECK"),
         LoadFault::TooLarge => LineText::of(b"TOO LARGE"),
-    }
-}
-
-/// What a line asks for.
-#[tactic(auto, unfolding(user_model::specs::Commands::command_of))]
-pub fn command_of(line: &LineText) -> Command
-    ensures { result ≡ command_of line.now }
-{
-    let (first, rest) = first_word(line.as_slice());
-    if first.is_empty() {
-        Command::Empty
-    } else if first == b"LOGOUT".as_slice() {
-        alone(Command::Logout, rest)
-    } else if first == b"LOADGO".as_slice() {
-        load_go(rest)
-    } else {
-        Command::Unknown
-    }
-}
-
-/// A command that takes no words behind its name.
-fn alone(command: Command, rest: &[u8]) -> Command
-    ensures { result ≡ alone command (words_of rest.now) }
-{
-    let (word, _) = first_word(rest);
-    if word.is_empty() {
-        command
-    } else {
-        Command::BadArguments
-    }
-}
-
-/// LOADGO with just one name of at most six characters behind it.
-fn load_go(rest: &[u8]) -> Command
-    ensures { result ≡ with_name (λ name. Command.LoadGo name) (words_of rest.now) }
-{
-    let (word, rest) = first_word(rest);
-    if word.is_empty() || word.len() > 6 {
-        return Command::BadArguments;
-    }
-    let (more, _) = first_word(rest);
-    if more.is_empty() {
-        Command::LoadGo(name_word(word))
-    } else {
-        Command::BadArguments
     }
 }

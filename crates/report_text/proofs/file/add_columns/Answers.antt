@@ -1,6 +1,6 @@
 use Rattle.std.proofs.Common.{string_bytes}
 use Rattle.std.specs.Fmt.{decimal}
-use Rattle.text_model.specs.Parts.{right}
+use Rattle.file_model.specs.Texts.{right}
 use Rattle.report_text.proofs.Right.{columns}
 use Rattle.report_text.proofs.file.add_columns.Goals as goal
 

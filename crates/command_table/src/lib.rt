@@ -1,0 +1,157 @@
+//! The table of commands: what a line asks for. The definition is `Requests` of user_model.
+#![tactic(auto)]
+
+ghost use Rattle.std.specs.Prelude.{◌≡◌, ◌∷◌, [], length, drop, nat_eq, MatchOption, None, Some};
+ghost use Rattle.std.specs.Option.{unwrap_or};
+ghost use Rattle.ctss_types.specs.Words.{words_of};
+ghost use Rattle.user_model.specs.Requests.{word_name, file_in, digit_in, alone, rename_of, chmode_of, command_by, command_of};
+ghost use Rattle.command_table.specs.Words.{file_first, one_name, one_file};
+
+use ctss_types::{FileName, LineText, first_word, name_word};
+use user_model::Command;
+use word36::Word;
+
+/// A word of at most six characters as a name.
+pub fn word_name(word: &[u8]) -> Option<Word>
+    ensures { result ≡ word_name word.now }
+{
+    if word.len() > 6 {
+        return None;
+    }
+    Some(name_word(word))
+}
+
+/// What a line asks for.
+#[tactic(auto, unfolding(user_model::specs::Requests::command_of))]
+pub fn command_of(line: &LineText) -> Command
+    ensures { result ≡ command_of line.now }
+{
+    match next_word(line.as_slice()) {
+        Some((name, rest)) => command_by(name, rest).unwrap_or(Command::BadArguments),
+        None => Command::Empty,
+    }
+}
+
+/// What the words behind a command's name ask for, where the command takes them.
+#[tactic(auto, using(crate::proofs::Words::taken))]
+fn command_by(name: &[u8], rest: &[u8]) -> Option<Command>
+    ensures { unwrap_or result Command.BadArguments ≡ command_by name.now (words_of rest.now) }
+{
+    if name == b"LOGOUT".as_slice() {
+        alone(Command::Logout, rest)
+    } else if name == b"LOADGO".as_slice() {
+        one_name(rest).map(Command::LoadGo)
+    } else if name == b"LISTF".as_slice() {
+        alone(Command::List, rest)
+    } else if name == b"PRINTF".as_slice() {
+        one_file(rest).map(Command::Print)
+    } else if name == b"RENAME".as_slice() {
+        rename(rest)
+    } else if name == b"DELETE".as_slice() {
+        one_file(rest).map(Command::Delete)
+    } else if name == b"CHMODE".as_slice() {
+        change_mode(rest)
+    } else if name == b"INPUT".as_slice() {
+        one_file(rest).map(Command::Input)
+    } else {
+        Some(Command::Unknown)
+    }
+}
+
+/// A command that takes no words behind its name.
+fn alone(command: Command, rest: &[u8]) -> Option<Command>
+    ensures { unwrap_or result Command.BadArguments ≡ alone command (words_of rest.now) }
+{
+    if is_over(rest) { Some(command) } else { None }
+}
+
+/// The only word of a text, as a name.
+fn one_name(text: &[u8]) -> Option<Word>
+    ensures { result ≡ one_name (words_of text.now) }
+{
+    let (word, rest) = next_word(text)?;
+    if is_over(rest) { word_name(word) } else { None }
+}
+
+/// The only two words of a text, as a file's names.
+fn one_file(text: &[u8]) -> Option<FileName>
+    ensures { result ≡ one_file (words_of text.now) }
+{
+    let Some((name, rest)) = next_file(text) else {
+        return None;
+    };
+    if is_over(rest) { Some(name) } else { None }
+}
+
+/// RENAME, with a file's names and its new names behind it.
+fn rename(rest: &[u8]) -> Option<Command>
+    ensures { unwrap_or result Command.BadArguments ≡ rename_of (words_of rest.now) }
+{
+    let Some((name, rest)) = next_file(rest) else {
+        return None;
+    };
+    let Some((to, rest)) = next_file(rest) else {
+        return None;
+    };
+    if is_over(rest) {
+        Some(Command::Rename { name, to })
+    } else {
+        None
+    }
+}
+
+/// CHMODE, with a file's names and a digit behind it.
+fn change_mode(rest: &[u8]) -> Option<Command>
+    ensures { unwrap_or result Command.BadArguments ≡ chmode_of (words_of rest.now) }
+{
+    let Some((name, rest)) = next_file(rest) else {
+        return None;
+    };
+    let (word, rest) = next_word(rest)?;
+    let mode = digit_in(word)?;
+    if is_over(rest) {
+        Some(Command::ChangeMode { name, mode })
+    } else {
+        None
+    }
+}
+
+/// A word of one digit as its value.
+fn digit_in(word: &[u8]) -> Option<u8>
+    ensures { result ≡ digit_in word.now }
+{
+    match word {
+        [digit @ b'0'..=b'9'] => Some(*digit - b'0'),
+        _ => None,
+    }
+}
+
+/// The first two words of a text as a file's names, and what stands behind them.
+fn next_file(text: &[u8]) -> Option<(FileName, &[u8])>
+    ensures { MatchOption result (file_first (words_of text.now) ≡ None)
+        (λ p. (file_first (words_of text.now) ≡ Some p.0) × (words_of p.1.now ≡ drop 2 (words_of text.now))) }
+{
+    let (first, rest) = next_word(text)?;
+    let (second, rest) = next_word(rest)?;
+    let name = FileName::new(word_name(first)?, word_name(second)?);
+    Some((name, rest))
+}
+
+/// The first word of a text, where it has one, and what stands behind it.
+fn next_word(text: &[u8]) -> Option<(&[u8], &[u8])>
+    ensures { MatchOption result (words_of text.now ≡ []) (λ p. words_of text.now ≡ p.0.now ∷ words_of p.1.now) }
+{
+    let (word, rest) = first_word(text);
+    if word.is_empty() {
+        None
+    } else {
+        Some((word, rest))
+    }
+}
+
+/// Whether a text has no word.
+fn is_over(text: &[u8]) -> bool
+    ensures { result ≡ nat_eq (length (words_of text.now)) 0 }
+{
+    first_word(text).0.is_empty()
+}

@@ -1,0 +1,74 @@
+-- claim: what a line asks for.
+use Rattle.std.specs.Prelude.{ℕ, ◌-◌, ◌&&◌, List, [], ◌∷◌, length, nat_le, codes, bytes_eq, if◌then◌else◌, Option, Some, None}
+use Rattle.ctss_types.specs.Names.{NamePair}
+use Rattle.ctss_types.specs.Words.{words_of, name_of}
+use Rattle.time_sharing.specs.Machine.{Line}
+use Rattle.user_model.specs.declared.Command.{Command}
+use Rattle.user_model.specs.declared.Command.TheVariants.{Empty, Logout, LoadGo, List as Lists, Print, Rename, Delete, ChangeMode, Input, BadArguments, Unknown}
+
+-- a word of at most six characters is a name
+abbrev pub word_name : Line → Option ℕ
+word_name w = if nat_le (length w) 6 then Some (name_of w) else None
+
+abbrev pub both_names : Option ℕ → Option ℕ → Option NamePair
+both_names (Some a) (Some b) = Some (record { first = a; second = b })
+both_names _ _ = None
+
+-- two words are a file's names
+abbrev pub file_in : Line → Line → Option NamePair
+file_in a b = both_names (word_name a) (word_name b)
+
+-- a word of one digit
+abbrev pub digit_in : Line → Option ℕ
+digit_in (d ∷ []) = if nat_le 48 d && nat_le d 57 then Some (d - 48) else None
+digit_in _ = None
+
+-- the command, or words that it doesn't take
+abbrev pub if_some : {A : Type 0} → (A → Command) → Option A → Command
+if_some command None = BadArguments
+if_some command (Some a) = command a
+
+-- a command that takes no words behind its name
+abbrev pub alone : Command → List Line → Command
+alone command [] = command
+alone command _ = BadArguments
+
+-- a command that takes just one name
+abbrev pub with_name : (ℕ → Command) → List Line → Command
+with_name command (w ∷ []) = if_some command (word_name w)
+with_name command _ = BadArguments
+
+-- a command that takes just the two names of a file
+abbrev pub with_file : (NamePair → Command) → List Line → Command
+with_file command (a ∷ b ∷ []) = if_some command (file_in a b)
+with_file command _ = BadArguments
+
+-- a file's names, and its new names
+abbrev pub rename_of : List Line → Command
+rename_of (a ∷ b ∷ c ∷ d ∷ []) = if_some (λ name. if_some (λ to. Rename name to) (file_in c d)) (file_in a b)
+rename_of _ = BadArguments
+
+-- a file's names, and a digit
+abbrev pub chmode_of : List Line → Command
+chmode_of (a ∷ b ∷ m ∷ []) = if_some (λ name. if_some (λ mode. ChangeMode name mode) (digit_in m)) (file_in a b)
+chmode_of _ = BadArguments
+
+-- what the words behind a command's name ask for
+abbrev pub command_by : Line → List Line → Command
+command_by w ws =
+    if bytes_eq w (codes "LOGOUT") then alone Logout ws
+    else (if bytes_eq w (codes "LOADGO") then with_name (λ name. LoadGo name) ws
+    else (if bytes_eq w (codes "LISTF") then alone Lists ws
+    else (if bytes_eq w (codes "PRINTF") then with_file (λ name. Print name) ws
+    else (if bytes_eq w (codes "RENAME") then rename_of ws
+    else (if bytes_eq w (codes "DELETE") then with_file (λ name. Delete name) ws
+    else (if bytes_eq w (codes "CHMODE") then chmode_of ws
+    else (if bytes_eq w (codes "INPUT") then with_file (λ name. Input name) ws else Unknown)))))))
+
+abbrev pub command_of_words : List Line → Command
+command_of_words [] = Empty
+command_of_words (w ∷ ws) = command_by w ws
+
+-- what a line asks for
+unfoldable pub command_of : Line → Command
+command_of l = command_of_words (words_of l)

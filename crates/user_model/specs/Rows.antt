@@ -1,0 +1,68 @@
+-- claim: worked rows of commands: what lines ask for, and a file typed in.
+use Rattle.std.specs.Prelude.{◌≡◌, ℕ, List, [], ◌∷◌, replicate, codes, Option, Some, None}
+use Rattle.ctss_types.specs.Names.{NamePair}
+use Rattle.ctss_types.specs.Words.{name_of}
+use Rattle.ctss_types.specs.declared.file.FileBody.{FileBody}
+use Rattle.time_sharing.specs.Machine.{Line, Quit, Stopped}
+use Rattle.time_sharing.specs.Rows.{Outcome}
+use Rattle.user_model.specs.declared.Command.TheVariants.{Empty, LoadGo, List as Lists, Print, Rename, Delete, ChangeMode, Input, BadArguments, Unknown}
+use Rattle.user_model.specs.Inner.{Inner}
+use Rattle.user_model.specs.Requests.{command_of}
+use Rattle.user_model.specs.Commands.{command_row, input_row}
+use Rattle.user_model.specs.Session.{first_state, inner_cut}
+
+abbrev pub pair : Line → Line → NamePair
+pair a b = record { first = name_of a; second = name_of b }
+
+pub record RowOfRequests : Type 0 where
+  pub empty : command_of (codes "  ") ≡ Empty
+  pub list : command_of (codes " LISTF ") ≡ Lists
+  pub list_of : command_of (codes "LISTF ALL") ≡ BadArguments
+  pub print : command_of (codes "PRINTF HELLO FAP") ≡ Print (pair (codes "HELLO") (codes "FAP"))
+  pub rename : command_of (codes "RENAME A B C D") ≡ Rename (pair (codes "A") (codes "B")) (pair (codes "C") (codes "D"))
+  pub rename_to : command_of (codes "RENAME A B C") ≡ BadArguments
+  pub delete : command_of (codes "DELETE ABCDEF B") ≡ Delete (pair (codes "ABCDEF") (codes "B"))
+  pub long : command_of (codes "DELETE ABCDEFG B") ≡ BadArguments
+  pub long_second : command_of (codes "DELETE A ABCDEFG") ≡ BadArguments
+  pub mode : command_of (codes "CHMODE A B 9") ≡ ChangeMode (pair (codes "A") (codes "B")) 9
+  pub digits : command_of (codes "CHMODE A B 10") ≡ BadArguments
+  pub letter : command_of (codes "CHMODE A B X") ≡ BadArguments
+  pub input : command_of (codes "INPUT A B") ≡ Input (pair (codes "A") (codes "B"))
+  pub load : command_of (codes "LOADGO A") ≡ LoadGo (name_of (codes "A"))
+  pub out : command_of (codes "LOGOUT NOW") ≡ BadArguments
+  pub unknown : command_of (codes "LIST") ≡ Unknown
+
+abbrev pub notes : NamePair
+notes = pair (codes "NOTES") (codes "TEXT")
+
+abbrev pub file : List ℕ → FileBody
+file words = record { name = notes; mode = 1; words = words }
+
+-- a user of so many tracks, with these files, who types into a file or not
+abbrev pub typist : ℕ → List FileBody → Option NamePair → Inner
+typist tracks files input = record (first_state (record { name = 1; password = 2; blocks = 8; tracks = tracks }) files).inner { input = input }
+
+abbrev pub outcome : Inner → List Line → Outcome Inner
+outcome i lines = record { inner = i; written = lines; front = []; ending = Stopped }
+
+abbrev pub midnight : Line
+midnight = codes "W 0000.0"
+
+-- HI and twelve more blank words
+abbrev pub words_of_hi : List ℕ
+words_of_hi = name_of (codes "HI") ∷ replicate 13 (name_of (codes ""))
+
+pub record RowOfInput : Type 0 where
+  pub begun : command_row (Input notes) (typist 1 [] None) 1 0 ≡ outcome (typist 1 (file [] ∷ []) (Some notes)) (midnight ∷ [])
+  pub there : command_row (Input notes) (typist 2 (file [] ∷ []) None) 1 0 ≡ outcome (typist 2 (file [] ∷ []) None) (midnight ∷ codes "NAME IN USE" ∷ codes "R 1" ∷ [])
+  pub no_track : command_row (Input notes) (typist 0 [] None) 1 0 ≡ outcome (typist 0 [] None) (midnight ∷ codes "QUOTA EXCEEDED" ∷ codes "R 1" ∷ [])
+  pub typed : input_row notes (codes "HI") (typist 1 (file [] ∷ []) (Some notes)) 2 ≡ outcome (typist 1 (file words_of_hi ∷ []) (Some notes)) []
+  pub full : input_row notes (codes "HI") (typist 1 (file (replicate 420 0) ∷ []) (Some notes)) 32
+      ≡ outcome (typist 1 (file (replicate 420 0) ∷ []) None) (codes "QUOTA EXCEEDED" ∷ codes "R 32" ∷ [])
+  pub over : input_row notes [] (typist 1 (file words_of_hi ∷ []) (Some notes)) 3 ≡ outcome (typist 1 (file words_of_hi ∷ []) None) (codes "R 3" ∷ [])
+  pub quit : inner_cut Quit (typist 1 [] (Some notes)) ≡ typist 1 [] None
+  pub shown : command_row (Print notes) (typist 1 (file words_of_hi ∷ []) None) 1 0 ≡ outcome (typist 1 (file words_of_hi ∷ []) None) (midnight ∷ codes "HI" ∷ codes "R 1" ∷ [])
+  pub gone : command_row (Delete notes) (typist 1 (file words_of_hi ∷ []) None) 1 0 ≡ outcome (typist 1 [] None) (midnight ∷ codes "R 1" ∷ [])
+  pub absent : command_row (Delete notes) (typist 1 [] None) 1 0 ≡ outcome (typist 1 [] None) (midnight ∷ codes "FILE NOT FOUND" ∷ codes "R 1" ∷ [])
+  pub mode : command_row (ChangeMode notes 4) (typist 1 (file [] ∷ []) None) 1 0
+      ≡ outcome (typist 1 (file [] ∷ []) None) (midnight ∷ codes "BAD MODE" ∷ codes "R 1" ∷ [])

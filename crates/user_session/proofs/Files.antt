@@ -1,0 +1,97 @@
+-- Answers of a directory that tells its files, in the words of rows.
+use Rattle.std.proofs.Common.{◌≡◌, ◌≤◌, ℕ, zero, suc, Bool, true, List, [], ◌∷◌, ◌++◌, length, map, take, arith, append_assoc, Option, Some, None, Ok, Err, refl, sym, ap, ◌∙◌, subst}
+use Rattle.std.specs.declared.result.Result.{Result}
+use Rattle.ctss_types.specs.Names.{NamePair}
+use Rattle.ctss_types.specs.declared.file.FileBody.{FileBody}
+use Rattle.ctss_types.specs.declared.file.Refusal.{Refusal}
+use Rattle.time_sharing.specs.Machine.{Line, Item, In, Out, Ending}
+use Rattle.time_sharing.specs.Rows.{Outcome, out_all}
+use Rattle.file_model.specs.Files.{got, stat_of, put}
+use Rattle.file_model.specs.declared.Stat.{Stat}
+use Rattle.file_model.specs.Texts.{refusal_text}
+use Rattle.file_map.specs.declared.fault.PortFault.{PortFault}
+use Rattle.file_map.specs.declared.fault.PortFault.TheVariants.{Refused}
+use Rattle.file_map.specs.Answers.{Answers, Leaves}
+use Rattle.file_map.specs.Known.{known, known_of, AnswersOver}
+use Rattle.program_model.specs.declared.Deck.{Deck}
+use Rattle.program_model.specs.declared.LoadFault.{LoadFault}
+use Rattle.program_model.specs.Decks.{filled, words_got}
+use Rattle.cmd_program.specs.declared.load.PrepareFault.{PrepareFault}
+use Rattle.cmd_program.specs.declared.load.PrepareFault.TheVariants.{Load}
+use Rattle.cmd_program.specs.Loads.{Prepares, PreparesOver, FillsOver}
+use Rattle.cmd_files.specs.Lines.{lines_got}
+use Rattle.user_model.specs.Inner.{Inner}
+use Rattle.user_model.specs.Commands.{says, printed, input_begun, input_made}
+use Rattle.user_model.specs.User.{User}
+use Rattle.user_model.specs.Answers.{IsRow}
+
+-- where all is told, an answer is that of the files themselves
+pub told_over : {T : Type 0} (result : Result T PortFault) (files : List FileBody) (told : List FileBody → Result T Refusal) → AnswersOver true files result told → Answers result (told files)
+unfolding known
+told_over result files told h = subst (λ (fs : List FileBody). Answers result (told fs)) h.1.0 h.1.1
+
+pub told_deck : (result : Result Deck PrepareFault) (files : List FileBody) (told : List FileBody → Result Deck LoadFault) → PreparesOver true files result told → Prepares result (told files)
+unfolding known
+told_deck result files told h = subst (λ (fs : List FileBody). Prepares result (told fs)) h.1.0 h.1.1
+
+pub fills_told : (files : List FileBody) (name : NamePair) (old new : List ℕ) → FillsOver true files name old new → new ≡ filled (words_got (got name files)) old
+unfolding known
+fills_told files name old new h = h.1.1 ∙ ap (λ (fs : List FileBody). filled (words_got (got name fs)) old) h.1.0
+
+-- a file's lines, or why there are none
+pub printed_ok : (file : Result (List ℕ) Refusal) (lines : List Line) → lines_got file ≡ Ok lines → lines ≡ printed file
+printed_ok (Ok words) lines h = cc
+printed_ok (Err r) lines h = cc
+
+pub printed_err : (file : Result (List ℕ) Refusal) (r : Refusal) → lines_got file ≡ Err r → printed file ≡ refusal_text r ∷ []
+printed_err (Ok words) r h = cc
+printed_err (Err q) r h = cc
+
+pub known_told : (told : Result (List FileBody) Refusal) → known_of true told ≡ told
+unfolding known
+known_told (Ok files) = refl
+known_told (Err r) = refl
+
+pub leaves_told : {T : Type 0} (done : Result T PortFault) (told : Result (List FileBody) Refusal) (old new : List FileBody) → Leaves done (known_of true told) old new → Leaves done told old new
+leaves_told done told old new h = subst (λ (r : Result (List FileBody) Refusal). Leaves done r old new) (known_told told) h
+
+-- INPUT of a file that is there, and of one that isn't
+pub input_there : (name : NamePair) (file : Option FileBody) (s : Stat) (i : Inner) (n t : ℕ) → stat_of file ≡ Ok s → input_begun name file i n t ≡ says (refusal_text Refusal.NameUsed ∷ []) i n t
+input_there name None s i n t h = cc
+input_there name (Some f) s i n t h = refl
+
+pub input_absent : (name : NamePair) (file : Option FileBody) (r : Refusal) (i : Inner) (n t : ℕ) → stat_of file ≡ Err r → input_begun name file i n t ≡ input_made name (put name [] i.account.tracks i.files) i n t
+input_absent name None r i n t h = refl
+input_absent name (Some f) r i n t h = cc
+
+-- a row said in another way
+pub row_of : (can b : Bool) (line : Option Line) (o p : Outcome Inner) (asks : Bool) (e : Ending) (asked : Bool) (old new : User) (after : List ℕ) → o ≡ p → IsRow can b line p asks e asked old new after → IsRow can b line o asks e asked old new after
+row_of can b line o p asks e asked old new after is row = subst (λ (q : Outcome Inner). IsRow can b line q asks e asked old new after) (sym is) row
+
+-- lines written
+pub out_whole : (n : ℕ) (lines : List Line) → length lines ≤ n → map Out (take n lines) ≡ out_all lines
+out_whole zero [] h = refl
+out_whole (suc n) [] h = refl
+out_whole zero (l ∷ lines) h = absurd (omega (arith, h))
+out_whole (suc n) (l ∷ lines) h = ap (λ (items : List Item). Out l ∷ items) (out_whole n lines (omega (arith, h)))
+
+pub out_behind : (lines : List Line) (l : Line) → out_all (lines ++ l ∷ []) ≡ out_all lines ++ Out l ∷ []
+out_behind [] l = refl
+out_behind (x ∷ lines) l = ap (λ (items : List Item). Out x ∷ items) (out_behind lines l)
+
+pub command_lines : (old one two three new : List Item) (l t r : Line) (lines : List Line) → one ≡ old ++ In l ∷ [] → two ≡ one ++ Out t ∷ [] → three ≡ two ++ out_all lines → new ≡ three ++ Out r ∷ []
+    → new ≡ old ++ In l ∷ Out t ∷ out_all (lines ++ r ∷ [])
+command_lines old one two three new l t r lines a b c d = rw (out_behind lines r, d, c, b, a) (simp append_assoc)
+
+-- refusals
+pub refused_told : {T : Type 0} (fault : PortFault) (r : Refusal) (told : Result T Refusal) → fault ≡ Refused r → Answers {T = T} (Err fault) told → told ≡ Err r
+refused_told {T} fault r told is h = subst (λ (f : PortFault). Answers {T = T} (Err f) told) is h
+
+pub refused_over : {T : Type 0} (fault : PortFault) (r : Refusal) (files : List FileBody) (told : List FileBody → Result T Refusal) → fault ≡ Refused r → AnswersOver {T = T} true files (Err fault) told → told files ≡ Err r
+refused_over {T} fault r files told is h = refused_told {T = T} fault r (told files) is (told_over {T = T} (Err fault) files told h)
+
+pub refused_deck : (fault : PrepareFault) (f : LoadFault) (files : List FileBody) (told : List FileBody → Result Deck LoadFault) → fault ≡ Load f → PreparesOver true files (Err fault) told → told files ≡ Err f
+refused_deck fault f files told is h = subst (λ (x : PrepareFault). Prepares (Err x) (told files)) is (told_deck (Err fault) files told h)
+
+pub refused_change : (T : Type 0) (fault : PortFault) (r : Refusal) (told : Result (List FileBody) Refusal) (old new : List FileBody) → fault ≡ Refused r → Leaves {T = T} (Err fault) (known_of true told) old new → told ≡ Err r
+refused_change T fault r told old new is h = sym (known_told told) ∙ (subst (λ (f : PortFault). Leaves {T = T} (Err f) (known_of true told) old new) is h).0

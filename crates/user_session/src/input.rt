@@ -1,0 +1,140 @@
+//! INPUT: lines typed into a file.
+ghost use Rattle.std.specs.Prelude.{◌≡◌, ◌<◌, ◌≤◌, ◌+◌, ◌-◌, ◌*◌, ◌^◌, ◌++◌, ◌∷◌, [], suc, true, drop, length, option_to_list, IfOk, OnErr, vec_len, vec_capacity};
+ghost use Rattle.time_sharing.specs.Machine.{In, Out};
+ghost use Rattle.time_sharing.specs.Rows.{out_all};
+ghost use Rattle.user_model.specs.Texts.{time_text, ready_text};
+ghost use Rattle.user_model.specs.declared.Command.{Command};
+ghost use Rattle.user_model.specs.Answers.{DidCommand, DidInput};
+
+use crate::Step;
+use crate::file_command::{DONE, note_command};
+use crate::session::{Session, note};
+use crate::text::{ready_text, time_text};
+use cmd_files::{line_words, refusal_text};
+use cpu_regs::MemoryPort;
+use ctss_types::{Ending, FileName, Item, LineText, NoMemory, Refusal};
+use file_map::{FilePort, PortFault};
+
+/// The line INPUT: the line and the time, where there is room.
+fn note_taken(items: &mut Vec<Item>, line: LineText, now: u64)
+    requires { vec_len items.old + 1 < vec_capacity items.old }
+    ensures { items.new.items ≡ items.old.items ++ In line ∷ Out (time_text now) ∷ [] }
+{
+    note(items, Item::In(line));
+    note(items, Item::Out(time_text(now)));
+}
+
+/// A line of INPUT that is done.
+const TYPED: Step = Step {
+    ending: Ending::Stopped,
+    clock: false,
+};
+
+/// The last line of INPUT: the line, maybe a text, and R n, where there is room.
+fn note_end(items: &mut Vec<Item>, line: LineText, text: Option<LineText>, n: u64)
+    requires { vec_len items.old + 2 < vec_capacity items.old }
+    ensures { items.new.items ≡ items.old.items ++ In line ∷ out_all (option_to_list text ++ ready_text n ∷ []) }
+{
+    note(items, Item::In(line));
+    if let Some(text) = text {
+        note(items, Item::Out(text));
+    }
+    note(items, Item::Out(ready_text(n)));
+}
+
+impl Session {
+    /// INPUT: an empty file is made, and the lines that come go to it.
+    #[tactic(auto, using(user_model::proofs::CoreLaws::recut_same, crate::proofs::Files::input_there, crate::proofs::Files::input_absent, crate::proofs::Files::leaves_told))]
+    pub(crate) fn begin_input<M: MemoryPort>(
+        &mut self,
+        core: &M,
+        line: LineText,
+        name: FileName,
+        now: u64,
+    ) -> Result<Step, NoMemory>
+        requires on { self.old.on ≡ true }
+        requires size { length (M.words core.now) ≡ 256 * self.old.inner.blocks }
+        requires fits { self.old.own < 2 ^ 64 - 1 }
+        ensures row { IfOk result (λ s. DidCommand line (Command.Input name) s.ending s.clock now self.old self.new (M.words core.now) (M.words core.now)) }
+        ensures account { self.new.inner.account ≡ self.old.inner.account }
+        ensures err { OnErr result (self.new ≡ self.old) }
+    {
+        self.items.reserve(4)?;
+        match self.files.stat(name) {
+            Ok(_) => {
+                let text = refusal_text(Refusal::NameUsed);
+                note_command(&mut self.items, line, Some(text), now);
+                self.take_command();
+                return Ok(DONE);
+            }
+            Err(PortFault::Refused(_)) => {}
+            Err(PortFault::Disk | PortFault::NoMemory) => unreachable!(),
+        }
+        match self.files.put(name, &[]) {
+            Ok(()) => {
+                note_taken(&mut self.items, line, now);
+                self.input = Some(name);
+                self.take_command();
+                Ok(DONE)
+            }
+            Err(PortFault::Refused(refusal)) => {
+                note_command(&mut self.items, line, Some(refusal_text(refusal)), now);
+                self.take_command();
+                Ok(DONE)
+            }
+            Err(PortFault::Disk) => unreachable!(),
+            Err(PortFault::NoMemory) => Err(NoMemory),
+        }
+    }
+
+    /// The first unread line is taken in INPUT.
+    fn take_typed(&mut self)
+        requires fits { self.old.own < 2 ^ 64 - 1 }
+        ensures user { self.new ≡ record self.old { unread = drop 1 self.old.unread; own = suc self.old.own } }
+        ensures given { self.old.given ≡ 0 }
+    {
+        let _ = self.lines.take();
+        self.own += 1;
+    }
+
+    /// A line of INPUT: its 14 words go to the file. An empty line, or a refusal, ends it.
+    #[tactic(auto, using(user_model::proofs::CoreLaws::recut_same, crate::proofs::Files::leaves_told))]
+    pub(crate) fn type_line<M: MemoryPort>(
+        &mut self,
+        core: &M,
+        line: LineText,
+        name: FileName,
+        now: u64,
+    ) -> Result<Step, NoMemory>
+        requires on { self.old.on ≡ true }
+        requires size { length (M.words core.now) ≡ 256 * self.old.inner.blocks }
+        requires fits { self.old.own < 2 ^ 64 - 1 }
+        ensures row { IfOk result (λ s. DidInput line name s.ending s.clock self.old self.new (M.words core.now) (M.words core.now)) }
+        ensures account { self.new.inner.account ≡ self.old.inner.account }
+        ensures err { OnErr result (self.new ≡ self.old) }
+    {
+        self.items.reserve(3)?;
+        let n = self.own + 1 - self.before;
+        if line.is_empty() {
+            note_end(&mut self.items, line, None, n);
+            self.input = None;
+            self.take_typed();
+            return Ok(TYPED);
+        }
+        match self.files.append(name, &line_words(&line)) {
+            Ok(()) => {
+                note(&mut self.items, Item::In(line));
+                self.take_typed();
+                Ok(TYPED)
+            }
+            Err(PortFault::Refused(refusal)) => {
+                note_end(&mut self.items, line, Some(refusal_text(refusal)), n);
+                self.input = None;
+                self.take_typed();
+                Ok(TYPED)
+            }
+            Err(PortFault::Disk) => unreachable!(),
+            Err(PortFault::NoMemory) => Err(NoMemory),
+        }
+    }
+}

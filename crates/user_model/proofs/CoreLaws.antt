@@ -1,22 +1,17 @@
 -- Steps of a user whose words lie apart.
-use Rattle.std.proofs.Common.{◌≡◌, ℕ, zero, suc, ◌-◌, ◌*◌, Bool, true, false, not, cond, List, [], ◌∷◌, ◌++◌, length, take, replicate, Option, Some, None, codes, refl, sym, ap, ◌∙◌, arith}
+use Rattle.std.proofs.Common.{◌≡◌, ℕ, zero, suc, ◌-◌, ◌*◌, Bool, true, false, not, cond, List, [], ◌∷◌, ◌++◌, length, take, replicate, Option, None, refl, sym, ap, ◌∙◌, arith}
 use Rattle.std.specs.Prelude.{if◌then◌else◌}
-use Rattle.time_sharing.specs.Machine.{Line, Item, Out, Ending, Went, Stopped}
+use Rattle.time_sharing.specs.Machine.{Line, Item, Ending, Went}
 use Rattle.time_sharing.specs.Rows.{Outcome, is_logout, out_all, in_line, behind, first_line}
-use Rattle.file_model.specs.Files.{got}
 use Rattle.cpu_regs.specs.declared.regs.Regs.{Regs}
-use Rattle.machine_model.specs.Step.{Step, went, halt, illegal, outside}
+use Rattle.machine_model.specs.Step.{Step, went}
 use Rattle.machine_model.specs.Machine.{table}
-use Rattle.program_model.specs.declared.Fill.{Fill}
-use Rattle.program_model.specs.declared.ProgramState.TheVariants.{Dormant}
-use Rattle.program_model.specs.Decks.{words_got, filled}
 use Rattle.user_model.specs.Inner.{Inner, recut}
-use Rattle.user_model.specs.Texts.{ready_text, stop_text}
-use Rattle.user_model.specs.Programs.{step_row, reads_line, filled_program, goes, stops}
+use Rattle.user_model.specs.Programs.{step_row, reads_line}
 use Rattle.user_model.specs.Session.{works_in}
 use Rattle.user_model.specs.User.{User, step, in_core}
 use Rattle.user_model.specs.Steps.{left}
-use Rattle.user_model.proofs.StepLaws.{fill_left, run_left}
+use Rattle.user_model.proofs.StepLaws.{run_left}
 
 -- lists
 
@@ -71,52 +66,9 @@ by_row t p c c' s line i written e h none is on zero_given first row inside = sy
     ∙ stays false line (record { inner = record i { core = c' }; written = written; front = []; ending = e }) (in_core c p) inside on zero_given
     )
 
--- it goes on: other registers, and words of the same size
-goes_by : (t : ℕ) (p : User) (c c' : List ℕ) (s : Step) (r : Regs) → works_in p.inner.state ≡ true → p.inner.fill ≡ None → table p.inner.regs c ≡ s → p.on ≡ true → p.given ≡ 0 →
-    reads_line s (record p.inner { core = c }) ≡ false →
-    ((n : ℕ) → step_row s (record p.inner { core = c }) None n t ≡ goes (record p.inner { regs = r; core = c' })) → length c' ≡ 256 * p.inner.blocks →
-    in_core (recut p.inner.blocks c') (record p { inner = record p.inner { regs = r }; own = suc p.own }) ≡ step t (in_core c p)
-goes_by t p c c' s r h none is on zero_given reads row size =
-    ap (λ (d : List ℕ). in_core d (record p { inner = record p.inner { regs = r }; own = suc p.own })) (recut_same p.inner.blocks c' size)
-    ∙ ap (λ (ts : List Item). in_core c' (record p { inner = record p.inner { regs = r }; transcript = ts; own = suc p.own })) (sym (nil p.transcript))
-    ∙ by_row t p c c' s None (record p.inner { regs = r }) [] Went h none is on zero_given (ap (λ (b : Bool). first_line b p.unread) reads) (row (suc p.own - p.before)) refl
-
 -- other registers, and any words
 pub plain_step : (t : ℕ) (p : User) (c c' : List ℕ) (r : Regs) → works_in p.inner.state ≡ true → p.inner.fill ≡ None → table p.inner.regs c ≡ went r c' → p.on ≡ true → p.given ≡ 0 →
     in_core c' (record p { inner = record p.inner { regs = r }; own = suc p.own }) ≡ step t (in_core c p)
 plain_step t p c c' r h none is on zero_given =
     ap (λ (ts : List Item). in_core c' (record p { inner = record p.inner { regs = r }; transcript = ts; own = suc p.own })) (sym (nil p.transcript))
     ∙ by_row t p c c' (went r c') None (record p.inner { regs = r }) [] Went h none is on zero_given refl refl refl
-
-pub went_step : (t : ℕ) (p : User) (c c' : List ℕ) (r : Regs) → works_in p.inner.state ≡ true → p.inner.fill ≡ None → table p.inner.regs c ≡ went r c' → p.on ≡ true → p.given ≡ 0 → length c' ≡ 256 * p.inner.blocks →
-    in_core (recut p.inner.blocks c') (record p { inner = record p.inner { regs = r }; own = suc p.own }) ≡ step t (in_core c p)
-went_step t p c c' r h none is on zero_given size = goes_by t p c c' (went r c') r h none is on zero_given refl (λ n. refl) size
-
--- it stops, with a text
-stops_by : (t : ℕ) (p : User) (c c' : List ℕ) (s : Step) (r : Regs) (text : Line) → works_in p.inner.state ≡ true → p.inner.fill ≡ None → table p.inner.regs c ≡ s → p.on ≡ true → p.given ≡ 0 →
-    reads_line s (record p.inner { core = c }) ≡ false →
-    ((n : ℕ) → step_row s (record p.inner { core = c }) None n t ≡ stops (text ∷ []) (record p.inner { regs = r; core = c' }) n) → length c' ≡ 256 * p.inner.blocks →
-    in_core (recut p.inner.blocks c') (record p { inner = record p.inner { state = Dormant; regs = r }; transcript = p.transcript ++ Out text ∷ Out (ready_text (suc p.own - p.before)) ∷ []; own = suc p.own }) ≡ step t (in_core c p)
-stops_by t p c c' s r text h none is on zero_given reads row size =
-    ap (λ (d : List ℕ). in_core d (record p { inner = record p.inner { state = Dormant; regs = r }; transcript = p.transcript ++ Out text ∷ Out (ready_text (suc p.own - p.before)) ∷ []; own = suc p.own })) (recut_same p.inner.blocks c' size)
-    ∙ by_row t p c c' s None (record p.inner { state = Dormant; regs = r }) (text ∷ ready_text (suc p.own - p.before) ∷ []) Stopped h none is on zero_given (ap (λ (b : Bool). first_line b p.unread) reads) (row (suc p.own - p.before)) refl
-
-pub halt_step : (t : ℕ) (p : User) (c c' : List ℕ) (r : Regs) → works_in p.inner.state ≡ true → p.inner.fill ≡ None → table p.inner.regs c ≡ halt r c' → p.on ≡ true → p.given ≡ 0 → length c' ≡ 256 * p.inner.blocks →
-    in_core (recut p.inner.blocks c') (record p { inner = record p.inner { state = Dormant; regs = r }; transcript = p.transcript ++ Out (stop_text (codes "HALT") p.inner.regs.ic) ∷ Out (ready_text (suc p.own - p.before)) ∷ []; own = suc p.own }) ≡ step t (in_core c p)
-halt_step t p c c' r h none is on zero_given size = stops_by t p c c' (halt r c') r (stop_text (codes "HALT") p.inner.regs.ic) h none is on zero_given refl (λ n. refl) size
-
-pub illegal_step : (t : ℕ) (p : User) (c : List ℕ) → works_in p.inner.state ≡ true → p.inner.fill ≡ None → table p.inner.regs c ≡ illegal → p.on ≡ true → p.given ≡ 0 → length c ≡ 256 * p.inner.blocks →
-    in_core (recut p.inner.blocks c) (record p { inner = record p.inner { state = Dormant }; transcript = p.transcript ++ Out (stop_text (codes "ILLEGAL") p.inner.regs.ic) ∷ Out (ready_text (suc p.own - p.before)) ∷ []; own = suc p.own }) ≡ step t (in_core c p)
-illegal_step t p c h none is on zero_given size = stops_by t p c c illegal p.inner.regs (stop_text (codes "ILLEGAL") p.inner.regs.ic) h none is on zero_given refl (λ n. refl) size
-
-pub outside_step : (t : ℕ) (p : User) (c : List ℕ) (a : ℕ) → works_in p.inner.state ≡ true → p.inner.fill ≡ None → table p.inner.regs c ≡ outside a → p.on ≡ true → p.given ≡ 0 → length c ≡ 256 * p.inner.blocks →
-    in_core (recut p.inner.blocks c) (record p { inner = record p.inner { state = Dormant }; transcript = p.transcript ++ Out (stop_text (codes "PROTECTION") p.inner.regs.ic) ∷ Out (ready_text (suc p.own - p.before)) ∷ []; own = suc p.own }) ≡ step t (in_core c p)
-outside_step t p c a h none is on zero_given size = stops_by t p c c (outside a) p.inner.regs (stop_text (codes "PROTECTION") p.inner.regs.ic) h none is on zero_given refl (λ n. refl) size
-
--- a deck's words are stored
-pub fill_step : (t : ℕ) (p : User) (c : List ℕ) (f : Fill) → works_in p.inner.state ≡ true → p.inner.fill ≡ Some f → p.on ≡ true → p.given ≡ 0 → length (filled (words_got (got f.name p.inner.files)) c) ≡ 256 * p.inner.blocks →
-    in_core (recut p.inner.blocks (filled (words_got (got f.name p.inner.files)) c)) (record p { inner = record p.inner { regs = record p.inner.regs { ic = f.start }; fill = None }; own = suc p.own }) ≡ step t (in_core c p)
-fill_step t p c f h is on zero_given size =
-    ap (λ (d : List ℕ). in_core d (record p { inner = record p.inner { regs = record p.inner.regs { ic = f.start }; fill = None }; own = suc p.own })) (recut_same p.inner.blocks (filled (words_got (got f.name p.inner.files)) c) size)
-    ∙ ap (λ (ts : List Item). in_core (filled (words_got (got f.name p.inner.files)) c) (record p { inner = record p.inner { regs = record p.inner.regs { ic = f.start }; fill = None }; transcript = ts; own = suc p.own })) (sym (nil p.transcript))
-    ∙ sym (fill_left t (in_core c p) f h is zero_given ∙ stays false None (goes (filled_program f (record p.inner { core = c }))) (in_core c p) refl on zero_given)

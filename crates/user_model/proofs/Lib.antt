@@ -1,6 +1,5 @@
 pub mod StepLaws
 pub mod CoreLaws
-pub mod TurnLaws
 pub mod WentLaws
 pub mod RunLaws
 pub mod RowTurns

@@ -1,26 +1,27 @@
--- Any row as a step of a user whose words lie apart: one law for all ends of an instruction and all supervisor entries, one for all
--- commands, one for lines of INPUT.
+-- Any row as a step of a user whose words lie apart: one law for all that the machine gives, supervisor entries among it, one for
+-- what was still to be stored, one for commands, one for lines of INPUT.
 use Rattle.std.proofs.Common.{◌≡◌, ℕ, suc, ◌-◌, Bool, true, false, not, ◌&&◌, ◌||◌, List, [], ◌∷◌, ◌++◌, drop, Option, Some, None, refl, sym, ap, ◌∙◌, subst}
 use Rattle.std.specs.Prelude.{slice_get, if◌then◌else◌}
 use Rattle.std.specs.declared.result.Result.{Result}
 use Rattle.time_sharing.specs.Machine.{Line, Item, Ending}
-use Rattle.time_sharing.specs.Rows.{Outcome, some_line, is_logout, in_line, out_all, behind, first_line}
+use Rattle.time_sharing.specs.Rows.{Outcome, some_line, is_logout, in_line, out_all, behind}
 use Rattle.ctss_types.specs.Names.{NamePair}
 use Rattle.machine_model.specs.Step.{Step, entry}
 use Rattle.machine_model.specs.Machine.{table}
 use Rattle.program_model.specs.declared.Call.{Call}
 use Rattle.program_model.specs.declared.EntryFault.{EntryFault}
 use Rattle.program_model.specs.Calls.{call_of}
+use Rattle.program_model.specs.declared.Fill.{Fill}
 use Rattle.user_model.specs.Inner.{Inner}
 use Rattle.user_model.specs.declared.Command.{Command}
 use Rattle.user_model.specs.Requests.{command_of}
 use Rattle.user_model.specs.Commands.{command_row, input_row}
-use Rattle.user_model.specs.Programs.{step_row, reads_line, asks_time, is_read}
+use Rattle.user_model.specs.Programs.{reads_line, asks_time, is_read, goes, filled_program}
 use Rattle.user_model.specs.Session.{works_in}
 use Rattle.user_model.specs.User.{User, can_step, in_core, core_after, IsStep}
 use Rattle.user_model.specs.Steps.{left}
-use Rattle.user_model.specs.Answers.{IsRow, noted, line_count, by_row, DidEntry, DidCommand, DidInput}
-use Rattle.user_model.proofs.StepLaws.{run_left, run_ends, run_asks, run_can, command_left, command_ends, command_asks, command_can, input_left, input_ends, input_asks}
+use Rattle.user_model.specs.Answers.{IsRow, noted, line_count, by_row, step_line, step_said, DidStep, DidFill, DidEntry, DidCommand, DidInput}
+use Rattle.user_model.proofs.StepLaws.{run_left, run_ends, run_asks, run_can, command_left, command_ends, command_asks, command_can, input_left, input_ends, input_asks, fill_left, fill_ends, fill_asks, fill_can}
 
 -- the two forms of what a row leaves
 append-nil : (xs : List Item) → xs ++ [] ≡ xs
@@ -56,22 +57,28 @@ given_back can b line o asks e asked p q c d on zero_given is =
       before = if b then p.own else p.before;
     })
 
--- an end of an instruction
-abbrev line_at : Step → User → Option Line
-line_at s p = first_line (reads_line s p.inner) p.unread
-
-abbrev said_at : Step → ℕ → User → Outcome Inner
-said_at s t p = step_row s p.inner (line_at s p) (suc p.own - p.before) t
-
+-- what the machine gave
 pub row_turn : (t : ℕ) (p q : User) (c d : List ℕ) (s : Step) (e : Ending) (asked : Bool) → works_in p.inner.state ≡ true → p.inner.fill ≡ None → table p.inner.regs c ≡ s → p.on ≡ true → p.given ≡ 0
-    → IsRow (not (reads_line s (in_core c p).inner) || some_line p.unread) false (line_at s (in_core c p)) (said_at s t (in_core c p)) (asks_time s (in_core c p).inner) e asked p q d
+    → DidStep s e asked t p q c d
     → IsStep e asked t p q c d
 row_turn t p q c d s e asked h none is on zero_given row =
     record {
       can = run_can (in_core c p) s h none is ∙ (λ j. on j && row.0 j);
-      left = given_back (not (reads_line s (in_core c p).inner) || some_line p.unread) false (line_at s (in_core c p)) (said_at s t (in_core c p)) (asks_time s (in_core c p).inner) e asked p q c d on zero_given row ∙ sym (run_left t (in_core c p) s h none is zero_given);
+      left = given_back (not (reads_line s (in_core c p).inner) || some_line p.unread) false (step_line s (in_core c p)) (step_said s t (in_core c p)) (asks_time s (in_core c p).inner) e asked p q c d on zero_given row ∙ sym (run_left t (in_core c p) s h none is zero_given);
       ends = row.3 ∙ sym (run_ends t (in_core c p) s h none is);
       asks = row.4 ∙ sym (run_asks (in_core c p) s h none is);
+    }
+
+-- what was still to be stored
+pub fill_turn : (t : ℕ) (p q : User) (c d : List ℕ) (f : Fill) (e : Ending) (asked : Bool) → works_in p.inner.state ≡ true → p.inner.fill ≡ Some f → p.on ≡ true → p.given ≡ 0
+    → DidFill f e asked p q c d
+    → IsStep e asked t p q c d
+fill_turn t p q c d f e asked h is on zero_given row =
+    record {
+      can = fill_can (in_core c p) f h is ∙ on;
+      left = given_back true false None (goes (filled_program f (in_core c p).inner)) false e asked p q c d on zero_given row ∙ sym (fill_left t (in_core c p) f h is zero_given);
+      ends = row.3 ∙ sym (fill_ends t (in_core c p) f h is);
+      asks = row.4 ∙ sym (fill_asks (in_core c p) f h is);
     }
 
 -- a supervisor entry

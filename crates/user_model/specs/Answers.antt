@@ -7,7 +7,9 @@ use Rattle.ctss_types.specs.Names.{NamePair}
 use Rattle.program_model.specs.declared.Call.{Call}
 use Rattle.program_model.specs.declared.EntryFault.{EntryFault}
 use Rattle.user_model.specs.Inner.{Inner}
-use Rattle.user_model.specs.Programs.{entry_row, is_read, is_clock}
+use Rattle.machine_model.specs.Step.{Step}
+use Rattle.program_model.specs.declared.Fill.{Fill}
+use Rattle.user_model.specs.Programs.{step_row, reads_line, asks_time, entry_row, is_read, is_clock, goes, filled_program}
 use Rattle.user_model.specs.declared.Command.{Command}
 use Rattle.user_model.specs.Commands.{command_row, input_row}
 use Rattle.user_model.specs.User.{User, in_core, core_after}
@@ -38,6 +40,22 @@ by_row is_command line o p =
 abbrev pub IsRow : (can is_command : Bool) → Option Line → Outcome Inner → (asks : Bool) → Ending → (asked : Bool) → (old new : User) → (after : List ℕ) → Type 0
 IsRow can is_command line o asks e asked old new after =
     (can ≡ true) × (new ≡ by_row is_command line o old) × (core_after e o.inner.blocks after ≡ o.inner.core) × (e ≡ o.ending) × (asked ≡ asks)
+
+-- a step that did what the row of what the machine gave says
+abbrev pub step_line : Step → User → Option Line
+step_line s p = first_line (reads_line s p.inner) p.unread
+
+abbrev pub step_said : Step → ℕ → User → Outcome Inner
+step_said s t p = step_row s p.inner (step_line s p) (suc p.own - p.before) t
+
+abbrev pub DidStep : Step → Ending → Bool → ℕ → (old new : User) → (before after : List ℕ) → Type 0
+DidStep s e asked t old new before after =
+    IsRow (not (reads_line s (in_core before old).inner) || some_line old.unread) false (step_line s (in_core before old)) (step_said s t (in_core before old))
+    (asks_time s (in_core before old).inner) e asked old new after
+
+-- a step that stored what was still to be stored
+abbrev pub DidFill : Fill → Ending → Bool → (old new : User) → (before after : List ℕ) → Type 0
+DidFill f e asked old new before after = IsRow true false None (goes (filled_program f (in_core before old).inner)) false e asked old new after
 
 -- what the row of a supervisor entry says of this user
 abbrev pub entry_line : Result Call EntryFault → User → Option Line

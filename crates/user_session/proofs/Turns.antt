@@ -1,26 +1,10 @@
--- Turns of users that are told in another way.
-use Rattle.std.proofs.Common.{◌≡◌, ℕ, suc, ◌+◌, ◌-◌, Bool, List, [], ◌∷◌, ◌++◌, sym, ap, ◌∙◌, subst, add-one}
-use Rattle.time_sharing.specs.Machine.{Line, Item, Out, Ending}
+-- Users whose program stopped, told in another way.
+use Rattle.std.proofs.Common.{◌≡◌, ℕ, suc, ◌+◌, ◌-◌, List, [], ◌∷◌, ◌++◌, ap, ◌∙◌, add-one}
+use Rattle.time_sharing.specs.Machine.{Line, Item, Out}
 use Rattle.cpu_regs.specs.declared.regs.Regs.{Regs}
 use Rattle.program_model.specs.declared.ProgramState.TheVariants.{Dormant}
 use Rattle.user_model.specs.Texts.{ready_text, stop_text}
-use Rattle.user_model.specs.User.{User, IsStep}
-
--- what a step leaves
-pub left_so : (e : Ending) (asked : Bool) (t : ℕ) (p q r : User) (c d : List ℕ) → r ≡ q → IsStep e asked t p q c d → IsStep e asked t p r c d
-left_so e asked t p q r c d is h = subst (λ (x : User). IsStep e asked t p x c d) (sym is) h
-
--- what a step leaves, and its core
-pub left_both : (e : Ending) (asked : Bool) (t : ℕ) (p q r : User) (c d b : List ℕ) → r ≡ q → b ≡ d → IsStep e asked t p q c d → IsStep e asked t p r c b
-left_both e asked t p q r c d b is same h =
-    subst (λ (ws : List ℕ). IsStep e asked t p r c ws) (sym same) (left_so e asked t p q r c d is h)
-
--- a program that went on with these registers
-pub went_so : (p v : User) (r : Regs) (items : List Item) (own : ℕ) → v ≡ p → items ≡ v.transcript → own ≡ suc v.own →
-    record v { inner = record v.inner { regs = r }; transcript = items; own = own } ≡ record p { inner = record p.inner { regs = r }; own = suc p.own }
-went_so p v r items own is same more =
-    (λ j. record v { inner = record v.inner { regs = r }; transcript = same j; own = more j })
-    ∙ ap (λ (u : User). record u { inner = record u.inner { regs = r }; own = suc u.own }) is
+use Rattle.user_model.specs.User.{User}
 
 -- a program that stopped, with the reason
 abbrev stopped : User → Regs → Line → ℕ → User

@@ -8,4 +8,5 @@ mod refusal;
 
 pub use directory::listing;
 pub use lines::{line_words, printed};
+pub use part::put;
 pub use refusal::{mode_within, refusal_text};

@@ -6,13 +6,14 @@ ghost use Rattle.file_model.specs.Texts.{right};
 
 use arrayvec::ArrayVec;
 
-/// Adds a part.
+/// Adds a part of a line.
 #[tactic(auto, using(ctss_types::proofs::Trim::all_of_both))]
 pub fn put(text: &mut ArrayVec<u8, 84>, part: &[u8])
     requires room { length text.old.items + length part.now ≤ 84 }
     requires before { list_all is_character text.old.items ≡ true }
     requires part { list_all is_character part.now ≡ true }
     ensures text { text.new.items ≡ text.old.items ++ part.now }
+    ensures length { length text.new.items ≡ length text.old.items + length part.now }
     ensures characters { list_all is_character text.new.items ≡ true }
 {
     let _ = text.try_extend_from_slice(part);

@@ -1,10 +1,11 @@
 //! The table of commands: what a line asks for. The definition is `Requests` of user_model.
 #![tactic(auto)]
 
-ghost use Rattle.std.specs.Prelude.{◌≡◌, ◌∷◌, [], length, drop, nat_eq, MatchOption, None, Some};
+ghost use Rattle.std.specs.Prelude.{◌≡◌, ◌≤◌, ◌∷◌, [], length, drop, nat_eq, true, MatchOption, None, Some};
+ghost use Rattle.std.specs.List.{list_all};
 ghost use Rattle.std.specs.Option.{unwrap_or};
 ghost use Rattle.ctss_types.specs.Words.{words_of};
-ghost use Rattle.user_model.specs.Requests.{word_name, file_in, digit_in, alone, rename_of, chmode_of, command_by, command_of};
+ghost use Rattle.user_model.specs.Requests.{word_name, file_in, digit_in, alone, rename_of, chmode_of, is_octal_digit, octal_from, place_in, post_mortem_of, command_by, command_of};
 ghost use Rattle.command_table.specs.Words.{file_first, one_name, one_file};
 
 use ctss_types::{FileName, LineText, first_word, name_word};
@@ -53,6 +54,16 @@ fn command_by(name: &[u8], rest: &[u8]) -> Option<Command>
         change_mode(rest)
     } else if name == b"INPUT".as_slice() {
         one_file(rest).map(Command::Input)
+    } else if name == b"FAP".as_slice() {
+        one_name(rest).map(Command::Assemble)
+    } else if name == b"START".as_slice() {
+        alone(Command::Start, rest)
+    } else if name == b"SAVE".as_slice() {
+        one_name(rest).map(Command::Save)
+    } else if name == b"RESUME".as_slice() {
+        one_name(rest).map(Command::Resume)
+    } else if name == b"PM".as_slice() {
+        post_mortem(rest)
     } else {
         Some(Command::Unknown)
     }
@@ -114,6 +125,53 @@ fn change_mode(rest: &[u8]) -> Option<Command>
     } else {
         None
     }
+}
+
+/// PM, with nothing or a place behind it.
+fn post_mortem(rest: &[u8]) -> Option<Command>
+    ensures { unwrap_or result Command.BadArguments ≡ post_mortem_of (words_of rest.now) }
+{
+    let Some((word, behind)) = next_word(rest) else {
+        return Some(Command::Registers);
+    };
+    let place = place_in(word)?;
+    if is_over(behind) {
+        Some(Command::WordAt { place })
+    } else {
+        None
+    }
+}
+
+/// A word of one to five octal digits as a place.
+fn place_in(word: &[u8]) -> Option<u16>
+    ensures { result ≡ place_in word.now }
+{
+    if 1 <= word.len() && word.len() <= 5 && are_octal(word) {
+        Some(octal_value(word))
+    } else {
+        None
+    }
+}
+
+/// Whether all are octal digits.
+fn are_octal(word: &[u8]) -> bool
+    ensures { result ≡ list_all is_octal_digit word.now }
+{
+    word.iter().all(|digit| 48 <= *digit && *digit <= 55)
+}
+
+/// The number that at most five octal digits spell.
+#[tactic(auto, using(crate::proofs::Places::places))]
+fn octal_value(word: &[u8]) -> u16
+    requires digits { list_all is_octal_digit word.now ≡ true }
+    requires few { length word.now ≤ 5 }
+    ensures { result ≡ octal_from 0 word.now }
+{
+    let mut place = 0;
+    'digits: for digit in word {
+        place = 8 * place + u16::from(*digit - b'0');
+    }
+    place
 }
 
 /// A word of one digit as its value.

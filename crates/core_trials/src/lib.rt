@@ -1,7 +1,11 @@
-//! Trials of core: who owns which block, and users' images over core and drum.
+//! Trials of core and drum: who owns which block, records and the blocks kept there, and users' images over both.
 #![tactic(auto)]
 
 #[cfg(test)]
 mod images;
 #[cfg(test)]
+mod media;
+#[cfg(test)]
 mod owners;
+#[cfg(test)]
+mod slots;

@@ -1,8 +1,10 @@
-//! Trials of the machine's parts: operations, registers, relocation, and cores.
+//! Trials of the machine's parts: words and characters, sums, products and shifts, operations, registers, relocation, and cores.
 #![tactic(auto)]
 
 #[cfg(test)]
 mod banks;
+#[cfg(test)]
+mod characters;
 #[cfg(test)]
 mod cores;
 #[cfg(test)]
@@ -11,3 +13,9 @@ mod operations;
 mod registers;
 #[cfg(test)]
 mod relocation;
+#[cfg(test)]
+mod shifts;
+#[cfg(test)]
+mod sums;
+#[cfg(test)]
+mod words;

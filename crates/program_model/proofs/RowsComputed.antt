@@ -1,8 +1,9 @@
 -- The worked rows by computing.
 use Rattle.std.proofs.Common.{refl}
+use Rattle.word36.specs.Octal.{octal_digits}
 use Rattle.ctss_types.specs.Words.{name_of}
 use Rattle.program_model.specs.Decks.{filled}
-use Rattle.program_model.specs.Rows.{RowOfCalls, RowOfFileCalls, RowOfLines, RowOfDecks}
+use Rattle.program_model.specs.Rows.{RowOfCalls, RowOfFileCalls, RowOfLines, RowOfDecks, RowOfSaved}
 
 pub row_of_calls : RowOfCalls
 unfolding name_of
@@ -19,3 +20,7 @@ row_of_lines = record { padded = refl; cut = refl; line = refl; zeros = refl; li
 pub row_of_decks : RowOfDecks
 unfolding filled
 row_of_decks = record { deck_is = refl; absent = refl; empty = refl; no_blocks = refl; start = refl; short = refl; none = refl; past = refl; at_end = refl; large = refl; larger = refl; filled_is = refl }
+
+pub row_of_saved : RowOfSaved
+unfolding octal_digits
+row_of_saved = record { head = refl; back = refl; size = refl; large = refl; short = refl; none = refl; minus = refl; empty = refl; absent = refl; lines = refl; word = refl; outside = refl }

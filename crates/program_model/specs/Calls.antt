@@ -1,5 +1,5 @@
 -- claim: supervisor entries: how the arguments of a call are read, and what an answer leaves in the registers.
-use Rattle.std.specs.Prelude.{ℕ, ◌+◌, ◌-◌, ◌%◌, ◌^◌, Bool, true, false, ◌&&◌, nat_eq, nat_lt, nat_le, if◌then◌else◌, List, length, slice_index, codes, Option, Some, None, Ok, Err}
+use Rattle.std.specs.Prelude.{ℕ, ◌+◌, ◌-◌, ◌%◌, ◌^◌, Bool, false, ◌&&◌, nat_eq, nat_lt, nat_le, if◌then◌else◌, List, length, slice_index, codes, Option, Some, None, Ok, Err}
 use Rattle.std.specs.declared.result.Result.{Result}
 use Rattle.word36.specs.Bits.{address_of, decrement_of, magnitude_of}
 use Rattle.ctss_types.specs.Names.{NamePair}

@@ -1,6 +1,6 @@
 -- claim: a deck: a word with the start in its decrement and the number of blocks in its address, and then segments to the end,
 -- each a word with the count in its decrement and the first place in its address, and that many words.
-use Rattle.std.specs.Prelude.{ℕ, zero, suc, ◌+◌, ◌*◌, Bool, true, false, ◌&&◌, nat_eq, nat_lt, nat_le, if◌then◌else◌, List, [], ◌∷◌, slice_set, drop, codes, Ok, Err}
+use Rattle.std.specs.Prelude.{ℕ, zero, suc, ◌+◌, ◌*◌, Bool, ◌&&◌, nat_eq, nat_lt, nat_le, if◌then◌else◌, List, [], ◌∷◌, slice_set, drop, codes, Ok, Err}
 use Rattle.std.specs.declared.result.Result.{Result}
 use Rattle.word36.specs.Bits.{address_of, decrement_of}
 use Rattle.program_model.specs.declared.Deck.{Deck}

@@ -1,4 +1,6 @@
 pub mod Calls
 pub mod Lines
 pub mod Decks
+pub mod Saved
+pub mod Fills
 pub mod Rows

@@ -1,6 +1,5 @@
 -- claim: worked rows of programs.
-use Rattle.std.specs.Prelude.{◌≡◌, ℕ, ◌^◌, ◌*◌, ◌+◌, ◌-◌, false, List, [], ◌∷◌, ◌++◌, replicate, codes, Ok, Err, Some, None}
-use Rattle.std.specs.declared.result.Result.{Result}
+use Rattle.std.specs.Prelude.{◌≡◌, ℕ, ◌^◌, ◌*◌, ◌+◌, ◌-◌, true, false, List, [], ◌∷◌, ◌++◌, replicate, codes, Ok, Err, Some, None}
 use Rattle.ctss_types.specs.Names.{NamePair}
 use Rattle.ctss_types.specs.Words.{name_of}
 use Rattle.cpu_regs.specs.declared.regs.Regs.{Regs}
@@ -13,6 +12,7 @@ use Rattle.ctss_types.specs.declared.file.Refusal.TheVariants as refusal
 use Rattle.program_model.specs.Calls.{call_of, answered, behind_call}
 use Rattle.program_model.specs.Lines.{line_of_words, lines_of_words, words_of_line, words_at, with_words}
 use Rattle.program_model.specs.Decks.{deck_in, deck_of, filled}
+use Rattle.program_model.specs.Saved.{head_of, saved, regs_in, saved_in, saved_of, register_lines, word_line}
 
 -- registers of a program that called from a place
 abbrev pub called_from : ℕ → Regs
@@ -96,3 +96,31 @@ pub record RowOfDecks : Type 0 where
   pub large : deck_in 1 (counted 8 2 ∷ []) ≡ Err TooLarge
   pub larger : deck_in 128 (counted 8 129 ∷ []) ≡ Err BadDeck
   pub filled_is : filled (counted 2 1 ∷ counted 2 1 ∷ 5 ∷ 6 ∷ counted 1 0 ∷ 7 ∷ []) (0 ∷ 0 ∷ 0 ∷ 0 ∷ []) ≡ 7 ∷ 5 ∷ 6 ∷ 0 ∷ []
+
+-- registers that differ from each other
+abbrev pub some_registers : Regs
+some_registers =
+    record {
+      ac = record { negative = true; magnitude = 2 ^ 36 + 5 };
+      mq = 2 ^ 35 + 6;
+      si = 7;
+      ic = 9;
+      overflow = true;
+      divide_check = false;
+      index = 11 ∷ 12 ∷ 13 ∷ 14 ∷ 15 ∷ 16 ∷ 17 ∷ [];
+    }
+
+pub record RowOfSaved : Type 0 where
+  pub head : head_of 1 some_registers ≡ 1 ∷ (2 ^ 35 + 5) ∷ 2 ∷ (2 ^ 35 + 6) ∷ 7 ∷ 11 ∷ 12 ∷ 13 ∷ 14 ∷ 15 ∷ 16 ∷ 17 ∷ 9 ∷ 1 ∷ 0 ∷ 0 ∷ []
+  pub back : regs_in (saved 1 some_registers (replicate 256 0)) ≡ some_registers
+  pub size : saved_in 1 (saved 1 some_registers (replicate 256 0)) ≡ Ok 1
+  pub large : saved_in 1 (saved 2 some_registers (replicate 512 0)) ≡ Err TooLarge
+  pub short : saved_in 1 (saved 1 some_registers (replicate 255 0)) ≡ Err BadDeck
+  pub none : saved_in 1 (saved 0 some_registers []) ≡ Err BadDeck
+  pub minus : saved_in 128 ((2 ^ 35 + 1) ∷ replicate 271 0) ≡ Err BadDeck
+  pub empty : saved_in 1 [] ≡ Err BadDeck
+  pub absent : saved_of 1 (Err refusal.NoFile) ≡ Err NoFile
+  pub lines : register_lines some_registers
+      ≡ codes "IC 00011 AC -1000000000005 MQ 400000000006" ∷ codes "SI 000000000007 OV 1 DC 0" ∷ codes "XR 00013 00014 00015 00016 00017 00020 00021" ∷ []
+  pub word : word_line (5 ∷ 6 ∷ []) 1 ≡ codes "00001 000000000006"
+  pub outside : word_line (5 ∷ 6 ∷ []) 2 ≡ codes "PROTECTION"

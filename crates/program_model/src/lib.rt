@@ -5,7 +5,7 @@
 //! (worked rows). The functions here do nothing: each carries a row.
 #![tactic(auto)]
 
-ghost use Rattle.program_model.specs.Rows.{RowOfCalls, RowOfFileCalls, RowOfLines, RowOfDecks};
+ghost use Rattle.program_model.specs.Rows.{RowOfCalls, RowOfFileCalls, RowOfLines, RowOfDecks, RowOfSaved};
 
 use ctss_types::FileName;
 use thiserror::Error;
@@ -99,11 +99,13 @@ pub enum LoadFault {
     TooLarge,
 }
 
-/// A program that has its core, into which the deck of this file is still to be stored.
+/// What is still to be stored into the core of a program that has it.
 #[derive(Clone, Copy, Debug, PartialEq, Eq)]
-pub struct Fill {
-    pub name: FileName,
-    pub start: u16,
+pub enum Fill {
+    /// The deck of this file, and where it starts.
+    Deck { name: FileName, start: u16 },
+    /// The saved program of this file.
+    Saved { name: FileName },
 }
 
 /// Whether a user has a program, and whether it runs.
@@ -139,4 +141,10 @@ pub fn row_of_lines()
 #[tactic(auto, using(crate::proofs::RowsComputed::row_of_decks))]
 pub fn row_of_decks()
     ensures { RowOfDecks }
+{}
+
+/// Saved programs, and what is printed of one that stopped.
+#[tactic(auto, using(crate::proofs::RowsComputed::row_of_saved))]
+pub fn row_of_saved()
+    ensures { RowOfSaved }
 {}

@@ -11,4 +11,5 @@ pub mod CardRooms
 pub mod Reaches
 pub mod EndCards
 pub mod AssemblyLaws
+pub mod SavedLaws
 pub mod RowsComputed

@@ -3,4 +3,5 @@ pub mod Words
 pub mod Decks
 pub mod Cards
 pub mod Assembly
+pub mod SavedPrograms
 pub mod Rows

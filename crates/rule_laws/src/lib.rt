@@ -2,7 +2,7 @@
 //!
 //! The words of these laws stand in `specs/`: `Levels` (the level that fits), `Words` (the words of instructions),
 //! `Decks` (segments laid end to end, and what they leave in a core), `Cards` (places and symbols), `Assembly` (the
-//! assembler's decks as the loader reads them), `Rows` (worked rows). The functions here do nothing: each carries a law
+//! assembler's decks as the loader reads them), `SavedPrograms` (saved and resumed), `Rows` (worked rows). The functions here do nothing: each carries a law
 //! or a row.
 #![tactic(auto)]
 
@@ -11,6 +11,7 @@ ghost use Rattle.rule_laws.specs.Words.{CodeIsBack};
 ghost use Rattle.rule_laws.specs.Decks.{DeckIsLaid, SegmentsAreStored};
 ghost use Rattle.rule_laws.specs.Cards.{PlaceOfCard, ValueOfSymbol};
 ghost use Rattle.rule_laws.specs.Assembly.{DeckIsStored};
+ghost use Rattle.rule_laws.specs.SavedPrograms.{SavedIsBack};
 ghost use Rattle.rule_laws.specs.Rows.{RowOfCodes, RowOfLaid, RowOfCards};
 
 /// A program's level is the greatest of at most 8 whose power of two fits.
@@ -48,6 +49,12 @@ pub fn value_of_symbol()
 /// the cards' words at their places.
 pub fn deck_is_stored()
     ensures { DeckIsStored }
+{}
+
+/// A program that was saved and is resumed is the program: its size, its registers and its core.
+#[tactic(auto, using(crate::proofs::SavedLaws::saved_is_back))]
+pub fn saved_is_back()
+    ensures { SavedIsBack }
 {}
 
 /// Words with zeros in the positions that their class doesn't use.

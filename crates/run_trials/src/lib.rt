@@ -2,6 +2,8 @@
 #![tactic(auto)]
 
 #[cfg(test)]
+mod assembling;
+#[cfg(test)]
 mod drums;
 #[cfg(test)]
 mod ends;
@@ -13,6 +15,8 @@ mod keeping;
 mod modes;
 #[cfg(test)]
 mod play;
+#[cfg(test)]
+mod saving;
 #[cfg(test)]
 mod services;
 #[cfg(test)]

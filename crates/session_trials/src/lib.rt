@@ -1,6 +1,12 @@
-//! Trials of a user's session: lines, commands, programs with their entries, and the level queues.
+//! Trials of one user: directories and their quotas, decks, saved programs and cards, calls and commands, sessions and levels.
 #![tactic(auto)]
 
+#[cfg(test)]
+mod cards;
+#[cfg(test)]
+mod decks;
+#[cfg(test)]
+mod directories;
 #[cfg(test)]
 mod entries;
 #[cfg(test)]
@@ -10,4 +16,8 @@ mod lines;
 #[cfg(test)]
 mod requests;
 #[cfg(test)]
+mod saved;
+#[cfg(test)]
 mod sessions;
+#[cfg(test)]
+mod texts;

@@ -37,6 +37,16 @@ fn lines_ask_for_commands(rt: HostRuntime) -> Result<(), Fail> {
         },
     )?;
     asks(&rt, b"INPUT NOTES TEXT", Command::Input(notes))?;
+    asks(&rt, b"FAP SAY", Command::Assemble(name_word(b"SAY")))?;
+    asks(&rt, b"START", Command::Start)?;
+    asks(&rt, b"SAVE SAY", Command::Save(name_word(b"SAY")))?;
+    asks(&rt, b"RESUME SAY", Command::Resume(name_word(b"SAY")))?;
+    asks(&rt, b"PM", Command::Registers)?;
+    asks(&rt, b"PM 17", Command::WordAt { place: 15 })?;
+    asks(&rt, b"PM 77777", Command::WordAt { place: 32767 })?;
+    asks(&rt, b"PM 8", Command::BadArguments)?;
+    asks(&rt, b"PM 123456", Command::BadArguments)?;
+    asks(&rt, b"SAVE SAY BSS", Command::BadArguments)?;
     asks(&rt, b"INPUT NOTES", Command::BadArguments)?;
     asks(&rt, b"CHMODE NOTES TEXT 10", Command::BadArguments)?;
     asks(&rt, b"DELETE NOTEBOOK TEXT", Command::BadArguments)?;

@@ -1,9 +1,24 @@
-//! Trials of the shared types, and of scripts as they are read.
+//! Trials of texts: the shared types, scripts as they are read and made, reports and summaries, cards assembled, streams, and the words of
+//! the command line.
 #![tactic(auto)]
 
 #[cfg(test)]
+mod assemble;
+#[cfg(test)]
 mod base;
 #[cfg(test)]
+mod command;
+#[cfg(test)]
+mod made;
+#[cfg(test)]
+mod read;
+#[cfg(test)]
+mod report;
+#[cfg(test)]
 mod script;
+#[cfg(test)]
+mod streams;
+#[cfg(test)]
+mod summary;
 #[cfg(test)]
 mod types;

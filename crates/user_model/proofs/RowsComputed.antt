@@ -2,14 +2,19 @@
 use Rattle.std.proofs.Common.{refl}
 use Rattle.std.specs.Fmt.{digits}
 use Rattle.ctss_types.specs.Words.{name_of}
+use Rattle.fap_model.specs.Decks.{assembled}
 use Rattle.user_model.specs.Requests.{command_of}
-use Rattle.user_model.specs.Texts.{time_text, ready_text}
-use Rattle.user_model.specs.Rows.{RowOfRequests, RowOfInput}
+use Rattle.user_model.specs.Texts.{time_text, ready_text, fault_text}
+use Rattle.user_model.specs.Rows.{RowOfRequests, RowOfInput, RowOfAssembly}
 
 pub row_of_requests : RowOfRequests
 unfolding command_of name_of
-row_of_requests = record { empty = refl; list = refl; list_of = refl; print = refl; rename = refl; rename_to = refl; delete = refl; long = refl; long_second = refl; mode = refl; digits = refl; letter = refl; input = refl; load = refl; out = refl; unknown = refl }
+row_of_requests = record { empty = refl; list = refl; list_of = refl; print = refl; rename = refl; rename_to = refl; delete = refl; long = refl; long_second = refl; mode = refl; digits = refl; letter = refl; input = refl; load = refl; start = refl; save = refl; resume = refl; registers = refl; place = refl; long_place = refl; no_octal = refl; out = refl; unknown = refl }
 
 pub row_of_input : RowOfInput
 unfolding name_of digits time_text ready_text
 row_of_input = record { begun = refl; there = refl; no_track = refl; typed = refl; full = refl; over = refl; quit = refl; shown = refl; gone = refl; absent = refl; mode = refl }
+
+pub row_of_assembly : RowOfAssembly
+unfolding command_of name_of digits time_text ready_text fault_text assembled
+row_of_assembly = record { asked = refl; names = refl; made = refl; no_room = refl; faults = refl; absent = refl }

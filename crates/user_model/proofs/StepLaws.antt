@@ -24,11 +24,14 @@ use Rattle.program_model.specs.declared.ProgramState.TheVariants.{Dead, Dormant,
 use Rattle.program_model.specs.Calls.{call_of, is_line_count}
 use Rattle.program_model.specs.Decks.{deck_of, deck_name}
 use Rattle.program_model.specs.Lines.{words_at, words_of_line}
+use Rattle.program_model.specs.Saved.{saved, saved_of, saved_name}
+use Rattle.fap_model.specs.Cards.{cards_of}
+use Rattle.fap_model.specs.Decks.{Assembled, deck, faulty, assembled}
 use Rattle.user_model.specs.Inner.{Inner}
 use Rattle.user_model.specs.declared.Command.{Command}
-use Rattle.user_model.specs.declared.Command.TheVariants.{Empty, Logout, LoadGo, List as Lists, Print, Rename, Delete, ChangeMode, Input, BadArguments, Unknown}
+use Rattle.user_model.specs.declared.Command.TheVariants.{Empty, Logout, LoadGo, List as Lists, Print, Rename, Delete, ChangeMode, Input, Assemble, Start, Save, Resume, Registers, WordAt, BadArguments, Unknown}
 use Rattle.user_model.specs.Requests.{command_of}
-use Rattle.user_model.specs.Commands.{command_row, prepared, changed, input_made, input_begun, input_row, line_entered}
+use Rattle.user_model.specs.Commands.{command_row, prepared, resumed, is_dormant, if_dormant, cards_name, assembly_put, cards_assembled, changed, input_made, input_begun, input_row, line_entered}
 use Rattle.user_model.specs.Programs.{step_row, entry_row, call_row, file_told, file_read, files_changed, program_row, program_reads, program_asks, reads_line, is_clock, asks_time, filled_program, goes}
 use Rattle.user_model.specs.Session.{user_rows, works_in, is_none, counts_anew, act_in, line_row, asks_clock_in, takes_line_in}
 use Rattle.user_model.specs.User.{User, can_step, step, ending, asks_clock}
@@ -85,7 +88,7 @@ program_front (Some f) i l n t = refl
 program_front None i l n t = step_front (table i.regs i.core) i l n t
 
 prepared_front : (name : ℕ) (deck : Result Deck LoadFault) (i : Inner) (n t : ℕ) → (prepared name deck i n t).front ≡ []
-prepared_front name (Ok deck) i n t = refl
+prepared_front name (Ok d) i n t = refl
 prepared_front name (Err fault) i n t = refl
 
 change_front : (told : Result (List FileBody) Refusal) (i : Inner) (n t : ℕ) → (changed told i n t).front ≡ []
@@ -107,6 +110,21 @@ entered_front (Err r) i n = refl
 input_front : (name : NamePair) (l : Line) (i : Inner) (n : ℕ) → (input_row name l i n).front ≡ []
 input_front name l i n = if_front (nat_eq (length l) 0) _ _ refl (entered_front (appended name (words_of_line 14 l) i.account.tracks i.files) i n)
 
+resumed_front : (name : ℕ) (blocks : Result ℕ LoadFault) (i : Inner) (n t : ℕ) → (resumed name blocks i n t).front ≡ []
+resumed_front name (Ok blocks) i n t = refl
+resumed_front name (Err fault) i n t = refl
+
+dormant_front : (o : Outcome Inner) (i : Inner) (n t : ℕ) → o.front ≡ [] → (if_dormant o i n t).front ≡ []
+dormant_front o i n t h = if_front (is_dormant i.state) _ _ h refl
+
+assembly_front : (name : ℕ) (a : Assembled) (i : Inner) (n t : ℕ) → (assembly_put name a i n t).front ≡ []
+assembly_front name (deck words) i n t = change_front (put (deck_name name) words i.account.tracks i.files) i n t
+assembly_front name (faulty faults) i n t = refl
+
+cards_front : (name : ℕ) (file : Result (List ℕ) Refusal) (i : Inner) (n t : ℕ) → (cards_assembled name file i n t).front ≡ []
+cards_front name (Ok words) i n t = assembly_front name (assembled (cards_of words)) i n t
+cards_front name (Err r) i n t = refl
+
 command_front : (c : Command) (i : Inner) (n t : ℕ) → (command_row c i n t).front ≡ []
 command_front Empty i n t = refl
 command_front Logout i n t = refl
@@ -117,6 +135,12 @@ command_front (Rename name to) i n t = change_front (renamed name to i.files) i 
 command_front (Delete name) i n t = change_front (deleted name i.files) i n t
 command_front (ChangeMode name mode) i n t = change_front (moded name mode i.files) i n t
 command_front (Input name) i n t = begun_front name (file_named name i.files) i n t
+command_front (Assemble name) i n t = cards_front name (got (cards_name name) i.files) i n t
+command_front Start i n t = dormant_front _ i n t refl
+command_front (Save name) i n t = dormant_front _ i n t (change_front (put (saved_name name) (saved i.blocks i.regs i.core) i.account.tracks i.files) i n t)
+command_front (Resume name) i n t = resumed_front name (saved_of i.account.blocks (got (saved_name name) i.files)) i n t
+command_front Registers i n t = dormant_front _ i n t refl
+command_front (WordAt place) i n t = dormant_front _ i n t refl
 command_front BadArguments i n t = refl
 command_front Unknown i n t = refl
 

@@ -23,11 +23,14 @@ use Rattle.program_model.specs.declared.ProgramState.TheVariants.{Dead, Dormant,
 use Rattle.program_model.specs.Calls.{call_of, is_line_count}
 use Rattle.program_model.specs.Decks.{deck_of, deck_name}
 use Rattle.program_model.specs.Lines.{words_at, words_of_line}
+use Rattle.program_model.specs.Saved.{saved, saved_of, saved_name}
+use Rattle.fap_model.specs.Cards.{cards_of}
+use Rattle.fap_model.specs.Decks.{Assembled, deck, faulty, assembled}
 use Rattle.user_model.specs.Inner.{Inner, blocks_of}
 use Rattle.user_model.specs.declared.Command.{Command}
-use Rattle.user_model.specs.declared.Command.TheVariants.{Empty, Logout, LoadGo, List as Lists, Print, Rename, Delete, ChangeMode, Input, BadArguments, Unknown}
+use Rattle.user_model.specs.declared.Command.TheVariants.{Empty, Logout, LoadGo, List as Lists, Print, Rename, Delete, ChangeMode, Input, Assemble, Start, Save, Resume, Registers, WordAt, BadArguments, Unknown}
 use Rattle.user_model.specs.Requests.{command_of}
-use Rattle.user_model.specs.Commands.{command_row, prepared, changed, input_made, input_begun, input_row, line_entered}
+use Rattle.user_model.specs.Commands.{command_row, prepared, resumed, is_dormant, if_dormant, cards_name, assembly_put, cards_assembled, changed, input_made, input_begun, input_row, line_entered}
 use Rattle.user_model.specs.Programs.{step_row, entry_row, call_row, file_told, file_read, files_changed, program_row}
 use Rattle.user_model.specs.Session.{user_rows, act_in, line_row}
 use Rattle.user_model.specs.User.{User, step, ending}
@@ -85,7 +88,7 @@ program_stays (Some f) i l n t = λ e. refl
 program_stays None i l n t = step_stays (table i.regs i.core) i l n t
 
 load_stays : (name : ℕ) (deck : Result Deck LoadFault) (i : Inner) (n t : ℕ) → SizeStays i (prepared name deck i n t)
-load_stays name (Ok deck) i n t = λ e. cc
+load_stays name (Ok d) i n t = λ e. cc
 load_stays name (Err fault) i n t = λ e. cc
 
 change_stays : (told : Result (List FileBody) Refusal) (i : Inner) (n t : ℕ) → SizeStays i (changed told i n t)
@@ -107,6 +110,21 @@ entered_stays (Err r) i n = λ e. cc
 input_stays : (name : NamePair) (l : Line) (i : Inner) (n : ℕ) → SizeStays i (input_row name l i n)
 input_stays name l i n = either_way (nat_eq (length l) 0) i _ _ (λ e. cc) (entered_stays (appended name (words_of_line 14 l) i.account.tracks i.files) i n)
 
+resumed_stays : (name : ℕ) (blocks : Result ℕ LoadFault) (i : Inner) (n t : ℕ) → SizeStays i (resumed name blocks i n t)
+resumed_stays name (Ok blocks) i n t = λ e. cc
+resumed_stays name (Err fault) i n t = λ e. cc
+
+dormant_stays : (o : Outcome Inner) (i : Inner) (n t : ℕ) → SizeStays i o → SizeStays i (if_dormant o i n t)
+dormant_stays o i n t h = either_way (is_dormant i.state) i _ _ h (λ e. cc)
+
+assembly_stays : (name : ℕ) (a : Assembled) (i : Inner) (n t : ℕ) → SizeStays i (assembly_put name a i n t)
+assembly_stays name (deck words) i n t = change_stays (put (deck_name name) words i.account.tracks i.files) i n t
+assembly_stays name (faulty faults) i n t = λ e. cc
+
+cards_stay : (name : ℕ) (file : Result (List ℕ) Refusal) (i : Inner) (n t : ℕ) → SizeStays i (cards_assembled name file i n t)
+cards_stay name (Ok words) i n t = assembly_stays name (assembled (cards_of words)) i n t
+cards_stay name (Err r) i n t = λ e. cc
+
 command_stays : (c : Command) (i : Inner) (n t : ℕ) → SizeStays i (command_row c i n t)
 command_stays Empty i n t = λ e. cc
 command_stays Logout i n t = λ e. cc
@@ -117,6 +135,12 @@ command_stays (Rename name to) i n t = change_stays (renamed name to i.files) i 
 command_stays (Delete name) i n t = change_stays (deleted name i.files) i n t
 command_stays (ChangeMode name mode) i n t = change_stays (moded name mode i.files) i n t
 command_stays (Input name) i n t = begun_stays name (file_named name i.files) i n t
+command_stays (Assemble name) i n t = cards_stay name (got (cards_name name) i.files) i n t
+command_stays Start i n t = dormant_stays _ i n t (λ e. cc)
+command_stays (Save name) i n t = dormant_stays _ i n t (change_stays (put (saved_name name) (saved i.blocks i.regs i.core) i.account.tracks i.files) i n t)
+command_stays (Resume name) i n t = resumed_stays name (saved_of i.account.blocks (got (saved_name name) i.files)) i n t
+command_stays Registers i n t = dormant_stays _ i n t (λ e. cc)
+command_stays (WordAt place) i n t = dormant_stays _ i n t (λ e. cc)
 command_stays BadArguments i n t = λ e. cc
 command_stays Unknown i n t = λ e. cc
 

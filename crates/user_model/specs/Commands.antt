@@ -1,25 +1,31 @@
 -- claim: what each command does, and what a line of INPUT does.
-use Rattle.std.specs.Prelude.{ℕ, List, [], ◌∷◌, ◌++◌, nat_eq, length, codes, if◌then◌else◌, Option, Some, None, Ok, Err}
+use Rattle.std.specs.Prelude.{ℕ, Bool, true, false, List, [], ◌∷◌, ◌++◌, nat_eq, length, map, codes, if◌then◌else◌, Option, Some, None, Ok, Err}
 use Rattle.std.specs.declared.result.Result.{Result}
 use Rattle.ctss_types.specs.Names.{NamePair}
+use Rattle.ctss_types.specs.Words.{name_of}
 use Rattle.ctss_types.specs.declared.file.FileBody.{FileBody}
 use Rattle.ctss_types.specs.declared.file.Refusal.{Refusal}
 use Rattle.ctss_types.specs.declared.file.Refusal.TheVariants.{NameUsed}
-use Rattle.time_sharing.specs.Machine.{Line, Stopped, Replaced, LoggedOut}
+use Rattle.time_sharing.specs.Machine.{Line, Stopped, Resized, Replaced, LoggedOut}
 use Rattle.time_sharing.specs.Rows.{Outcome}
 use Rattle.file_model.specs.Files.{file_named, got, put, appended, renamed, deleted, moded, lasting}
 use Rattle.file_model.specs.Texts.{listing_lines, refusal_text}
+use Rattle.fap_model.specs.Cards.{cards_of}
+use Rattle.fap_model.specs.Decks.{Assembled, deck, faulty, assembled}
 use Rattle.cpu_regs.specs.Registers.{no_registers}
-use Rattle.program_model.specs.declared.ProgramState.TheVariants.{Working}
+use Rattle.program_model.specs.declared.ProgramState.{ProgramState}
+use Rattle.program_model.specs.declared.ProgramState.TheVariants.{Dead, Dormant, Working}
+use Rattle.program_model.specs.declared.Fill.TheVariants as fill
 use Rattle.program_model.specs.declared.Deck.{Deck}
 use Rattle.program_model.specs.declared.LoadFault.{LoadFault}
 use Rattle.program_model.specs.declared.LoadFault.TheVariants.{NoFile, BadDeck, TooLarge}
 use Rattle.program_model.specs.Decks.{deck_of, deck_name}
+use Rattle.program_model.specs.Saved.{saved, saved_of, saved_name, register_lines, word_line}
 use Rattle.program_model.specs.Lines.{lines_of_words, words_of_line}
 use Rattle.user_model.specs.declared.Command.{Command}
-use Rattle.user_model.specs.declared.Command.TheVariants.{Empty, Logout, LoadGo, List as Lists, Print, Rename, Delete, ChangeMode, Input, BadArguments, Unknown}
+use Rattle.user_model.specs.declared.Command.TheVariants.{Empty, Logout, LoadGo, List as Lists, Print, Rename, Delete, ChangeMode, Input, Assemble, Start, Save, Resume, Registers, WordAt, BadArguments, Unknown}
 use Rattle.user_model.specs.Inner.{Inner, zeros, without_program}
-use Rattle.user_model.specs.Texts.{time_text, ready_text, logged_out_text}
+use Rattle.user_model.specs.Texts.{time_text, ready_text, logged_out_text, fault_text}
 
 -- a command that is done in this step, with its text and then R n
 abbrev pub says : List Line → Inner → ℕ → ℕ → Outcome Inner
@@ -34,9 +40,9 @@ load_text TooLarge = codes "TOO LARGE"
 
 -- a program of plus zeros with all registers zero takes the place of the one before; its deck is stored in the next step
 abbrev pub prepared : ℕ → Result Deck LoadFault → Inner → ℕ → ℕ → Outcome Inner
-prepared name (Ok deck) i n t =
+prepared name (Ok d) i n t =
     record {
-      inner = record i { state = Working; regs = no_registers; blocks = deck.blocks; core = zeros deck.blocks; fill = Some (record { name = deck_name name; start = deck.start }) };
+      inner = record i { state = Working; regs = no_registers; blocks = d.blocks; core = zeros d.blocks; fill = Some (fill.Deck (deck_name name) d.start) };
       written = time_text t ∷ [];
       front = [];
       ending = Replaced;
@@ -64,6 +70,45 @@ abbrev pub input_begun : NamePair → Option FileBody → Inner → ℕ → ℕ 
 input_begun name (Some f) i n t = says (refusal_text NameUsed ∷ []) i n t
 input_begun name None i n t = input_made name (put name [] i.account.tracks i.files) i n t
 
+-- a saved program takes the place of the one before; its words and registers are stored in the next step
+abbrev pub resumed : ℕ → Result ℕ LoadFault → Inner → ℕ → ℕ → Outcome Inner
+resumed name (Ok blocks) i n t =
+    record {
+      inner = record i { state = Working; regs = no_registers; blocks = blocks; core = zeros blocks; fill = Some (fill.Saved (saved_name name)) };
+      written = time_text t ∷ [];
+      front = [];
+      ending = Replaced;
+    }
+resumed name (Err fault) i n t = says (load_text fault ∷ []) i n t
+
+-- the program that stopped goes on
+abbrev pub started : Inner → ℕ → Outcome Inner
+started i t = record { inner = record i { state = Working }; written = time_text t ∷ []; front = []; ending = Resized }
+
+-- whether a program stopped, and is there
+abbrev pub is_dormant : ProgramState → Bool
+is_dormant Dead = false
+is_dormant Dormant = true
+is_dormant Working = false
+
+-- what asks for a program that stopped
+abbrev pub if_dormant : Outcome Inner → Inner → ℕ → ℕ → Outcome Inner
+if_dormant o i n t = if is_dormant i.state then o else says (codes "NO PROGRAM" ∷ []) i n t
+
+-- the file that a deck is assembled from
+abbrev pub cards_name : ℕ → NamePair
+cards_name name = record { first = name; second = name_of (codes "FAP") }
+
+-- a deck is put; where cards are at fault a line is printed for each, and nothing is put
+abbrev pub assembly_put : ℕ → Assembled → Inner → ℕ → ℕ → Outcome Inner
+assembly_put name (deck words) i n t = changed (put (deck_name name) words i.account.tracks i.files) i n t
+assembly_put name (faulty faults) i n t = says (map fault_text faults) i n t
+
+-- the cards of a file are assembled
+abbrev pub cards_assembled : ℕ → Result (List ℕ) Refusal → Inner → ℕ → ℕ → Outcome Inner
+cards_assembled name (Ok words) i n t = assembly_put name (assembled (cards_of words)) i n t
+cards_assembled name (Err r) i n t = says (refusal_text r ∷ []) i n t
+
 -- the row of a command, with n own steps since it and the clock at t
 abbrev pub command_row : Command → Inner → ℕ → ℕ → Outcome Inner
 command_row Empty i n t = says [] i n t
@@ -81,6 +126,13 @@ command_row (Rename name to) i n t = changed (renamed name to i.files) i n t
 command_row (Delete name) i n t = changed (deleted name i.files) i n t
 command_row (ChangeMode name mode) i n t = changed (moded name mode i.files) i n t
 command_row (Input name) i n t = input_begun name (file_named name i.files) i n t
+command_row (Assemble name) i n t = cards_assembled name (got (cards_name name) i.files) i n t
+command_row Start i n t = if_dormant (started i t) i n t
+command_row (Save name) i n t =
+    if_dormant (changed (put (saved_name name) (saved i.blocks i.regs i.core) i.account.tracks i.files) i n t) i n t
+command_row (Resume name) i n t = resumed name (saved_of i.account.blocks (got (saved_name name) i.files)) i n t
+command_row Registers i n t = if_dormant (says (register_lines i.regs) i n t) i n t
+command_row (WordAt place) i n t = if_dormant (says (word_line i.core place ∷ []) i n t) i n t
 command_row BadArguments i n t = says (codes "BAD ARGUMENTS" ∷ []) i n t
 command_row Unknown i n t = says (codes "NOT A COMMAND" ∷ []) i n t
 

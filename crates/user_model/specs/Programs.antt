@@ -16,9 +16,10 @@ use Rattle.program_model.specs.declared.EntryFault.{EntryFault}
 use Rattle.program_model.specs.declared.EntryFault.TheVariants.{NoSuchEntry, Outside}
 use Rattle.program_model.specs.declared.ProgramState.TheVariants as program
 use Rattle.program_model.specs.declared.Fill.{Fill}
+use Rattle.program_model.specs.Fills.{fill_name, filled_core, filled_regs}
 use Rattle.program_model.specs.Calls.{call_of, answered, is_line_count}
 use Rattle.program_model.specs.Lines.{line_of_words, words_of_line, words_at, with_words}
-use Rattle.program_model.specs.Decks.{words_got, filled}
+use Rattle.program_model.specs.Decks.{words_got}
 use Rattle.user_model.specs.Inner.{Inner, recut, without_program}
 use Rattle.user_model.specs.Texts.{ready_text, stop_text}
 
@@ -123,9 +124,11 @@ asks_time (entry w) i = is_clock (call_of i.regs i.core w)
 asks_time illegal i = false
 asks_time (outside a) i = false
 
--- the deck's words are stored, and the program begins
+-- a program is filled with the words of its file
 abbrev pub filled_program : Fill → Inner → Inner
-filled_program f i = record i { core = filled (words_got (got f.name i.files)) i.core; regs = record i.regs { ic = f.start }; fill = None }
+filled_program f i =
+    let words = words_got (got (fill_name f) i.files) in
+    record i { core = filled_core f words i.core; regs = filled_regs f words i.regs; fill = None }
 
 -- a program's step: of one that still has to be filled, that; else its next instruction
 abbrev pub program_row : Option Fill → Inner → Option Line → ℕ → ℕ → Outcome Inner

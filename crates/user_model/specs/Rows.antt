@@ -5,7 +5,8 @@ use Rattle.ctss_types.specs.Words.{name_of}
 use Rattle.ctss_types.specs.declared.file.FileBody.{FileBody}
 use Rattle.time_sharing.specs.Machine.{Line, Quit, Stopped}
 use Rattle.time_sharing.specs.Rows.{Outcome}
-use Rattle.user_model.specs.declared.Command.TheVariants.{Empty, LoadGo, List as Lists, Print, Rename, Delete, ChangeMode, Input, BadArguments, Unknown}
+use Rattle.user_model.specs.declared.Command.TheVariants.{Empty, LoadGo, List as Lists, Print, Rename, Delete, ChangeMode, Input, Assemble, Start, Save, Resume, Registers, WordAt, BadArguments, Unknown}
+use Rattle.program_model.specs.Lines.{words_of_line}
 use Rattle.user_model.specs.Inner.{Inner}
 use Rattle.user_model.specs.Requests.{command_of}
 use Rattle.user_model.specs.Commands.{command_row, input_row}
@@ -29,6 +30,13 @@ pub record RowOfRequests : Type 0 where
   pub letter : command_of (codes "CHMODE A B X") ≡ BadArguments
   pub input : command_of (codes "INPUT A B") ≡ Input (pair (codes "A") (codes "B"))
   pub load : command_of (codes "LOADGO A") ≡ LoadGo (name_of (codes "A"))
+  pub start : command_of (codes "START") ≡ Start
+  pub save : command_of (codes "SAVE A") ≡ Save (name_of (codes "A"))
+  pub resume : command_of (codes "RESUME A") ≡ Resume (name_of (codes "A"))
+  pub registers : command_of (codes "PM") ≡ Registers
+  pub place : command_of (codes "PM 77777") ≡ WordAt 32767
+  pub long_place : command_of (codes "PM 000010") ≡ BadArguments
+  pub no_octal : command_of (codes "PM 18") ≡ BadArguments
   pub out : command_of (codes "LOGOUT NOW") ≡ BadArguments
   pub unknown : command_of (codes "LIST") ≡ Unknown
 
@@ -66,3 +74,25 @@ pub record RowOfInput : Type 0 where
   pub absent : command_row (Delete notes) (typist 1 [] None) 1 0 ≡ outcome (typist 1 [] None) (midnight ∷ codes "FILE NOT FOUND" ∷ codes "R 1" ∷ [])
   pub mode : command_row (ChangeMode notes 4) (typist 1 (file [] ∷ []) None) 1 0
       ≡ outcome (typist 1 (file [] ∷ []) None) (midnight ∷ codes "BAD MODE" ∷ codes "R 1" ∷ [])
+
+-- a file of one card
+abbrev pub cards : Line → FileBody
+cards card = record { name = pair (codes "GREET") (codes "FAP"); mode = 1; words = words_of_line 14 card }
+
+abbrev pub greeting : ℕ
+greeting = name_of (codes "GREET")
+
+-- a deck of no word but the first
+abbrev pub end_deck : FileBody
+end_deck = record { name = pair (codes "GREET") (codes "BSS"); mode = 1; words = 1 ∷ [] }
+
+pub record RowOfAssembly : Type 0 where
+  pub asked : command_of (codes "FAP GREET") ≡ Assemble greeting
+  pub names : command_of (codes "FAP GREET FAP") ≡ BadArguments
+  pub made : command_row (Assemble greeting) (typist 2 (cards (codes "       END") ∷ []) None) 1 0
+      ≡ outcome (typist 2 (cards (codes "       END") ∷ end_deck ∷ []) None) (midnight ∷ codes "R 1" ∷ [])
+  pub no_room : command_row (Assemble greeting) (typist 1 (cards (codes "       END") ∷ []) None) 1 0
+      ≡ outcome (typist 1 (cards (codes "       END") ∷ []) None) (midnight ∷ codes "QUOTA EXCEEDED" ∷ codes "R 1" ∷ [])
+  pub faults : command_row (Assemble greeting) (typist 2 (cards (codes "       CLX     1") ∷ []) None) 1 0
+      ≡ outcome (typist 2 (cards (codes "       CLX     1") ∷ []) None) (midnight ∷ codes "CARD 1 FAULT 1" ∷ codes "CARD 2 FAULT 6" ∷ codes "R 1" ∷ [])
+  pub absent : command_row (Assemble greeting) (typist 2 [] None) 1 0 ≡ outcome (typist 2 [] None) (midnight ∷ codes "FILE NOT FOUND" ∷ codes "R 1" ∷ [])

@@ -27,3 +27,7 @@ logged_out_text name = text_of_name name ++ codes " LOGGED OUT"
 -- why a program stopped, and the place of the instruction in five octal digits
 unfoldable pub stop_text : Line → ℕ → Line
 stop_text why place = why ++ (codes " AT " ++ octal_digits 5 place)
+
+-- the number of a card at fault, and of its fault
+unfoldable pub fault_text : ℕ × ℕ → Line
+fault_text f = codes "CARD " ++ (decimal f.0 ++ (codes " FAULT " ++ decimal f.1))

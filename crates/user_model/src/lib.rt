@@ -5,7 +5,7 @@
 //! (the user's machine, closed, as contracts cite it), `Rows` (worked rows).
 #![tactic(auto)]
 
-ghost use Rattle.user_model.specs.Rows.{RowOfRequests, RowOfInput};
+ghost use Rattle.user_model.specs.Rows.{RowOfRequests, RowOfInput, RowOfAssembly};
 
 use ctss_types::FileName;
 use word36::Word;
@@ -28,6 +28,18 @@ pub enum Command {
     ChangeMode { name: FileName, mode: u8 },
     /// INPUT: the lines that come go to a new file, up to an empty line.
     Input(FileName),
+    /// FAP: the cards of a file are assembled, and their deck is put under this name.
+    Assemble(Word),
+    /// START: the program that stopped goes on.
+    Start,
+    /// SAVE: the program that stopped is saved under this name.
+    Save(Word),
+    /// RESUME: a saved program of this name is loaded, and goes on.
+    Resume(Word),
+    /// PM: the registers of the program that stopped.
+    Registers,
+    /// PM with a place: the word there.
+    WordAt { place: u16 },
     /// A known command with words that it doesn't take.
     BadArguments,
     /// A first word that is no command.
@@ -44,4 +56,10 @@ pub fn row_of_requests()
 #[tactic(auto, using(crate::proofs::RowsComputed::row_of_input))]
 pub fn row_of_input()
     ensures { RowOfInput }
+{}
+
+/// A file of cards assembled.
+#[tactic(auto, using(crate::proofs::RowsComputed::row_of_assembly))]
+pub fn row_of_assembly()
+    ensures { RowOfAssembly }
 {}

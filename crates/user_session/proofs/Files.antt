@@ -13,12 +13,14 @@ use Rattle.file_map.specs.declared.fault.PortFault.{PortFault}
 use Rattle.file_map.specs.declared.fault.PortFault.TheVariants.{Refused}
 use Rattle.file_map.specs.Answers.{Answers, Leaves}
 use Rattle.file_map.specs.Known.{known, known_of, AnswersOver}
-use Rattle.program_model.specs.declared.Deck.{Deck}
+use Rattle.cpu_regs.specs.declared.regs.Regs.{Regs}
+use Rattle.program_model.specs.declared.Fill.{Fill}
 use Rattle.program_model.specs.declared.LoadFault.{LoadFault}
-use Rattle.program_model.specs.Decks.{filled, words_got}
+use Rattle.program_model.specs.Decks.{words_got}
+use Rattle.program_model.specs.Fills.{fill_name}
 use Rattle.cmd_program.specs.declared.load.PrepareFault.{PrepareFault}
 use Rattle.cmd_program.specs.declared.load.PrepareFault.TheVariants.{Load}
-use Rattle.cmd_program.specs.Loads.{Prepares, PreparesOver, FillsOver}
+use Rattle.cmd_program.specs.Loads.{Prepares, PreparesOver, IsFilled, FillsOver}
 use Rattle.cmd_files.specs.Lines.{lines_got}
 use Rattle.user_model.specs.Inner.{Inner}
 use Rattle.user_model.specs.Commands.{says, printed, input_begun, input_made}
@@ -30,13 +32,13 @@ pub told_over : {T : Type 0} (result : Result T PortFault) (files : List FileBod
 unfolding known
 told_over result files told h = subst (λ (fs : List FileBody). Answers result (told fs)) h.1.0 h.1.1
 
-pub told_deck : (result : Result Deck PrepareFault) (files : List FileBody) (told : List FileBody → Result Deck LoadFault) → PreparesOver true files result told → Prepares result (told files)
+pub told_program : {T : Type 0} (result : Result T PrepareFault) (files : List FileBody) (told : List FileBody → Result T LoadFault) → PreparesOver true files result told → Prepares result (told files)
 unfolding known
-told_deck result files told h = subst (λ (fs : List FileBody). Prepares result (told fs)) h.1.0 h.1.1
+told_program result files told h = subst (λ (fs : List FileBody). Prepares result (told fs)) h.1.0 h.1.1
 
-pub fills_told : (files : List FileBody) (name : NamePair) (old new : List ℕ) → FillsOver true files name old new → new ≡ filled (words_got (got name files)) old
+pub fills_told : (files : List FileBody) (f : Fill) (before after : Regs) (old new : List ℕ) → FillsOver true files f before after old new → IsFilled f (words_got (got (fill_name f) files)) before after old new
 unfolding known
-fills_told files name old new h = h.1.1 ∙ ap (λ (fs : List FileBody). filled (words_got (got name fs)) old) h.1.0
+fills_told files f before after old new h = subst (λ (fs : List FileBody). IsFilled f (words_got (got (fill_name f) fs)) before after old new) h.1.0 h.1.1
 
 -- a file's lines, or why there are none
 pub printed_ok : (file : Result (List ℕ) Refusal) (lines : List Line) → lines_got file ≡ Ok lines → lines ≡ printed file
@@ -90,8 +92,8 @@ refused_told {T} fault r told is h = subst (λ (f : PortFault). Answers {T = T} 
 pub refused_over : {T : Type 0} (fault : PortFault) (r : Refusal) (files : List FileBody) (told : List FileBody → Result T Refusal) → fault ≡ Refused r → AnswersOver {T = T} true files (Err fault) told → told files ≡ Err r
 refused_over {T} fault r files told is h = refused_told {T = T} fault r (told files) is (told_over {T = T} (Err fault) files told h)
 
-pub refused_deck : (fault : PrepareFault) (f : LoadFault) (files : List FileBody) (told : List FileBody → Result Deck LoadFault) → fault ≡ Load f → PreparesOver true files (Err fault) told → told files ≡ Err f
-refused_deck fault f files told is h = subst (λ (x : PrepareFault). Prepares (Err x) (told files)) is (told_deck (Err fault) files told h)
+pub refused_program : {T : Type 0} (fault : PrepareFault) (f : LoadFault) (files : List FileBody) (told : List FileBody → Result T LoadFault) → fault ≡ Load f → PreparesOver {T = T} true files (Err fault) told → told files ≡ Err f
+refused_program {T} fault f files told is h = subst (λ (x : PrepareFault). Prepares {T = T} (Err x) (told files)) is (told_program {T = T} (Err fault) files told h)
 
 pub refused_change : (T : Type 0) (fault : PortFault) (r : Refusal) (told : Result (List FileBody) Refusal) (old new : List FileBody) → fault ≡ Refused r → Leaves {T = T} (Err fault) (known_of true told) old new → told ≡ Err r
 refused_change T fault r told old new is h = sym (known_told told) ∙ (subst (λ (f : PortFault). Leaves {T = T} (Err f) (known_of true told) old new) is h).0

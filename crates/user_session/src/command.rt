@@ -6,6 +6,7 @@ ghost use Rattle.cpu_regs.specs.Registers.{no_registers};
 ghost use Rattle.user_model.specs.declared.Command.{Command};
 ghost use Rattle.file_model.specs.Files.{got, lasting};
 ghost use Rattle.program_model.specs.Decks.{deck_of, deck_name};
+ghost use Rattle.program_model.specs.Fills.{StartsInCore};
 ghost use Rattle.program_model.specs.declared.ProgramState.TheVariants.{Dead, Working};
 ghost use Rattle.time_sharing.specs.Machine.{In, Out};
 ghost use Rattle.time_sharing.specs.Rows.{out_all};
@@ -14,7 +15,7 @@ ghost use Rattle.user_model.specs.Texts.{time_text, ready_text, logged_out_text}
 ghost use Rattle.user_model.specs.Answers.{DidCommand};
 ghost use Rattle.user_session.specs.Turns.{IsTurn};
 
-use crate::file_command::note_command;
+use crate::file_command::{note_command, note_taken};
 use crate::session::{Session, note};
 use crate::text::{load_text, logged_out_text, time_text};
 use crate::{Step, Turn};
@@ -28,7 +29,7 @@ use user_model::Command;
 use word36::Word;
 
 /// The file that a program of this name is loaded from.
-fn deck_name(name: Word) -> FileName
+pub(crate) fn deck_name(name: Word) -> FileName
     ensures { result ≡ deck_name name }
 {
     FileName::new(name, name_word(b"BSS"))
@@ -36,7 +37,12 @@ fn deck_name(name: Word) -> FileName
 
 impl Session {
     /// A line is taken: the line, the time, maybe a text, and R 1.
-    fn say(&mut self, line: LineText, text: Option<LineText>, now: u64) -> Result<(), NoMemory>
+    pub(crate) fn say(
+        &mut self,
+        line: LineText,
+        text: Option<LineText>,
+        now: u64,
+    ) -> Result<(), NoMemory>
         requires fits { self.old.own < 2 ^ 64 - 1 }
         ensures ok { OnOk result (self.new ≡ record self.old {
           unread = drop 1 self.old.unread;
@@ -54,7 +60,7 @@ impl Session {
     }
 
     /// A line is taken, with the time, this text and R 1.
-    fn say_why(&mut self, line: LineText, why: &[u8], now: u64) -> Result<(), NoMemory>
+    pub(crate) fn say_why(&mut self, line: LineText, why: &[u8], now: u64) -> Result<(), NoMemory>
         requires short { length why.now ≤ 84 }
         requires characters { list_all is_character why.now ≡ true }
         requires fits { self.old.own < 2 ^ 64 - 1 }
@@ -119,13 +125,19 @@ impl Session {
         }
     }
 
-    /// A program takes the place of the one before; its words are stored in the next step.
-    fn begin(&mut self, line: LineText, name: Word, deck: Deck, now: u64) -> Result<(), NoMemory>
+    /// A program takes the place of the one before; it is filled in the next step.
+    pub(crate) fn begin(
+        &mut self,
+        line: LineText,
+        blocks: u8,
+        fill: Fill,
+        now: u64,
+    ) -> Result<(), NoMemory>
         requires fits { self.old.own < 2 ^ 64 - 1 }
-        requires quota { deck.blocks ≤ self.old.inner.account.blocks }
-        requires start { deck.start < 2 ^ 15 }
+        requires quota { blocks ≤ self.old.inner.account.blocks }
+        requires start { StartsInCore fill }
         ensures ok { OnOk result (self.new ≡ record self.old {
-          inner = record self.old.inner { state = Working; regs = no_registers; blocks = deck.blocks; fill = Some (record { name = deck_name name; start = deck.start }) };
+          inner = record self.old.inner { state = Working; regs = no_registers; blocks = blocks; fill = Some fill };
           unread = drop 1 self.old.unread;
           transcript = self.old.transcript ++ In line ∷ Out (time_text now) ∷ [];
           own = suc self.old.own;
@@ -135,18 +147,12 @@ impl Session {
         ensures err { OnErr result (self.new ≡ self.old) }
     {
         self.items.reserve(2)?;
-        let _ = self.lines.take();
-        self.before = self.own;
-        self.own += 1;
-        note(&mut self.items, Item::In(line));
-        note(&mut self.items, Item::Out(time_text(now)));
+        note_taken(&mut self.items, line, now);
+        self.take_command();
         self.state = ProgramState::Working;
         self.regs = Regs::new();
-        self.blocks = deck.blocks;
-        self.fill = Some(Fill {
-            name: deck_name(name),
-            start: deck.start,
-        });
+        self.blocks = blocks;
+        self.fill = Some(fill);
         Ok(())
     }
 
@@ -168,7 +174,11 @@ impl Session {
     {
         match self.read_deck(name)? {
             Ok(deck) => {
-                self.begin(line, name, deck, now)?;
+                let fill = Fill::Deck {
+                    name: deck_name(name),
+                    start: deck.start,
+                };
+                self.begin(line, deck.blocks, fill, now)?;
                 Ok(Step {
                     ending: Ending::Replaced,
                     clock: true,
@@ -216,6 +226,12 @@ impl Session {
             Command::Delete(name) => self.delete(core, line, name, now),
             Command::ChangeMode { name, mode } => self.chmode(core, line, name, mode, now),
             Command::Input(name) => self.begin_input(core, line, name, now),
+            Command::Assemble(name) => self.assemble(core, line, name, now),
+            Command::Start => self.start(core, line, now),
+            Command::Save(name) => self.save(core, line, name, now),
+            Command::Resume(name) => self.resume(core, line, name, now),
+            Command::Registers => self.tell_registers(core, line, now),
+            Command::WordAt { place } => self.tell_word(core, line, place, now),
             Command::BadArguments => {
                 self.say_why(line, b"BAD ARGUMENTS", now)?;
                 Ok(Step {

@@ -7,7 +7,7 @@ ghost use Rattle.user_model.specs.declared.Command.{Command};
 ghost use Rattle.user_model.specs.Texts.{time_text, ready_text};
 ghost use Rattle.user_model.specs.Commands.{printed};
 ghost use Rattle.user_model.specs.Answers.{DidCommand};
-ghost use Rattle.user_session.specs.Changes.{change_text};
+ghost use Rattle.user_session.specs.Changes.{change_text, DidPut};
 
 use crate::Step;
 use crate::session::{Session, note};
@@ -17,6 +17,7 @@ use cpu_regs::MemoryPort;
 use ctss_types::{Ending, FileName, Item, LineList, LineText, NoMemory, Refusal, Sequence};
 use file_map::{FilePort, PortFault};
 use std::alloc::Global;
+use word36::Word;
 
 /// A command that is done, after which no program goes on.
 pub(crate) const DONE: Step = Step {
@@ -34,6 +35,15 @@ fn note_all(items: &mut Vec<Item>, lines: &[LineText])
     'lines: for line in lines {
         note(items, Item::Out(*line));
     }
+}
+
+/// A line taken as a command, after which no text is written yet: the line and the time, where there is room.
+pub(crate) fn note_taken(items: &mut Vec<Item>, line: LineText, now: u64)
+    requires { vec_len items.old + 1 < vec_capacity items.old }
+    ensures { items.new.items ≡ items.old.items ++ In line ∷ Out (time_text now) ∷ [] }
+{
+    note(items, Item::In(line));
+    note(items, Item::Out(time_text(now)));
 }
 
 /// A line taken as a command: the line, the time, maybe a text, and R 1, where there is room.
@@ -98,7 +108,12 @@ impl Session {
     }
 
     /// A line is taken: the line, the time, these texts, and R 1.
-    fn say_all(&mut self, line: LineText, lines: &[LineText], now: u64) -> Result<(), NoMemory>
+    pub(crate) fn say_all(
+        &mut self,
+        line: LineText,
+        lines: &[LineText],
+        now: u64,
+    ) -> Result<(), NoMemory>
         requires fits { self.old.own < 2 ^ 64 - 1 }
         ensures ok { OnOk result (self.new ≡ record self.old {
           unread = drop 1 self.old.unread;
@@ -113,6 +128,30 @@ impl Session {
         note_lines(&mut self.items, line, lines, now);
         self.take_command();
         Ok(())
+    }
+
+    /// A command that replaces a file's content, or says why it doesn't.
+    #[tactic(auto, using(user_model::proofs::CoreLaws::recut_same, crate::proofs::Files::leaves_told))]
+    pub(crate) fn put_file<M: MemoryPort>(
+        &mut self,
+        core: &M,
+        line: LineText,
+        name: FileName,
+        words: &[Word],
+        now: u64,
+    ) -> Result<Step, NoMemory>
+        requires size { length (M.words core.now) ≡ 256 * self.old.inner.blocks }
+        requires fits { self.old.own < 2 ^ 64 - 1 }
+        ensures row { IfOk result (λ s. DidPut line name words.now s.ending s.clock now self.old self.new (M.words core.now)) }
+        ensures account { self.new.inner.account ≡ self.old.inner.account }
+        ensures err { OnErr result (self.new ≡ self.old) }
+    {
+        self.items.reserve(4)?;
+        let done = self.files.put(name, words);
+        let text = text_of(done)?;
+        note_command(&mut self.items, line, text, now);
+        self.take_command();
+        Ok(DONE)
     }
 
     /// LISTF: the files are listed.

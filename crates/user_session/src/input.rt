@@ -7,22 +7,13 @@ ghost use Rattle.user_model.specs.declared.Command.{Command};
 ghost use Rattle.user_model.specs.Answers.{DidCommand, DidInput};
 
 use crate::Step;
-use crate::file_command::{DONE, note_command};
+use crate::file_command::{DONE, note_command, note_taken};
 use crate::session::{Session, note};
-use crate::text::{ready_text, time_text};
+use crate::text::ready_text;
 use cmd_files::{line_words, refusal_text};
 use cpu_regs::MemoryPort;
 use ctss_types::{Ending, FileName, Item, LineText, NoMemory, Refusal};
 use file_map::{FilePort, PortFault};
-
-/// The line INPUT: the line and the time, where there is room.
-fn note_taken(items: &mut Vec<Item>, line: LineText, now: u64)
-    requires { vec_len items.old + 1 < vec_capacity items.old }
-    ensures { items.new.items ≡ items.old.items ++ In line ∷ Out (time_text now) ∷ [] }
-{
-    note(items, Item::In(line));
-    note(items, Item::Out(time_text(now)));
-}
 
 /// A line of INPUT that is done.
 const TYPED: Step = Step {

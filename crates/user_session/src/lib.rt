@@ -1,15 +1,17 @@
 //! One user's session: what a user's lines, quits, hangs and steps do to the user's state.
 //!
-//! A step is a command, the storing of a deck, an instruction or a supervisor entry. The words of the user's program
+//! A step is a command, the filling of a program, an instruction or a supervisor entry. The words of the user's program
 //! lie elsewhere: a step reaches them through a port.
 #![tactic(auto)]
 
+mod assembly_command;
 mod command;
 mod entry;
 mod file_command;
 mod file_entry;
 mod input;
 mod program;
+mod saved_command;
 mod session;
 mod text;
 mod turn;

@@ -1,7 +1,8 @@
 //! Steps of a program that works, and one step of a user.
 ghost use Rattle.std.specs.Prelude.{◌≡◌, ◌<◌, ◌≤◌, ◌+◌, ◌-◌, ◌*◌, ◌^◌, suc, true, false, None, Some, length, IfOk, OnOk, OnErr};
 ghost use Rattle.file_model.specs.Files.{got};
-ghost use Rattle.program_model.specs.Decks.{words_got, filled};
+ghost use Rattle.program_model.specs.Decks.{words_got};
+ghost use Rattle.program_model.specs.Fills.{fill_name, filled_core, filled_regs, StartsInCore};
 ghost use Rattle.program_model.specs.declared.Fill.{Fill};
 ghost use Rattle.user_model.specs.Session.{works_in};
 ghost use Rattle.user_model.specs.Runs.{HaveGone, IsAtWork};
@@ -17,21 +18,24 @@ use ctss_types::{Ending, NoMemory};
 use program_model::Fill;
 
 impl Session {
-    /// The words of a deck go to the core, and the program stands at its start.
-    fn store<M: MemoryPort>(&mut self, core: &mut M, deck: Fill) -> Result<(), NoMemory>
-        requires start { deck.start < 2 ^ 15 }
+    /// A program is filled with the words of its file.
+    fn store<M: MemoryPort>(&mut self, core: &mut M, with: Fill) -> Result<(), NoMemory>
+        requires start { StartsInCore with }
         requires fits { self.old.own < 2 ^ 64 - 1 }
         ensures ok { OnOk result (self.new ≡ record self.old {
-          inner = record self.old.inner { regs = record self.old.inner.regs { ic = deck.start }; fill = None };
+          inner = record self.old.inner {
+            regs = filled_regs with (words_got (got (fill_name with) self.old.inner.files)) self.old.inner.regs;
+            fill = None;
+          };
           own = suc self.old.own;
         }) }
-        ensures words { OnOk result (M.words core.new ≡ filled (words_got (got deck.name self.old.inner.files)) (M.words core.old)) }
+        ensures words { OnOk result (M.words core.new ≡ filled_core with (words_got (got (fill_name with) self.old.inner.files)) (M.words core.old)) }
         ensures given { self.old.given ≡ 0 }
         ensures err { OnErr result (self.new ≡ self.old) }
         ensures err_core { OnErr result (M.words core.new ≡ M.words core.old) }
         ensures keeps { M.Keeps core.old core.new }
     {
-        match fill(&deck, &mut self.regs, core, &mut self.files) {
+        match fill(&with, &mut self.regs, core, &mut self.files) {
             Ok(()) => {
                 self.fill = None;
                 self.own += 1;
@@ -41,17 +45,17 @@ impl Session {
         }
     }
 
-    /// A program that has its core is filled with its deck's words.
+    /// A program that has its core is filled.
     fn fill_core<M: MemoryPort>(
         &mut self,
         core: &mut M,
-        deck: Fill,
+        with: Fill,
         now: u64,
     ) -> Result<Turn, NoMemory>
         requires on { self.old.on ≡ true }
         requires works { works_in self.old.inner.state ≡ true }
-        requires waits { self.old.inner.fill ≡ Some deck }
-        requires start { deck.start < 2 ^ 15 }
+        requires waits { self.old.inner.fill ≡ Some with }
+        requires start { StartsInCore with }
         requires size { length (M.words core.old) ≡ 256 * self.old.inner.blocks }
         requires fits { self.old.own < 2 ^ 64 - 1 }
         ensures turn { IfOk result (λ turn. IsTurn turn now self.old self.new (M.words core.old) (M.words core.new)) }
@@ -60,7 +64,7 @@ impl Session {
         ensures err_core { OnErr result (M.words core.new ≡ M.words core.old) }
         ensures keeps { M.Keeps core.old core.new }
     {
-        self.store(core, deck)?;
+        self.store(core, with)?;
         Ok(Turn::Done(Step {
             ending: Ending::Went,
             clock: false,
@@ -164,7 +168,7 @@ impl Session {
             return self.take_line(core, now);
         }
         match self.fill {
-            Some(deck) => self.fill_core(core, deck, now),
+            Some(fill) => self.fill_core(core, fill, now),
             None => self.run(core, now),
         }
     }

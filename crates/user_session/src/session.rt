@@ -43,6 +43,7 @@ pub struct Session {
 impl Model for Session {
     ghost use Rattle.std.specs.Prelude.{◌≡◌, ◌≤◌, ◌<◌, ◌^◌, [], IfSome};
     ghost use Rattle.time_sharing.specs.Rows.{Private};
+    ghost use Rattle.program_model.specs.Fills.{StartsInCore};
     ghost use Rattle.user_model.specs.Inner.{Inner};
 
     ghost Value = { Private Inner };
@@ -68,7 +69,7 @@ impl Model for Session {
     } };
 
     ghost invariant = { λ s. (s.before ≤ s.own) × (s.regs.ic < 2 ^ 15) × (s.blocks ≤ s.account.blocks)
-        × (s.account.blocks ≤ 128) × IfSome s.fill (λ f. f.start < 2 ^ 15) × (s.files.quota ≡ s.account.tracks) };
+        × (s.account.blocks ≤ 128) × IfSome s.fill (λ f. StartsInCore f) × (s.files.quota ≡ s.account.tracks) };
 }
 
 /// An item more, where there is room.

@@ -3,8 +3,9 @@ use Rattle.ctss_types.specs.Names.{NamePair}
 use Rattle.ctss_types.specs.declared.file.FileBody.{FileBody}
 use Rattle.file_model.specs.Files.{got}
 use Rattle.program_model.specs.Decks.{deck_of, deck_name}
+use Rattle.program_model.specs.declared.Deck.{Deck}
 use Rattle.user_model.specs.User.{User}
-use Rattle.user_session.proofs.Files.{told_deck, refused_deck}
+use Rattle.user_session.proofs.Files.{told_program, refused_program}
 use Rattle.user_session.proofs.session.Session.read_deck.Goals as goal
 use Rattle.user_session.proofs.session.Session.read_deck.Goals.{in-Ok, in-Err-Load, in-Err-NoMemory}
 
@@ -15,8 +16,8 @@ returns-clause-told c =
     ∙ ap (λ (u : User). deck_of u.inner.account.blocks (got (deck_name c.args.name) u.inner.files)) c.self.view_is in
     elim c.match-prepare.branch [
       | in-Ok w ↦ rw w.result-is (
-          sym (told_deck (Ok w.in-Ok.deck) c.self.inside.files.files (λ (fs : List FileBody). deck_of c.self.inside.account.blocks (got c.deck_name.result fs)) w.in-Ok.ensures.answer) ∙ there)
+          sym (told_program {T = Deck} (Ok w.in-Ok.deck) c.self.inside.files.files (λ (fs : List FileBody). deck_of c.self.inside.account.blocks (got c.deck_name.result fs)) w.in-Ok.ensures.answer) ∙ there)
       | in-Err-Load w ↦ rw w.result-is (
-          sym (refused_deck w.in-Err-Load.field-0 w.in-Err-Load.fault c.self.inside.files.files (λ (fs : List FileBody). deck_of c.self.inside.account.blocks (got c.deck_name.result fs)) w.in-Err-Load.field-0-is w.in-Err-Load.ensures.answer) ∙ there)
+          sym (refused_program {T = Deck} w.in-Err-Load.field-0 w.in-Err-Load.fault c.self.inside.files.files (λ (fs : List FileBody). deck_of c.self.inside.account.blocks (got c.deck_name.result fs)) w.in-Err-Load.field-0-is w.in-Err-Load.ensures.answer) ∙ there)
       | in-Err-NoMemory w ↦ rw w.result-is tt
     ]

@@ -1,0 +1,75 @@
+//! FAP: a file of cards is assembled.
+ghost use Rattle.std.specs.Prelude.{◌≡◌, ◌<◌, ◌-◌, ◌*◌, ◌^◌, true, length, IfOk, OnErr};
+ghost use Rattle.file_model.specs.Files.{got};
+ghost use Rattle.cmd_fap.specs.Assemblies.{assembly_got};
+ghost use Rattle.user_model.specs.Answers.{DidCommand};
+ghost use Rattle.user_model.specs.Commands.{cards_name};
+ghost use Rattle.user_model.specs.declared.Command.{Command};
+
+use crate::Step;
+use crate::command::deck_name;
+use crate::file_command::DONE;
+use crate::session::Session;
+use cmd_fap::{Assembly, assemble_file};
+use cmd_files::refusal_text;
+use cpu_regs::MemoryPort;
+use ctss_types::{FileName, LineText, NoMemory, Refusal, name_word};
+use file_map::PortFault;
+use word36::Word;
+
+/// The file that a deck of this name is assembled from.
+fn cards_name(name: Word) -> FileName
+    ensures { result ≡ cards_name name }
+{
+    FileName::new(name, name_word(b"FAP"))
+}
+
+impl Session {
+    /// What the cards of a file make, or why it isn't read.
+    fn assembly_of(&mut self, name: Word) -> Result<Result<Assembly, Refusal>, NoMemory>
+        ensures same { self.new ≡ self.old }
+        ensures told { IfOk result (λ told. told ≡ assembly_got (got (cards_name name) self.old.inner.files)) }
+    {
+        match assemble_file(*self.items.allocator(), cards_name(name), &mut self.files) {
+            Ok(assembly) => Ok(Ok(assembly)),
+            Err(PortFault::Refused(refusal)) => Ok(Err(refusal)),
+            Err(PortFault::Disk) => unreachable!(),
+            Err(PortFault::NoMemory) => Err(NoMemory),
+        }
+    }
+
+    /// FAP: the deck of a file of cards is put, or the faults of the cards are printed.
+    #[tactic(auto, using(user_model::proofs::CoreLaws::recut_same))]
+    pub(crate) fn assemble<M: MemoryPort>(
+        &mut self,
+        core: &M,
+        line: LineText,
+        name: Word,
+        now: u64,
+    ) -> Result<Step, NoMemory>
+        requires on { self.old.on ≡ true }
+        requires size { length (M.words core.now) ≡ 256 * self.old.inner.blocks }
+        requires fits { self.old.own < 2 ^ 64 - 1 }
+        ensures row { IfOk result (λ s. DidCommand line (Command.Assemble name) s.ending s.clock now self.old self.new (M.words core.now) (M.words core.now)) }
+        ensures account { self.new.inner.account ≡ self.old.inner.account }
+        ensures err { OnErr result (self.new ≡ self.old) }
+    {
+        match self.assembly_of(name)? {
+            Ok(Assembly::Deck(words)) => self.put_file(
+                core,
+                line,
+                deck_name(name),
+                words.as_slice(),
+                now,
+            ),
+            Ok(Assembly::Faults(lines)) => {
+                self.say_all(line, lines.as_slice(), now)?;
+                Ok(DONE)
+            }
+            Err(refusal) => {
+                self.say(line, Some(refusal_text(refusal)), now)?;
+                Ok(DONE)
+            }
+        }
+    }
+}

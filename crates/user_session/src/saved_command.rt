@@ -1,0 +1,185 @@
+//! Commands on a program that stopped, and on saved programs.
+ghost use Rattle.std.specs.Prelude.{◌≡◌, ◌<◌, ◌≤◌, ◌-◌, ◌*◌, ◌^◌, true, length, IfOk, OnErr};
+ghost use Rattle.file_model.specs.Files.{got};
+ghost use Rattle.program_model.specs.Saved.{saved_name, saved_of};
+ghost use Rattle.user_model.specs.Answers.{DidCommand};
+ghost use Rattle.user_model.specs.Commands.{is_dormant};
+ghost use Rattle.user_model.specs.declared.Command.{Command};
+
+use crate::Step;
+use crate::file_command::{DONE, note_taken};
+use crate::session::Session;
+use crate::text::load_text;
+use cmd_program::{PrepareFault, prepare_saved, register_lines, saved_words, word_line};
+use cpu_regs::MemoryPort;
+use ctss_types::{Ending, FileName, LineText, NoMemory, name_word};
+use program_model::{Fill, LoadFault, ProgramState};
+use word36::Word;
+
+/// The file that a program of this name is saved in.
+fn saved_name(name: Word) -> FileName
+    ensures { result ≡ saved_name name }
+{
+    FileName::new(name, name_word(b"SAVED"))
+}
+
+impl Session {
+    /// Whether a program stopped, and is there.
+    fn is_dormant(&self) -> bool
+        ensures { result ≡ is_dormant self.now.inner.state }
+    {
+        match self.state {
+            ProgramState::Dormant => true,
+            ProgramState::Dead | ProgramState::Working => false,
+        }
+    }
+
+    /// START: the program that stopped goes on.
+    #[tactic(auto, using(user_model::proofs::CoreLaws::recut_same))]
+    pub(crate) fn start<M: MemoryPort>(
+        &mut self,
+        core: &M,
+        line: LineText,
+        now: u64,
+    ) -> Result<Step, NoMemory>
+        requires on { self.old.on ≡ true }
+        requires size { length (M.words core.now) ≡ 256 * self.old.inner.blocks }
+        requires fits { self.old.own < 2 ^ 64 - 1 }
+        ensures row { IfOk result (λ s. DidCommand line Command.Start s.ending s.clock now self.old self.new (M.words core.now) (M.words core.now)) }
+        ensures account { self.new.inner.account ≡ self.old.inner.account }
+        ensures err { OnErr result (self.new ≡ self.old) }
+    {
+        if !self.is_dormant() {
+            self.say_why(line, b"NO PROGRAM", now)?;
+            return Ok(DONE);
+        }
+        self.items.reserve(2)?;
+        note_taken(&mut self.items, line, now);
+        self.take_command();
+        self.state = ProgramState::Working;
+        Ok(Step {
+            ending: Ending::Resized,
+            clock: true,
+        })
+    }
+
+    /// SAVE: the program that stopped goes to a file.
+    #[tactic(auto, using(user_model::proofs::CoreLaws::recut_same))]
+    pub(crate) fn save<M: MemoryPort>(
+        &mut self,
+        core: &M,
+        line: LineText,
+        name: Word,
+        now: u64,
+    ) -> Result<Step, NoMemory>
+        requires on { self.old.on ≡ true }
+        requires size { length (M.words core.now) ≡ 256 * self.old.inner.blocks }
+        requires fits { self.old.own < 2 ^ 64 - 1 }
+        ensures row { IfOk result (λ s. DidCommand line (Command.Save name) s.ending s.clock now self.old self.new (M.words core.now) (M.words core.now)) }
+        ensures account { self.new.inner.account ≡ self.old.inner.account }
+        ensures err { OnErr result (self.new ≡ self.old) }
+    {
+        if !self.is_dormant() {
+            self.say_why(line, b"NO PROGRAM", now)?;
+            return Ok(DONE);
+        }
+        let words = saved_words(*self.items.allocator(), self.blocks, &self.regs, core)?;
+        self.put_file(core, line, saved_name(name), &words, now)
+    }
+
+    /// The blocks of a saved program of this name, or why there is none.
+    fn read_saved(&mut self, name: Word) -> Result<Result<u8, LoadFault>, NoMemory>
+        ensures same { self.new ≡ self.old }
+        ensures told { IfOk result (λ told. told ≡ saved_of self.old.inner.account.blocks (got (saved_name name) self.old.inner.files)) }
+        ensures blocks { IfOk result (λ told. IfOk told (λ b. b ≤ self.old.inner.account.blocks)) }
+    {
+        match prepare_saved(saved_name(name), self.account.blocks, &mut self.files) {
+            Ok(blocks) => Ok(Ok(blocks)),
+            Err(PrepareFault::Load(fault)) => Ok(Err(fault)),
+            Err(PrepareFault::Disk) => unreachable!(),
+            Err(PrepareFault::NoMemory) => Err(NoMemory),
+        }
+    }
+
+    /// RESUME: a saved program takes the place of the one before, or why there is none.
+    #[tactic(auto, using(user_model::proofs::CoreLaws::recut_same))]
+    pub(crate) fn resume<M: MemoryPort>(
+        &mut self,
+        core: &M,
+        line: LineText,
+        name: Word,
+        now: u64,
+    ) -> Result<Step, NoMemory>
+        requires on { self.old.on ≡ true }
+        requires size { length (M.words core.now) ≡ 256 * self.old.inner.blocks }
+        requires fits { self.old.own < 2 ^ 64 - 1 }
+        ensures row { IfOk result (λ s. DidCommand line (Command.Resume name) s.ending s.clock now self.old self.new (M.words core.now) (M.words core.now)) }
+        ensures account { self.new.inner.account ≡ self.old.inner.account }
+        ensures err { OnErr result (self.new ≡ self.old) }
+    {
+        match self.read_saved(name)? {
+            Ok(blocks) => {
+                let fill = Fill::Saved {
+                    name: saved_name(name),
+                };
+                self.begin(line, blocks, fill, now)?;
+                Ok(Step {
+                    ending: Ending::Replaced,
+                    clock: true,
+                })
+            }
+            Err(fault) => {
+                self.say(line, Some(load_text(fault)), now)?;
+                Ok(DONE)
+            }
+        }
+    }
+
+    /// PM: the registers of the program that stopped.
+    #[tactic(auto, using(user_model::proofs::CoreLaws::recut_same))]
+    pub(crate) fn tell_registers<M: MemoryPort>(
+        &mut self,
+        core: &M,
+        line: LineText,
+        now: u64,
+    ) -> Result<Step, NoMemory>
+        requires on { self.old.on ≡ true }
+        requires size { length (M.words core.now) ≡ 256 * self.old.inner.blocks }
+        requires fits { self.old.own < 2 ^ 64 - 1 }
+        ensures row { IfOk result (λ s. DidCommand line Command.Registers s.ending s.clock now self.old self.new (M.words core.now) (M.words core.now)) }
+        ensures account { self.new.inner.account ≡ self.old.inner.account }
+        ensures err { OnErr result (self.new ≡ self.old) }
+    {
+        if !self.is_dormant() {
+            self.say_why(line, b"NO PROGRAM", now)?;
+            return Ok(DONE);
+        }
+        let lines = register_lines(&self.regs);
+        self.say_all(line, &lines, now)?;
+        Ok(DONE)
+    }
+
+    /// PM of a place: the word there, of the program that stopped.
+    #[tactic(auto, using(user_model::proofs::CoreLaws::recut_same))]
+    pub(crate) fn tell_word<M: MemoryPort>(
+        &mut self,
+        core: &M,
+        line: LineText,
+        place: u16,
+        now: u64,
+    ) -> Result<Step, NoMemory>
+        requires on { self.old.on ≡ true }
+        requires size { length (M.words core.now) ≡ 256 * self.old.inner.blocks }
+        requires fits { self.old.own < 2 ^ 64 - 1 }
+        ensures row { IfOk result (λ s. DidCommand line (Command.WordAt place) s.ending s.clock now self.old self.new (M.words core.now) (M.words core.now)) }
+        ensures account { self.new.inner.account ≡ self.old.inner.account }
+        ensures err { OnErr result (self.new ≡ self.old) }
+    {
+        if !self.is_dormant() {
+            self.say_why(line, b"NO PROGRAM", now)?;
+            return Ok(DONE);
+        }
+        self.say(line, Some(word_line(core, place)), now)?;
+        Ok(DONE)
+    }
+}

@@ -50,7 +50,7 @@ fn cards_are_assembled(rt: HostRuntime) -> Result<(), Fail> {
         0o665126436760,
         0o242521246060,
     ];
-    assert!(rt; words.iter().map(|word| word.bits()).eq(deck));
+    assert!(rt; words.as_slice().iter().map(|word| word.bits()).eq(deck));
     Ok(())
 }
 

@@ -30,7 +30,15 @@ fn a_deck_is_loaded(rt: HostRuntime) -> Result<(), Fail> {
 
     let mut core = PlainCore::new(rt.alloc(), 1)?;
     let mut regs = Regs::new();
-    assert!(rt; fill(&Fill::Deck { name, start: 8 }, &mut regs, &mut core, &mut files).is_ok());
+    assert!(rt;
+        fill(
+            &Fill::Deck { name, start: 8 },
+            &mut regs,
+            &mut core,
+            &mut files
+        )
+        .is_ok()
+    );
     assert_eq!(rt; regs.ic, 8);
     assert!(rt; core.load(8) == Ok(word(0, 5)));
     assert!(rt; core.load(9) == Ok(word(0, 6)));

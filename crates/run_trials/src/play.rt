@@ -33,7 +33,7 @@ pub(crate) fn gives<D: Medium>(
     requires { Serves (D.rows drum.old) (D.record_count drum.old) (D.words_each drum.old) 3840 }
 {
     let mut input = MemorySource::new(alloc, text, 4096, &[])?;
-    let mut output = MemorySink::new(alloc, 8000, 4096, &[])?;
+    let mut output = MemorySink::new(alloc, 16_000, 4096, &[])?;
     let mut link = no_link(alloc)?;
     let outcome = run_ctss(alloc, words, &mut input, &mut output, drum, &mut link);
     assert_eq!(rt; outcome.status, status);

@@ -26,7 +26,6 @@ pub fn printed<F: FilePort>(
     ensures answer { AnswersOver (F.tells files.old) (F.files files.old) result (λ fs. lines_got (got name fs)) }
     ensures left { ¬ IsErrOf result PortFault.Disk → F.files files.new ≡ F.files files.old }
     ensures told { ¬ IsErrOf result PortFault.Disk → F.tells files.new ≡ F.tells files.old }
-    ensures beside { ¬ IsErrOf result PortFault.Disk → F.beside files.new ≡ F.beside files.old }
     ensures works { ¬ IsErrOf result PortFault.Disk → F.Works files.new }
     ensures keeps { F.Keeps files.old files.new }
     ensures cause { IsErrOf result PortFault.Disk → Rose (F.faults files.old) (F.faults files.new) }

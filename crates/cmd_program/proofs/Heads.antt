@@ -1,6 +1,6 @@
 -- The registers in the first words of a saved program one after another, and the words of its core.
 use Rattle.std.proofs.Common.{◌≡◌, ◌≤◌, ◌<◌, ◌+◌, ◌-◌, ℕ, false, nat_eq, zero, suc, List, [], ◌∷◌, ◌++◌, length, map, take, drop, slice_index, slice_set, append_assoc, add-one, refl, sym, ap, ◌∙◌, arith}
-use Rattle.std.proofs.lemmas.List.{append-nil, drop_all, take_all, length-set}
+use Rattle.std.proofs.lemmas.List.{append-nil, drop_all, take_all}
 use Rattle.std.proofs.Math.Seq.{take-suc}
 use Rattle.std.proofs.lemmas.Bool.{ne_eqb}
 use Rattle.cpu_regs.specs.Index.{with_index}
@@ -8,7 +8,6 @@ use Rattle.cpu_regs.specs.Registers.{set_xr}
 use Rattle.cpu_regs.specs.declared.regs.Regs.{Regs}
 use Rattle.program_model.specs.Lines.{with_words}
 use Rattle.program_model.specs.Saved.{tags, index_in}
-use Rattle.cmd_program.proofs.Stores.{set_outside}
 
 -- the first that is not yet set
 put_next : (f : ℕ → ℕ) (ws xs : List ℕ) (k : ℕ) → k < length ws → k < length xs →
@@ -70,17 +69,6 @@ set_all ws first last tag t h e =
     ∙ ap (λ (ys : List ℕ). with_indexes first (map (index_in ws) tags ++ ys)) (drop_all 7 first.index few)
     ∙ ap (with_indexes first) (append-nil (map (index_in ws) tags))
 
--- words that lie outside a core change nothing
-words_past : (core ws : List ℕ) (at : ℕ) → length core ≤ at → with_words core at ws ≡ core
-words_past core [] at h = refl
-words_past core (w ∷ ws) at h = rw (set_outside core at w h) (words_past core ws (suc at) (omega (arith, h)))
-
--- so many as there is room for
-pub words_within : (core ws : List ℕ) (at n : ℕ) → length core ≤ at + n → with_words core at (take n ws) ≡ with_words core at ws
-words_within core ws at zero h = sym (words_past core ws at (omega (arith, h)))
-words_within core [] at (suc n) h = refl
-words_within core (w ∷ ws) at (suc n) h = words_within (slice_set core at w) ws (suc at) n (omega (arith, h, length-set core at w))
-
 -- one word more of a core
 pub core_next : (core : List ℕ) (k : ℕ) → k < length core → take k core ++ slice_index core k ∷ [] ≡ take (k + 1) core
 core_next core k h = rw add-one (sym (take-suc core k 0 h))
@@ -98,7 +86,5 @@ pub ruleset cores = (pushed_next, pushed_none, pushed_all)
 
 pub words_empty : (core ws : List ℕ) → length ws ≤ 16 → core ≡ with_words core 0 (drop 16 ws)
 words_empty core ws h = rw (drop_all 16 ws h) refl
-
-pub ruleset fitting = (words_within)
 
 pub ruleset behind = (words_empty)

@@ -36,7 +36,6 @@ pub fn prepare<F: FilePort>(name: FileName, quota: u8, files: &mut F) -> Result<
     ensures most { IfOk result (λ d. d.blocks ≤ 128) }
     ensures left { ¬ IsErrOf result PrepareFault.Disk → F.files files.new ≡ F.files files.old }
     ensures told { ¬ IsErrOf result PrepareFault.Disk → F.tells files.new ≡ F.tells files.old }
-    ensures beside { ¬ IsErrOf result PrepareFault.Disk → F.beside files.new ≡ F.beside files.old }
     ensures works { ¬ IsErrOf result PrepareFault.Disk → F.Works files.new }
     ensures keeps { F.Keeps files.old files.new }
     ensures cause { IsErrOf result PrepareFault.Disk → Rose (F.faults files.old) (F.faults files.new) }
@@ -64,7 +63,6 @@ pub fn prepare_saved<F: FilePort>(
     ensures most { IfOk result (λ b. b ≤ 128) }
     ensures left { ¬ IsErrOf result PrepareFault.Disk → F.files files.new ≡ F.files files.old }
     ensures told { ¬ IsErrOf result PrepareFault.Disk → F.tells files.new ≡ F.tells files.old }
-    ensures beside { ¬ IsErrOf result PrepareFault.Disk → F.beside files.new ≡ F.beside files.old }
     ensures works { ¬ IsErrOf result PrepareFault.Disk → F.Works files.new }
     ensures keeps { F.Keeps files.old files.new }
     ensures cause { IsErrOf result PrepareFault.Disk → Rose (F.faults files.old) (F.faults files.new) }
@@ -126,7 +124,6 @@ pub fn fill<M: MemoryPort, F: FilePort>(
     ensures core_keeps { M.Keeps core.old core.new }
     ensures left { ¬ IsErrOf result StepFault.Disk → F.files files.new ≡ F.files files.old }
     ensures told { ¬ IsErrOf result StepFault.Disk → F.tells files.new ≡ F.tells files.old }
-    ensures beside { ¬ IsErrOf result StepFault.Disk → F.beside files.new ≡ F.beside files.old }
     ensures works { ¬ IsErrOf result StepFault.Disk → F.Works files.new }
     ensures keeps { F.Keeps files.old files.new }
     ensures cause { IsErrOf result StepFault.Disk → Rose (F.faults files.old) (F.faults files.new) }

@@ -8,7 +8,7 @@ use cpu_regs::{MemoryPort, Regs};
 use ctss_types::NoMemory;
 use program_model::LoadFault;
 use std::alloc::Global;
-use tia_entry::store_words;
+use tia_entry::store_fitting;
 use word36::{Acc, Word};
 
 /// Whether this first word is the number of blocks of so many words.
@@ -177,20 +177,6 @@ pub fn saved_regs(words: &[Word]) -> Regs
     regs
 }
 
-/// Stores words from the start of the core on. What lies outside is passed over.
-#[tactic(auto, using(crate::proofs::Heads::fitting))]
-fn store_within<M: MemoryPort>(words: &[Word], core: &mut M)
-    ensures words { M.words core.new ≡ with_words (M.words core.old) 0 words.now }
-    ensures keeps { M.Keeps core.old core.new }
-{
-    let room = 256 * usize::from(core.size());
-    if words.len() > room {
-        store_words(core, 0, &words[..room]);
-    } else {
-        store_words(core, 0, words);
-    }
-}
-
 /// Stores the core of a saved program: the words behind the first sixteen.
 #[tactic(auto, using(crate::proofs::Heads::behind))]
 pub fn store_saved<M: MemoryPort>(words: &[Word], core: &mut M)
@@ -198,6 +184,6 @@ pub fn store_saved<M: MemoryPort>(words: &[Word], core: &mut M)
     ensures keeps { M.Keeps core.old core.new }
 {
     if words.len() > 16 {
-        store_within(&words[16..], core);
+        store_fitting(core, 0, &words[16..]);
     }
 }

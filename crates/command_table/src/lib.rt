@@ -5,7 +5,7 @@ ghost use Rattle.std.specs.Prelude.{◌≡◌, ◌≤◌, ◌∷◌, [], length,
 ghost use Rattle.std.specs.List.{list_all};
 ghost use Rattle.std.specs.Option.{unwrap_or};
 ghost use Rattle.ctss_types.specs.Words.{words_of};
-ghost use Rattle.user_model.specs.Requests.{word_name, file_in, digit_in, alone, rename_of, chmode_of, is_octal_digit, octal_from, place_in, post_mortem_of, command_by, command_of};
+ghost use Rattle.user_model.specs.Requests.{word_name, file_in, digit_in, alone, rename_of, chmode_of, is_octal_digit, octal_from, place_in, post_mortem_of, copy_by, command_by, command_of};
 ghost use Rattle.command_table.specs.Words.{file_first, one_name, one_file};
 
 use ctss_types::{FileName, LineText, first_word, name_word};
@@ -54,6 +54,8 @@ fn command_by(name: &[u8], rest: &[u8]) -> Option<Command>
         change_mode(rest)
     } else if name == b"INPUT".as_slice() {
         one_file(rest).map(Command::Input)
+    } else if name == b"COPY".as_slice() {
+        copy(rest)
     } else if name == b"FAP".as_slice() {
         one_name(rest).map(Command::Assemble)
     } else if name == b"START".as_slice() {
@@ -122,6 +124,21 @@ fn change_mode(rest: &[u8]) -> Option<Command>
     let mode = digit_in(word)?;
     if is_over(rest) {
         Some(Command::ChangeMode { name, mode })
+    } else {
+        None
+    }
+}
+
+/// COPY, with TO or FROM and a file's names behind it.
+#[tactic(auto, using(crate::proofs::Words::taken))]
+fn copy(rest: &[u8]) -> Option<Command>
+    ensures { unwrap_or result Command.BadArguments ≡ copy_by (words_of rest.now) }
+{
+    let (word, behind) = next_word(rest)?;
+    if word == b"TO".as_slice() {
+        one_file(behind).map(Command::CopyTo)
+    } else if word == b"FROM".as_slice() {
+        one_file(behind).map(Command::CopyFrom)
     } else {
         None
     }

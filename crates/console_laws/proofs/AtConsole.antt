@@ -1,14 +1,14 @@
 -- The events of a turn at one console, and its seat.
 use Rattle.std.specs.Prelude.{Bool, true, false, nat_eq, if◌then◌else◌, map, filter, get_or, Option, Some, None}
-use Rattle.std.proofs.Common.{◌≡◌, ◌≢◌, ℕ, zero, suc, ◌+◌, ◌-◌, ◌<◌, ◌≤◌, List, [], ◌∷◌, ◌++◌, refl, ◌∙◌, ap, subst, arith}
+use Rattle.std.proofs.Common.{◌≡◌, ◌≢◌, ℕ, zero, suc, ◌+◌, ◌-◌, ◌<◌, ◌≤◌, List, [], ◌∷◌, ◌++◌, refl, sym, ◌∙◌, ap, subst, arith}
 use Rattle.std.proofs.lemmas.Bool.Decides.{nat_tests}
 use Rattle.std.proofs.lemmas.List.{append-nil, map-append}
 use Rattle.ctss_types.specs.declared.script.Event.{Event}
 use Rattle.ctss_types.specs.declared.script.Event.TheVariants.{Dial, Hang}
 use Rattle.ctss_types.specs.declared.script.Timed.{Timed}
-use Rattle.console_wire.specs.Items.{items_from}
+use Rattle.console_wire.specs.Items.{items_from, piece_from}
 use Rattle.console_server.specs.Readings.{Gave, bytes_of, timed, all_timed}
-use Rattle.console_server.specs.Turns.{Talk, HeardOf, Told, if_over, events_heard, all_events_heard, seat_after, all_seats_after, AreHeard, free_from, put_first, dial, seat_told, all_seats_told, IsToldOf, AreTold, losses, hangs}
+use Rattle.console_server.specs.Turns.{Talk, HeardOf, Told, if_over, events_heard, all_events_heard, seat_after, all_seats_after, free_from, put_first, dial, seat_told, all_seats_told, IsToldOf, AreTold, losses, hangs}
 use Rattle.console_server.specs.Visits.{events_at}
 use Rattle.console_server.proofs.DeskLaws.{false_is}
 use Rattle.console_laws.proofs.Watching.{none_heard, none_told}
@@ -115,27 +115,36 @@ none_heard_there c k tick (s ∷ seats) (h ∷ hs) lt =
     at_both c (events_heard tick k s h.reads h.over) (all_events_heard tick (suc k) seats hs)
     ∙ (λ i. one_heard_there c k tick s h.reads h.over (λ e. absurd (omega (arith, e, lt))) i ++ none_heard_there c (suc k) tick seats hs (omega (arith, lt)) i)
 
-pub heard_there : (c k i tick : ℕ) (seats : List (Option Talk)) (hs : List HeardOf) → c ≡ k + i → AreHeard seats hs →
+-- a console that wasn't read
+none_said : (c tick : ℕ) (o : Option Talk) → events_at c (events_heard tick c o [] false) ≡ []
+unfolding items_from
+none_said c tick None = refl
+none_said c tick (Some t) = refl
+
+none_read : (o : Option Talk) → o ≡ seat_after o [] false
+unfolding piece_from
+none_read None = refl
+none_read (Some t) = refl
+
+pub heard_there : (c k i tick : ℕ) (seats : List (Option Talk)) (hs : List HeardOf) → c ≡ k + i →
     events_at c (all_events_heard tick k seats hs) ≡ events_at c (events_heard tick c (get_or seats i None) (get_or hs i none_heard).reads (get_or hs i none_heard).over)
-heard_there c k i tick [] [] is are = refl
-heard_there c k i tick [] (h ∷ hs) is are = false_is are
-heard_there c k i tick (s ∷ seats) [] is are = false_is are
-heard_there c k zero tick (s ∷ seats) (h ∷ hs) is are =
+heard_there c k i tick [] hs is = refl
+heard_there c k i tick (s ∷ seats) [] is = sym (none_said c tick (get_or (s ∷ seats) i None))
+heard_there c k zero tick (s ∷ seats) (h ∷ hs) is =
     let here : k ≡ c = omega (arith, is) in
     at_both c (events_heard tick k s h.reads h.over) (all_events_heard tick (suc k) seats hs)
     ∙ (λ j. events_at c (events_heard tick (here j) s h.reads h.over) ++ none_heard_there c (suc k) tick seats hs (omega (arith, is)) j)
     ∙ append-nil (events_at c (events_heard tick c s h.reads h.over))
-heard_there c k (suc i) tick (s ∷ seats) (h ∷ hs) is are =
+heard_there c k (suc i) tick (s ∷ seats) (h ∷ hs) is =
     at_both c (events_heard tick k s h.reads h.over) (all_events_heard tick (suc k) seats hs)
-    ∙ (λ j. one_heard_there c k tick s h.reads h.over (λ e. absurd (omega (arith, e, is))) j ++ heard_there c (suc k) i tick seats hs (omega (arith, is)) are.1 j)
+    ∙ (λ j. one_heard_there c k tick s h.reads h.over (λ e. absurd (omega (arith, e, is))) j ++ heard_there c (suc k) i tick seats hs (omega (arith, is)) j)
 
-pub seat_heard : (i : ℕ) (seats : List (Option Talk)) (hs : List HeardOf) → AreHeard seats hs →
+pub seat_heard : (i : ℕ) (seats : List (Option Talk)) (hs : List HeardOf) →
     get_or (all_seats_after seats hs) i None ≡ seat_after (get_or seats i None) (get_or hs i none_heard).reads (get_or hs i none_heard).over
-seat_heard i [] [] are = refl
-seat_heard i [] (h ∷ hs) are = false_is are
-seat_heard i (s ∷ seats) [] are = false_is are
-seat_heard zero (s ∷ seats) (h ∷ hs) are = refl
-seat_heard (suc i) (s ∷ seats) (h ∷ hs) are = seat_heard i seats hs are.1
+seat_heard i [] hs = refl
+seat_heard i (s ∷ seats) [] = none_read (get_or (s ∷ seats) i None)
+seat_heard zero (s ∷ seats) (h ∷ hs) = refl
+seat_heard (suc i) (s ∷ seats) (h ∷ hs) = seat_heard i seats hs
 
 -- what was sent
 

@@ -11,11 +11,19 @@ use Rattle.console_link.specs.declared.link.LinkTook.TheVariants as took
 use Rattle.console_link.specs.Links.{LinkSeen, Passed, nothing_passed, Done, Did, DidAccept, DidWait}
 use Rattle.live_core.specs.Core.{Grows}
 use Rattle.console_server.specs.Readings.{Gave, bytes_of, DidAll, Nothing, Then}
-use Rattle.console_server.specs.Turns.{Talk, Desk, TurnAnswers, IsTurn, HeardOf, Told, Wrote, sent_of, MayPut, IsPutting, IsToldOf, AreHeard, AreTold, end_of, talk_of, free_from, put_first, seats_with, seated, seat_after, all_seats_after, seat_told, all_seats_told, calls_of_new, calls_accepted, last_accept, all_calls_heard, all_calls_told, seats_to_read, seats_to_write, calls_of_turn, desk_after}
+use Rattle.console_server.specs.Turns.{Talk, Desk, TurnAnswers, IsTurn, HeardOf, Told, Wrote, sent_of, MayPut, IsPutting, IsToldOf, AreTold, end_of, talk_of, free_from, put_first, seats_with, seated, seat_after, all_seats_after, seat_told, all_seats_told, calls_of_new, calls_accepted, last_accept, all_calls_heard, all_calls_told, seats_to_read, seats_to_write, calls_of_turn, desk_after}
 use Rattle.console_server.specs.Visits.{Visit}
-use Rattle.console_laws.proofs.Watching.{Watch, hung, ended, ended_if, new_visit, come, all_come, with_bytes, read, read_at, watched, none_heard, none_told, IsNow, OnNow}
+use Rattle.console_laws.proofs.Watching.{Watch, hung, ended, ended_if, new_visit, come, all_come, with_bytes, read, watched, none_heard, none_told, IsNow, OnNow}
 use Rattle.console_laws.proofs.AtConsole.{same, other, same_of, not_same, some_is, none_is, number_of, seat_heard, seat_sent, told_lawful, put_here, put_there}
 use Rattle.console_laws.proofs.Passing.{passed_all, passed_is, tells_still, did_split, WasGiven, given_one, given_still, new_given, new_differs, OnSeat, IsApart, all_heard_off, all_heard_on, all_told_off, all_told_on, on_heard, on_told, on_put}
+
+-- an accept that isn't ready
+pub accept_quiet : (ids : List ℕ) (k : ℕ) (p : Passed) → passed_all (last_accept ids) k p ≡ p
+accept_quiet ids k p = by_test (nat_lt (length ids) 32)
+  where
+    by_test : (t : Bool) → passed_all (if t then DidAccept accepted.NotYet ∷ [] else []) k p ≡ p
+    by_test true = refl
+    by_test false = refl
 
 -- bytes at the beginning of others
 abbrev pub Begins : List ℕ → List ℕ → Type 0
@@ -154,7 +162,7 @@ module _ (console : ℕ) (whole : List ℕ) where
 
   module _ (a b : LinkSeen) (tells : a.tells ≡ true) (seats : List (Option Talk)) where
     -- the consoles were read
-    module _ (hs : List HeardOf) (are : AreHeard seats hs) (did : DidAll (all_calls_heard seats hs) a b) where
+    module _ (hs : List HeardOf) (did : DidAll (all_calls_heard seats hs) a b) where
       heard_given : (k : ℕ) → WasGiven a k → WasGiven b k
       heard_given k = given_still (all_calls_heard seats hs) k a b tells did
 
@@ -171,11 +179,11 @@ module _ (console : ℕ) (whole : List ℕ) where
           let apart : (j : ℕ) → j ≢ console - 1 → IsApart t.id (get_or seats j None) = λ j ne. subst (λ (k : ℕ). IsApart k (get_or seats j None)) (sym id) (on.apart j ne) in
           ap (λ (k : ℕ). b.passed k) (sym id)
           ∙ passed_is (all_calls_heard seats hs) t.id a b tells did
-          ∙ all_heard_on (console - 1) t seats hs (a.passed t.id) are is apart
+          ∙ all_heard_on (console - 1) t seats hs (a.passed t.id) is apart
           ∙ ap (λ (k : ℕ). record (a.passed k) { taken = (a.passed k).taken ++ bytes_of (get_or hs (console - 1) none_heard).reads }) id
 
       pub kept_heard : (w : Watch) → Kept a seats w → Kept b (all_seats_after seats hs) (read (get_or seats (console - 1) None) (get_or hs (console - 1) none_heard).reads (get_or hs (console - 1) none_heard).over w)
-      kept_heard w h = by_seat (get_or seats (console - 1) None) refl (seat_heard (console - 1) seats hs are)
+      kept_heard w h = by_seat (get_or seats (console - 1) None) refl (seat_heard (console - 1) seats hs)
         where
           reads : List Gave
           reads = (get_or hs (console - 1) none_heard).reads
@@ -434,35 +442,43 @@ module _ (console : ℕ) (whole : List ℕ) where
         let closed = quiet_step (calls_of_new free id) m parts.0 (seats_with texts id seats) (come console turn texts free id w) here parts.1 (close_quiet free id) come_now in
         kept_all_come (seats_with texts id seats) ids parts.0 b (come console turn texts free id w) (tells_still (calls_of_new free id) m parts.0 here parts.1) parts.2 closed
 
+    -- a turn up to its reads, with calls before and behind its accepts over which nothing passes
+    pub kept_read : (desk : Desk) (answers : TurnAnswers) (first last : List Done) (a b : LinkSeen) (w : Watch) → ((k : ℕ) (p : Passed) → passed_all first k p ≡ p) → ((k : ℕ) (p : Passed) → passed_all last k p ≡ p) → a.tells ≡ true →
+        DidAll (first ++ (calls_accepted texts desk.seats answers.accepts ++ (last ++ all_calls_heard (seats_to_read texts desk answers) answers.heard))) a b →
+        IsNow (get_or desk.seats (console - 1) None) (get_or desk.failed (console - 1) false) w.now → Kept a desk.seats w → Kept b (seats_to_write texts desk answers) (watched console turn texts desk answers w)
+    kept_read desk answers first last a b w quiet_first quiet_last tells did now h =
+        let seats = seats_to_read texts desk answers in
+        let lost = get_or desk.failed (console - 1) false in
+        let news = calls_accepted texts desk.seats answers.accepts in
+        let heard = all_calls_heard seats answers.heard in
+        let one_part = did_split first (news ++ (last ++ heard)) a b did in
+        let two_part = did_split news (last ++ heard) one_part.0 b one_part.2 in
+        let three_part = did_split last heard two_part.0 b two_part.2 in
+        let at_one_part : one_part.0.tells ≡ true = tells_still first a one_part.0 tells one_part.1 in
+        let at_two_part : two_part.0.tells ≡ true = tells_still news one_part.0 two_part.0 at_one_part two_part.1 in
+        let at_three_part : three_part.0.tells ≡ true = tells_still last two_part.0 three_part.0 at_two_part three_part.1 in
+        let w1 = ended_if lost w in
+        let w2 = all_come console turn texts desk.seats answers.accepts w1 in
+        let begun : Kept one_part.0 desk.seats w = quiet_step first a one_part.0 desk.seats w tells one_part.1 quiet_first h in
+        let hung_now : Kept one_part.0 desk.seats w1 = kept_hang one_part.0 desk.seats lost w now begun in
+        let accepted_all : Kept two_part.0 seats w2 = kept_all_come desk.seats answers.accepts one_part.0 two_part.0 w1 at_one_part two_part.1 hung_now in
+        let listened : Kept three_part.0 seats w2 = quiet_step last two_part.0 three_part.0 seats w2 at_two_part three_part.1 quiet_last accepted_all in
+        kept_heard three_part.0 b at_three_part seats answers.heard three_part.2 w2 listened
+
     -- a whole turn
     pub kept_turn : (shown : List (List ℕ)) (desk : Desk) (answers : TurnAnswers) (a b : LinkSeen) (w : Watch) → Grows (get_or shown (console - 1) []) whole → length whole < 2 ^ 64 → a.tells ≡ true →
         IsTurn texts shown desk answers → DidAll (calls_of_turn texts desk answers) a b → IsNow (get_or desk.seats (console - 1) None) (get_or desk.failed (console - 1) false) w.now → Kept a desk.seats w →
         Kept b (desk_after texts desk answers).seats (watched console turn texts desk answers w)
-    kept_turn shown desk answers a b w longer short tells lawful (Then _ _ _ m _ did rest) now h =
-        let first = seats_to_read texts desk answers in
+    kept_turn shown desk answers a b w longer short tells lawful did now h =
         let second = seats_to_write texts desk answers in
-        let lost = get_or desk.failed (console - 1) false in
         let news = calls_accepted texts desk.seats answers.accepts in
         let last = last_accept answers.accepts in
-        let heard = all_calls_heard first answers.heard in
+        let heard = all_calls_heard (seats_to_read texts desk answers) answers.heard in
         let told = all_calls_told second answers.told in
-        let one_part = did_split news (last ++ (heard ++ told)) m b rest in
-        let two_part = did_split last (heard ++ told) one_part.0 b one_part.2 in
-        let three_part = did_split heard told two_part.0 b two_part.2 in
-        let at_m : m.tells ≡ true = did.tells ∙ tells in
-        let at_one_part : one_part.0.tells ≡ true = tells_still news m one_part.0 at_m one_part.1 in
-        let at_two_part : two_part.0.tells ≡ true = tells_still last one_part.0 two_part.0 at_one_part two_part.1 in
-        let at_three_part : three_part.0.tells ≡ true = tells_still heard two_part.0 three_part.0 at_two_part three_part.1 in
-        let w1 = ended_if lost w in
-        let w2 = all_come console turn texts desk.seats answers.accepts w1 in
-        let w3 = read_at console texts desk answers w2 in
-        let waited : Kept m desk.seats w = quiet_step (DidWait 10 false ∷ []) a m desk.seats w tells (Then (DidWait 10 false) [] a m m did (Nothing m)) (λ k p. refl) h in
-        let hung_now : Kept m desk.seats w1 = kept_hang m desk.seats lost w now waited in
-        let accepted_all : Kept one_part.0 first w2 = kept_all_come desk.seats answers.accepts m one_part.0 w1 at_m one_part.1 hung_now in
-        let listened : Kept two_part.0 first w2 = quiet_step last one_part.0 two_part.0 first w2 at_one_part two_part.1 (last_quiet (nat_lt (length answers.accepts) 32)) accepted_all in
-        let heard_all : Kept three_part.0 second w3 = kept_heard two_part.0 three_part.0 at_two_part first answers.heard lawful.heard three_part.1 w2 listened in
-        kept_told three_part.0 b at_three_part second shown answers.told lawful.told three_part.2 w3 longer short heard_all
-      where
-        last_quiet : (t : Bool) (k : ℕ) (p : Passed) → passed_all (if t then DidAccept accepted.NotYet ∷ [] else []) k p ≡ p
-        last_quiet true k p = refl
-        last_quiet false k p = refl
+        let reads = DidWait 10 false ∷ (news ++ (last ++ heard)) in
+        let calls : calls_of_turn texts desk answers ≡ reads ++ told =
+        ap (λ (ds : List Done). DidWait 10 false ∷ ds) (ap (λ (ds : List Done). news ++ ds) (sym (append_assoc last heard told)) ∙ sym (append_assoc news (last ++ heard) told)) in
+        let parts = did_split reads told a b (subst (λ (ds : List Done). DidAll ds a b) calls did) in
+        let heard_all : Kept parts.0 second (watched console turn texts desk answers w) =
+        kept_read desk answers (DidWait 10 false ∷ []) last a parts.0 w (λ k p. refl) (accept_quiet answers.accepts) tells parts.1 now h in
+        kept_told parts.0 b (tells_still reads a parts.0 tells parts.1) second shown answers.told lawful.told parts.2 (watched console turn texts desk answers w) longer short heard_all

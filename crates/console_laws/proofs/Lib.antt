@@ -8,3 +8,4 @@ pub mod VisitSteps
 pub mod Passing
 pub mod KeptSteps
 pub mod Visiting
+pub mod CutVisits

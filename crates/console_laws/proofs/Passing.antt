@@ -7,7 +7,7 @@ use Rattle.std.proofs.lemmas.List.{append_assoc, append-nil}
 use Rattle.console_link.specs.declared.link.Accepted.TheVariants as accepted
 use Rattle.console_link.specs.Links.{LinkSeen, Passed, Done, Did, DidAccept, DidClose, passed_after, numbers_after, accepts}
 use Rattle.console_server.specs.Readings.{Gave, bytes_of, did_read, DidAll, Nothing, Then}
-use Rattle.console_server.specs.Turns.{Talk, HeardOf, Told, Wrote, sent_of, if_over, calls_heard, all_calls_heard, all_seats_after, AreHeard, seat_after, put_first, calls_told, all_calls_told, all_seats_told, seat_told, AreTold}
+use Rattle.console_server.specs.Turns.{Talk, HeardOf, Told, Wrote, sent_of, if_over, calls_heard, all_calls_heard, all_seats_after, seat_after, put_first, calls_told, all_calls_told, all_seats_told, seat_told, AreTold}
 use Rattle.console_server.specs.Writings.{did_write}
 use Rattle.console_server.proofs.DeskLaws.{false_is}
 use Rattle.console_laws.specs.Laws.{ReadsAreTaken, WritesAreSent}
@@ -127,18 +127,18 @@ reads_are_taken id reads a b tells did = ap (λ (p : Passed). p.taken) (passed_i
 abbrev with_taken : Passed → List ℕ → Passed
 with_taken p bytes = record p { taken = p.taken ++ bytes }
 
-pub all_heard_on : (i : ℕ) (t : Talk) (seats : List (Option Talk)) (hs : List HeardOf) (p : Passed) → AreHeard seats hs → get_or seats i None ≡ Some t → ((j : ℕ) → j ≢ i → IsApart t.id (get_or seats j None)) →
+pub all_heard_on : (i : ℕ) (t : Talk) (seats : List (Option Talk)) (hs : List HeardOf) (p : Passed) → get_or seats i None ≡ Some t → ((j : ℕ) → j ≢ i → IsApart t.id (get_or seats j None)) →
     passed_all (all_calls_heard seats hs) t.id p ≡ record p { taken = p.taken ++ bytes_of (get_or hs i none_heard).reads }
-all_heard_on i t [] hs p are is apart = absurd (not_some t is)
-all_heard_on i t (s ∷ seats) [] p are is apart = false_is are
-all_heard_on zero t (s ∷ seats) (h ∷ hs) p are is apart =
+all_heard_on i t [] hs p is apart = absurd (not_some t is)
+all_heard_on i t (s ∷ seats) [] p is apart = λ j. record p { taken = sym (append-nil p.taken) j }
+all_heard_on zero t (s ∷ seats) (h ∷ hs) p is apart =
     passed_both (calls_heard s h.reads h.over) (all_calls_heard seats hs) t.id p
     ∙ all_heard_off t.id seats hs (passed_all (calls_heard s h.reads h.over) t.id p) (λ j. apart (suc j) (λ e. absurd (omega (arith, e))))
     ∙ ap (λ (o : Option Talk). passed_all (calls_heard o h.reads h.over) t.id p) is
     ∙ heard_on t h.reads h.over p
-all_heard_on (suc i) t (s ∷ seats) (h ∷ hs) p are is apart =
+all_heard_on (suc i) t (s ∷ seats) (h ∷ hs) p is apart =
     passed_both (calls_heard s h.reads h.over) (all_calls_heard seats hs) t.id p
-    ∙ all_heard_on i t seats hs (passed_all (calls_heard s h.reads h.over) t.id p) are.1 is (λ j ne. apart (suc j) (λ e. ne (omega (arith, e))))
+    ∙ all_heard_on i t seats hs (passed_all (calls_heard s h.reads h.over) t.id p) is (λ j ne. apart (suc j) (λ e. ne (omega (arith, e))))
     ∙ ap (λ (q : Passed). with_taken q (bytes_of (get_or hs i none_heard).reads)) (heard_off t.id s h.reads h.over p (apart 0 (λ e. absurd (omega (arith, e)))))
 
 -- writes

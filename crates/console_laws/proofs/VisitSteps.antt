@@ -176,18 +176,16 @@ module _ (console : ℕ) (P : Visit → Type 0) (keeps : (v w : Visit) → v.id 
         (append_assoc events (events_at console first) (events_at console rest) ∙ ap (λ (l : List Event). events ++ l) (sym (at_both console first rest)))
         (all_come_step tick (seats_with texts id seats) ids (events ++ events_at console first) (come console turn texts (free_from 1 seats) id w) (λ k d lt. news (suc k) d (omega (arith, lt))) (come_step tick id seats events w (news 0 id (omega arith)) h))
 
-    -- a whole turn
-    pub turn_step : (tick : ℕ) (shown : List (List ℕ)) (desk : Desk) (answers : TurnAnswers) (events : List Event) (w : Watch) → IsTurn texts shown desk answers → All (λ (id : ℕ). P (new_visit console turn texts id)) answers.accepts →
+    -- a turn up to its reads
+    pub turn_read : (tick : ℕ) (desk : Desk) (answers : TurnAnswers) (events : List Event) (w : Watch) → All (λ (id : ℕ). P (new_visit console turn texts id)) answers.accepts →
         Watched P (get_or desk.seats (console - 1) None) (get_or desk.failed (console - 1) false) events w →
-        Watched P (get_or (desk_after texts desk answers).seats (console - 1) None) (get_or (desk_after texts desk answers).failed (console - 1) false)
-        (events ++ events_at console (events_of_turn tick texts desk answers)) (watched console turn texts desk answers w)
-    turn_step tick shown desk answers events w lawful news h =
+        Watched P (get_or (seats_to_write texts desk answers) (console - 1) None) false (events ++ events_at console (events_of_turn tick texts desk answers)) (watched console turn texts desk answers w)
+    turn_read tick desk answers events w news h =
         let i = console - 1 in
         let lost = get_or desk.failed i false in
         let first = seats_to_read texts desk answers in
         let second = seats_to_write texts desk answers in
         let heard = heard_at console answers in
-        let told = get_or answers.told i none_told in
         let hung_events = hangs tick 1 desk.failed in
         let dialled = dials tick texts desk.seats answers.accepts in
         let said_events = all_events_heard tick 1 first answers.heard in
@@ -200,15 +198,28 @@ module _ (console : ℕ) (P : Visit → Type 0) (keeps : (v w : Visit) → v.id 
         let h1 : Watched P (get_or desk.seats i None) false one_events w1 = hang_step (get_or desk.seats i None) lost events w h in
         let h2 : Watched P (get_or first i None) false two_events w2 = all_come_step tick desk.seats answers.accepts one_events w1 news h1 in
         let h3 : Watched P (seat_after (get_or first i None) heard.reads heard.over) false three_events w3 = read_step tick (get_or first i None) heard.reads heard.over two_events w2 h2 in
-        let h4 : Watched P (get_or second i None) false three_events w3 = subst (λ (o : Option Talk). Watched P o false three_events w3) (sym (seat_heard i first answers.heard lawful.heard)) h3 in
-        let zero_plus : i ≡ 0 + i = omega arith in
-        let h5 : Watched P (seat_told (get_or second i None) told.puts told.lost) told.lost three_events w3 =
-        told_step (get_or shown i []) (get_or second i None) told.puts told.lost three_events w3 (told_lawful shown 0 i i second answers.told zero_plus lawful.told) h4 in
+        let h4 : Watched P (get_or second i None) false three_events w3 = subst (λ (o : Option Talk). Watched P o false three_events w3) (sym (seat_heard i first answers.heard)) h3 in
         let events_are : three_events ≡ events ++ events_at console (events_of_turn tick texts desk answers) =
-        (λ j. ((events ++ sym (hangs_at console 1 i tick desk.failed (number_of console one)) j) ++ events_at console dialled) ++ sym (heard_there console 1 i tick first answers.heard (number_of console one) lawful.heard) j)
+        (λ j. ((events ++ sym (hangs_at console 1 i tick desk.failed (number_of console one)) j) ++ events_at console dialled) ++ sym (heard_there console 1 i tick first answers.heard (number_of console one)) j)
         ∙ append_assoc (events ++ events_at console hung_events) (events_at console dialled) (events_at console said_events)
         ∙ append_assoc events (events_at console hung_events) (events_at console dialled ++ events_at console said_events)
         ∙ ap (λ (l : List Event). events ++ l) (ap (λ (l : List Event). events_at console hung_events ++ l) (sym (at_both console dialled said_events)) ∙ sym (at_both console hung_events (dialled ++ said_events))) in
-        subst (λ (l : List Event). Watched P (get_or (desk_after texts desk answers).seats i None) (get_or (desk_after texts desk answers).failed i false) l w3) events_are
-        (subst (λ (l : Bool). Watched P (get_or (desk_after texts desk answers).seats i None) l three_events w3) (sym (lost_at i answers.told))
-        (subst (λ (o : Option Talk). Watched P o told.lost three_events w3) (sym (seat_sent shown 0 i second answers.told lawful.told)) h5))
+        subst (λ (l : List Event). Watched P (get_or second i None) false l w3) events_are h4
+
+    -- a whole turn
+    pub turn_step : (tick : ℕ) (shown : List (List ℕ)) (desk : Desk) (answers : TurnAnswers) (events : List Event) (w : Watch) → IsTurn texts shown desk answers → All (λ (id : ℕ). P (new_visit console turn texts id)) answers.accepts →
+        Watched P (get_or desk.seats (console - 1) None) (get_or desk.failed (console - 1) false) events w →
+        Watched P (get_or (desk_after texts desk answers).seats (console - 1) None) (get_or (desk_after texts desk answers).failed (console - 1) false)
+        (events ++ events_at console (events_of_turn tick texts desk answers)) (watched console turn texts desk answers w)
+    turn_step tick shown desk answers events w lawful news h =
+        let i = console - 1 in
+        let second = seats_to_write texts desk answers in
+        let told = get_or answers.told i none_told in
+        let now = events ++ events_at console (events_of_turn tick texts desk answers) in
+        let seen = watched console turn texts desk answers w in
+        let zero_plus : i ≡ 0 + i = omega arith in
+        let read_all : Watched P (get_or second i None) false now seen = turn_read tick desk answers events w news h in
+        let told_all : Watched P (seat_told (get_or second i None) told.puts told.lost) told.lost now seen =
+        told_step (get_or shown i []) (get_or second i None) told.puts told.lost now seen (told_lawful shown 0 i i second answers.told zero_plus lawful.told) read_all in
+        subst (λ (l : Bool). Watched P (get_or (desk_after texts desk answers).seats i None) l now seen) (sym (lost_at i answers.told))
+        (subst (λ (o : Option Talk). Watched P o told.lost now seen) (sym (seat_sent shown 0 i second answers.told lawful.told)) told_all)

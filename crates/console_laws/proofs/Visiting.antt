@@ -26,7 +26,7 @@ use Rattle.console_laws.proofs.KeptSteps.{Begins, IsOver, IsOn, Kept, kept_turn}
 grows_on : (a b c : List ℕ) → Grows a b → Grows b c → Grows a c
 grows_on a b c one two = (one.0 ++ two.0, two.1 ∙ ap (λ (l : List ℕ). l ++ two.0) one.1 ∙ append_assoc a one.0 two.0)
 
-grows_none : (a : List ℕ) → Grows a a
+pub grows_none : (a : List ℕ) → Grows a a
 grows_none a = ([], sym (append-nil a))
 
 -- each console's text grows
@@ -81,14 +81,14 @@ module _ (console : ℕ) (one : 1 ≤ console) (start : List (List ℕ)) (all : 
     pub place : v.place ≡ end_of (texts_behind start (take v.turn all)) (Some console)
     pub number : Contains (accepted_in v.turn all) v.id
 
-  came_still : (v w : Visit) → v.id ≡ w.id → v.turn ≡ w.turn → v.place ≡ w.place → Came v → Came w
+  pub came_still : (v w : Visit) → v.id ≡ w.id → v.turn ≡ w.turn → v.place ≡ w.place → Came v → Came w
   came_still v w id turn place c =
       record {
         place = sym place ∙ c.place ∙ ap (λ (n : ℕ). end_of (texts_behind start (take n all)) (Some console)) turn;
         number = subst (λ (n : ℕ). Contains (accepted_in n all) w.id) turn (subst (Contains (accepted_in v.turn all)) id c.number);
       }
 
-  all_came : (n : ℕ) (texts : List (List ℕ)) (t : TurnSeen) (turns : List TurnSeen) → t ∷ turns ≡ drop n all → texts ≡ texts_behind start (take n all) → All (λ (id : ℕ). Came (new_visit console n texts id)) t.answers.accepts
+  pub all_came : (n : ℕ) (texts : List (List ℕ)) (t : TurnSeen) (turns : List TurnSeen) → t ∷ turns ≡ drop n all → texts ≡ texts_behind start (take n all) → All (λ (id : ℕ). Came (new_visit console n texts id)) t.answers.accepts
   all_came n texts t turns left is k d lt =
       record {
         place = ap (λ (l : List (List ℕ)). end_of l (Some console)) is;
@@ -96,40 +96,40 @@ module _ (console : ℕ) (one : 1 ≤ console) (start : List (List ℕ)) (all : 
       }
 
   -- what the core hears at the console
-  heard_turns : (n : ℕ) (texts : List (List ℕ)) (desk : Desk) (turns : List TurnSeen) (events : List Event) (w : Watch) → turns ≡ drop n all → texts ≡ texts_behind start (take n all) → AreTurns texts desk turns →
+  pub heard_turns : (n : ℕ) (texts : List (List ℕ)) (desk : Desk) (turns behind : List TurnSeen) (events : List Event) (w : Watch) → turns ++ behind ≡ drop n all → texts ≡ texts_behind start (take n all) → AreTurns texts desk turns →
       Watched Came (get_or desk.seats (console - 1) None) (get_or desk.failed (console - 1) false) events w →
       Watched Came (get_or (desk_behind texts desk turns).seats (console - 1) None) (get_or (desk_behind texts desk turns).failed (console - 1) false)
       (events ++ events_at console (events_in (events_of_turns n texts desk turns))) (all_watched console n texts desk turns w)
-  heard_turns n texts desk [] events w left at lawful h =
+  heard_turns n texts desk [] behind events w left at lawful h =
       subst (λ (l : List Event). Watched Came (get_or desk.seats (console - 1) None) (get_or desk.failed (console - 1) false) l w) (sym (append-nil events)) h
-  heard_turns n texts desk (t ∷ turns) events w left at lawful h =
+  heard_turns n texts desk (t ∷ turns) behind events w left at lawful h =
       let next = desk_after texts desk t.answers in
       let here = events_of_turn (1000 * n) texts desk t.answers in
       let rest = events_in (events_of_turns (suc n) t.shown next turns) in
       let w1 = watched console n texts desk t.answers w in
-      let h1 = turn_step console Came came_still one n texts (1000 * n) t.shown desk t.answers events w lawful.0 (all_came n texts t turns left at) h in
+      let h1 = turn_step console Came came_still one n texts (1000 * n) t.shown desk t.answers events w lawful.0 (all_came n texts t (turns ++ behind) left at) h in
       subst (λ (l : List Event). Watched Came (get_or (desk_behind t.shown next turns).seats (console - 1) None) (get_or (desk_behind t.shown next turns).failed (console - 1) false) l (all_watched console (suc n) t.shown next turns w1))
       (append_assoc events (events_at console here) (events_at console rest) ∙ ap (λ (l : List Event). events ++ l) (sym (at_both console here rest)))
-      (heard_turns (suc n) t.shown next turns (events ++ events_at console here) w1 (left_next n t turns all left) (texts_next n start t turns all left) lawful.1.1 h1)
+      (heard_turns (suc n) t.shown next turns behind (events ++ events_at console here) w1 (left_next n t (turns ++ behind) all left) (texts_next n start t (turns ++ behind) all left) lawful.1.1 h1)
 
   -- what passes over its connections
-  kept_turns : (n : ℕ) (texts : List (List ℕ)) (desk : Desk) (turns : List TurnSeen) (a b : LinkSeen) (events : List Event) (w : Watch) → turns ≡ drop n all → texts ≡ texts_behind start (take n all) → AreTurns texts desk turns →
+  pub kept_turns : (n : ℕ) (texts : List (List ℕ)) (desk : Desk) (turns behind : List TurnSeen) (a b : LinkSeen) (events : List Event) (w : Watch) → turns ++ behind ≡ drop n all → texts ≡ texts_behind start (take n all) → AreTurns texts desk turns →
       texts_behind texts turns ≡ texts_behind start all → a.tells ≡ true → DidAll (calls_of_turns texts desk turns) a b →
       Watched Came (get_or desk.seats (console - 1) None) (get_or desk.failed (console - 1) false) events w → Kept console (get_or (texts_behind start all) (console - 1) []) a desk.seats w →
       Kept console (get_or (texts_behind start all) (console - 1) []) b (desk_behind texts desk turns).seats (all_watched console n texts desk turns w)
-  kept_turns n texts desk [] a b events w left at lawful whole tells (Nothing _) h k = k
-  kept_turns n texts desk (t ∷ turns) a b events w left at lawful whole tells did h k =
+  kept_turns n texts desk [] behind a b events w left at lawful whole tells (Nothing _) h k = k
+  kept_turns n texts desk (t ∷ turns) behind a b events w left at lawful whole tells did h k =
       let next = desk_after texts desk t.answers in
       let here = events_of_turn (1000 * n) texts desk t.answers in
       let w1 = watched console n texts desk t.answers w in
-      let h1 = turn_step console Came came_still one n texts (1000 * n) t.shown desk t.answers events w lawful.0 (all_came n texts t turns left at) h in
+      let h1 = turn_step console Came came_still one n texts (1000 * n) t.shown desk t.answers events w lawful.0 (all_came n texts t (turns ++ behind) left at) h in
       let parts = did_split (calls_of_turn texts desk t.answers) (calls_of_turns t.shown next turns) a b did in
       let i = console - 1 in
       let last = get_or (texts_behind start all) i [] in
       let grown : Grows (get_or texts i []) last = subst (λ (l : List (List ℕ)). Grows (get_or texts i []) (get_or l i [])) whole (grows_behind i texts desk (t ∷ turns) lawful) in
       let grown_next : Grows (get_or t.shown i []) last = subst (λ (l : List (List ℕ)). Grows (get_or t.shown i []) (get_or l i [])) whole (grows_behind i t.shown next turns lawful.1.1) in
       let k1 = kept_turn console last one n texts grown t.shown desk t.answers a parts.0 w grown_next short tells lawful.0 parts.1 h.now k in
-      kept_turns (suc n) t.shown next turns parts.0 b (events ++ events_at console here) w1 (left_next n t turns all left) (texts_next n start t turns all left) lawful.1.1 whole
+      kept_turns (suc n) t.shown next turns behind parts.0 b (events ++ events_at console here) w1 (left_next n t (turns ++ behind) all left) (texts_next n start t (turns ++ behind) all left) lawful.1.1 whole
       (tells_still (calls_of_turn texts desk t.answers) a parts.0 tells parts.1) parts.2 h1 k1
 
 -- all visits, in order
@@ -138,7 +138,7 @@ abbrev as_list : Option Visit → List Visit
 as_list None = []
 as_list (Some v) = v ∷ []
 
-abbrev nothing_watched : Watch
+abbrev pub nothing_watched : Watch
 nothing_watched = record { past = []; now = None }
 
 not_over : (seat : Option Talk) (lost : Bool) (v : Visit) → IsNow seat lost (Some v) → v.hung ≡ false
@@ -171,17 +171,17 @@ now_more P Q (Some v) f h = f v h
 abbrev no_talk : Option Talk
 no_talk = None
 
-none_at : (n i : ℕ) → get_or (replicate n no_talk) i None ≡ None
+pub none_at : (n i : ℕ) → get_or (replicate n no_talk) i None ≡ None
 none_at zero i = refl
 none_at (suc n) zero = refl
 none_at (suc n) (suc i) = none_at n i
 
-none_lost : (n i : ℕ) → get_or (replicate n false) i false ≡ false
+pub none_lost : (n i : ℕ) → get_or (replicate n false) i false ≡ false
 none_lost zero i = refl
 none_lost (suc n) zero = refl
 none_lost (suc n) (suc i) = none_lost n i
 
-short_at : (i : ℕ) (texts : List (List ℕ)) → All (λ (text : List ℕ). length text < 2 ^ 64) texts → length (get_or texts i []) < 2 ^ 64
+pub short_at : (i : ℕ) (texts : List (List ℕ)) → All (λ (text : List ℕ). length text < 2 ^ 64) texts → length (get_or texts i []) < 2 ^ 64
 short_at i [] h = omega arith
 short_at zero (t ∷ texts) h = h 0 t (omega arith)
 short_at (suc i) (t ∷ texts) h = short_at i texts (λ k d lt. h (suc k) d (omega (arith, lt)))
@@ -189,10 +189,10 @@ short_at (suc i) (t ∷ texts) h = short_at i texts (λ k d lt. h (suc k) d (ome
 as_taken : (xs whole : List ℕ) → Begins xs whole → xs ≡ take (length xs) whole
 as_taken xs whole h = sym (ap (take (length xs)) h.1 ∙ take_at xs h.0 (length xs) refl)
 
-nothing_heard : (P : Visit → Type 0) → Watched P None false [] nothing_watched
+pub nothing_heard : (P : Visit → Type 0) → Watched P None false [] nothing_watched
 nothing_heard P = record { hung = All-nil (λ (v : Visit). v.hung ≡ true); heard = refl; now = tt; places = All-nil P; place = tt }
 
-nothing_kept : (console : ℕ) (whole : List ℕ) (s : LinkSeen) (desk : Desk) → desk.seats ≡ replicate 32 None → Kept console whole s desk.seats nothing_watched
+pub nothing_kept : (console : ℕ) (whole : List ℕ) (s : LinkSeen) (desk : Desk) → desk.seats ≡ replicate 32 None → Kept console whole s desk.seats nothing_watched
 nothing_kept console whole s desk free =
     record {
       given = λ j. subst (OnSeat (WasGiven s)) (sym (ap (λ (l : List (Option Talk)). get_or l j None) free ∙ none_at 32 j)) tt;
@@ -200,35 +200,63 @@ nothing_kept console whole s desk free =
       now = tt;
     }
 
+-- the visits of a console that is watched
+
+abbrev pub visits_of : Watch → List Visit
+visits_of w = w.past ++ as_list w.now
+
+pub all_heard : (P : Visit → Type 0) (seat : Option Talk) (lost : Bool) (events : List Event) (w : Watch) → Watched P seat lost events w → events ≡ flat_map events_of_visit (visits_of w)
+all_heard P seat lost events w h = h.heard ∙ ap (λ (l : List Event). flat_map events_of_visit w.past ++ l) (said_is seat lost w.now h.now) ∙ sym (fm_both w.past (as_list w.now))
+
+pub all_in_order : (P : Visit → Type 0) (seat : Option Talk) (lost : Bool) (events : List Event) (w : Watch) → Watched P seat lost events w → OneAtATime (visits_of w)
+all_in_order P seat lost events w h = in_order w.past w.now h.hung
+
+pub all_places : (P : Visit → Type 0) (seat : Option Talk) (lost : Bool) (events : List Event) (w : Watch) → Watched P seat lost events w → All P (visits_of w)
+all_places P seat lost events w h = all_visits P w.past w.now h.places h.place
+
+pub all_taken : (console : ℕ) (whole : List ℕ) (b : LinkSeen) (seats : List (Option Talk)) (w : Watch) → Kept console whole b seats w → All (λ (v : Visit). (b.passed v.id).taken ≡ v.bytes) (visits_of w)
+all_taken console whole b seats w k =
+    all_visits (λ (v : Visit). (b.passed v.id).taken ≡ v.bytes) w.past w.now
+    (λ j d lt. (k.past j d lt).carried.taken) (now_more (IsOn console whole b seats) (λ (v : Visit). (b.passed v.id).taken ≡ v.bytes) w.now (λ v on. on.carried.taken) k.now)
+
+pub all_sent : (console : ℕ) (whole : List ℕ) (b : LinkSeen) (seats : List (Option Talk)) (w : Watch) → Kept console whole b seats w →
+    All (λ (v : Visit). (b.passed v.id).sent ≡ take (length (b.passed v.id).sent) (drop v.place whole)) (visits_of w)
+all_sent console whole b seats w k =
+    all_visits (λ (v : Visit). (b.passed v.id).sent ≡ take (length (b.passed v.id).sent) (drop v.place whole)) w.past w.now
+    (λ j d lt. as_taken _ _ (k.past j d lt).carried.sent)
+    (now_more (IsOn console whole b seats) (λ (v : Visit). (b.passed v.id).sent ≡ take (length (b.passed v.id).sent) (drop v.place whole)) w.now (λ v on. as_taken _ _ on.carried.sent) k.now)
+
+-- nothing is heard yet of a desk without connections
+pub nothing_at : (P : Visit → Type 0) (i : ℕ) (desk : Desk) → desk.seats ≡ replicate 32 None → desk.failed ≡ replicate 32 false → Watched P (get_or desk.seats i None) (get_or desk.failed i false) [] nothing_watched
+nothing_at P i desk free unlost =
+    let seat : get_or desk.seats i None ≡ None = ap (λ (l : List (Option Talk)). get_or l i None) free ∙ none_at 32 i in
+    let lost : get_or desk.failed i false ≡ false = ap (λ (l : List Bool). get_or l i false) unlost ∙ none_lost 32 i in
+    subst (λ (o : Option Talk). Watched P o (get_or desk.failed i false) [] nothing_watched) (sym seat)
+    (subst (λ (l : Bool). Watched P None l [] nothing_watched) (sym lost) (nothing_heard P))
+
 pub events_are_visits : EventsAreVisits
 events_are_visits console texts desk turns a b one free unlost lawful shorts did =
     let i = console - 1 in
     let whole = get_or (texts_behind texts turns) i [] in
     let short : length whole < 2 ^ 64 = short_at i (texts_behind texts turns) shorts in
     let P = Came console one texts turns short in
-    let seat : get_or desk.seats i None ≡ None = ap (λ (l : List (Option Talk)). get_or l i None) free ∙ none_at 32 i in
-    let lost : get_or desk.failed i false ≡ false = ap (λ (l : List Bool). get_or l i false) unlost ∙ none_lost 32 i in
-    let start : Watched P (get_or desk.seats i None) (get_or desk.failed i false) [] nothing_watched =
-    subst (λ (o : Option Talk). Watched P o (get_or desk.failed i false) [] nothing_watched) (sym seat)
-    (subst (λ (l : Bool). Watched P None l [] nothing_watched) (sym lost) (nothing_heard P)) in
+    let start : Watched P (get_or desk.seats i None) (get_or desk.failed i false) [] nothing_watched = nothing_at P i desk free unlost in
     let w = all_watched console 0 texts desk turns nothing_watched in
     let events = events_in (events_of_turns 0 texts desk turns) in
-    let last_seat = get_or (desk_behind texts desk turns).seats i None in
-    let last_lost = get_or (desk_behind texts desk turns).failed i false in
-    let h : Watched P last_seat last_lost (events_at console events) w = heard_turns console one texts turns short 0 texts desk turns [] nothing_watched refl refl lawful start in
-    let came : All P (w.past ++ as_list w.now) = all_visits P w.past w.now h.places h.place in
-    let kept : b.tells ≡ true → Kept console whole b (desk_behind texts desk turns).seats w = λ tells.
-    kept_turns console one texts turns short 0 texts desk turns a b [] nothing_watched refl refl lawful refl (sym (tells_same (calls_of_turns texts desk turns) a b did) ∙ tells) did start (nothing_kept console whole a desk free) in (
-      w.past ++ as_list w.now,
+    let seats = (desk_behind texts desk turns).seats in
+    let seat = get_or seats i None in
+    let lost = get_or (desk_behind texts desk turns).failed i false in
+    let here : turns ++ [] ≡ turns = append-nil turns in
+    let h : Watched P seat lost (events_at console events) w = heard_turns console one texts turns short 0 texts desk turns [] [] nothing_watched here refl lawful start in
+    let kept : b.tells ≡ true → Kept console whole b seats w = λ tells.
+    kept_turns console one texts turns short 0 texts desk turns [] a b [] nothing_watched here refl lawful refl (sym (tells_same (calls_of_turns texts desk turns) a b did) ∙ tells) did start (nothing_kept console whole a desk free) in (
+      visits_of w,
       record {
-        heard = h.heard ∙ ap (λ (l : List Event). flat_map events_of_visit w.past ++ l) (said_is last_seat last_lost w.now h.now) ∙ sym (fm_both w.past (as_list w.now));
-        order = in_order w.past w.now h.hung;
-        places = λ k d lt. (came k d lt).place;
-        taken = λ tells. all_visits (λ (v : Visit). (b.passed v.id).taken ≡ v.bytes) w.past w.now
-            (λ k d lt. ((kept tells).past k d lt).carried.taken) (now_more (IsOn console whole b (desk_behind texts desk turns).seats) (λ (v : Visit). (b.passed v.id).taken ≡ v.bytes) w.now (λ v on. on.carried.taken) (kept tells).now);
-        sent = λ tells. all_visits (λ (v : Visit). (b.passed v.id).sent ≡ take (length (b.passed v.id).sent) (drop v.place whole)) w.past w.now
-            (λ k d lt. as_taken _ _ ((kept tells).past k d lt).carried.sent)
-            (now_more (IsOn console whole b (desk_behind texts desk turns).seats) (λ (v : Visit). (b.passed v.id).sent ≡ take (length (b.passed v.id).sent) (drop v.place whole)) w.now (λ v on. as_taken _ _ on.carried.sent) (kept tells).now);
+        heard = all_heard P seat lost (events_at console events) w h;
+        order = all_in_order P seat lost (events_at console events) w h;
+        places = λ k d lt. (all_places P seat lost (events_at console events) w h k d lt).place;
+        taken = λ tells. all_taken console whole b seats w (kept tells);
+        sent = λ tells. all_sent console whole b seats w (kept tells);
       },
-      λ k d lt. (came k d lt).number,
+      λ k d lt. (all_places P seat lost (events_at console events) w h k d lt).number,
     )

@@ -1,12 +1,16 @@
--- claim: what the core hears at a console over many turns is what the console's connections sent, one after another.
-use Rattle.std.specs.Prelude.{◌≡◌, ℕ, zero, suc, ◌<◌, ◌≤◌, ◌^◌, false, List, [], ◌∷◌, length, replicate, None}
-use Rattle.std.specs.List.{All, Contains}
+-- claim: what the core hears at a console over many turns is what the console's connections sent, one after another; and so far, where
+-- a turn failed.
+use Rattle.std.specs.Prelude.{◌≡◌, ℕ, zero, suc, ◌-◌, ◌*◌, ◌<◌, ◌≤◌, ◌^◌, true, false, List, [], ◌∷◌, ◌++◌, length, take, drop, map, replicate, get_or, Some, None}
+use Rattle.std.specs.List.{All, Contains, flat_map}
+use Rattle.ctss_types.specs.declared.script.Event.{Event}
+use Rattle.ctss_types.specs.declared.script.Timed.{Timed}
 use Rattle.console_link.specs.Links.{LinkSeen}
 use Rattle.console_server.specs.Readings.{DidAll}
-use Rattle.console_server.specs.Turns.{Desk}
+use Rattle.console_server.specs.Turns.{Desk, TurnAnswers, end_of}
 use Rattle.console_server.specs.History.{events_in}
-use Rattle.console_server.specs.Conversation.{TurnSeen, AreTurns, calls_of_turns, events_of_turns, texts_behind}
-use Rattle.console_server.specs.Visits.{Visit, AreVisits}
+use Rattle.console_server.specs.Server.{CutAt, Waiting, Hanging, Accepting, Dialling, Reading, Advancing, calls_until, GivenUntil}
+use Rattle.console_server.specs.Conversation.{TurnSeen, AreTurns, calls_of_turns, events_of_turns, desk_behind, texts_behind}
+use Rattle.console_server.specs.Visits.{Visit, OneAtATime, events_of_visit, events_at, AreVisits}
 
 -- the numbers of the connections that were accepted in a turn
 abbrev pub accepted_in : ℕ → List TurnSeen → List ℕ
@@ -28,3 +32,46 @@ EventsAreVisits =
     → (visits : List Visit)
     × AreVisits console texts turns (events_in (events_of_turns 0 texts desk turns)) b visits
     × HaveCome turns visits
+
+-- the numbers of the connections that were accepted in each turn, and in one that failed
+abbrev pub accepted_each : List TurnSeen → List (List ℕ)
+accepted_each turns = map (λ (t : TurnSeen). t.answers.accepts) turns
+
+abbrev pub accepted_until : TurnAnswers → CutAt → List ℕ
+accepted_until turn Waiting = []
+accepted_until turn Hanging = []
+accepted_until turn Accepting = turn.accepts
+accepted_until turn Dialling = turn.accepts
+accepted_until turn Reading = turn.accepts
+accepted_until turn Advancing = turn.accepts
+
+-- each was accepted in its turn, or in the one behind them that failed
+abbrev pub HaveComeUntil : List TurnSeen → TurnAnswers → CutAt → List Visit → Type 0
+HaveComeUntil turns answers at visits =
+    All (λ (v : Visit). Contains (get_or (accepted_each turns ++ accepted_until answers at ∷ []) v.turn []) v.id) visits
+
+-- The console's connections over these turns and one that failed: what the core heard so far is a beginning of what their bytes say,
+-- and else as in `AreVisits`.
+pub record AreVisitsSoFar (console : ℕ) (texts : List (List ℕ)) (turns : List TurnSeen) (events : List Timed) (more : List Event) (link : LinkSeen) (visits : List Visit) : Type 0 where
+  pub heard : events_at console events ++ more ≡ flat_map events_of_visit visits
+  pub order : OneAtATime visits
+  pub places : All (λ (v : Visit). v.place ≡ end_of (texts_behind texts (take v.turn turns)) (Some console)) visits
+  pub taken : link.tells ≡ true → All (λ (v : Visit). (link.passed v.id).taken ≡ v.bytes) visits
+  pub sent : link.tells ≡ true
+      → All (λ (v : Visit). (link.passed v.id).sent ≡ take (length (link.passed v.id).sent) (drop v.place (get_or (texts_behind texts turns) (console - 1) []))) visits
+
+-- From a desk without connections on, behind turns and one that failed, the events at a console are a beginning of those of its visits:
+-- all of them, where the core was to go on.
+abbrev pub CutEventsAreVisits : Type 0
+CutEventsAreVisits =
+    (console : ℕ) (texts : List (List ℕ)) (desk : Desk) (turns : List TurnSeen) (answers : TurnAnswers) (at : CutAt)
+    (events : List Timed) (a c : LinkSeen) → 1 ≤ console
+    → desk.seats ≡ replicate 32 None → desk.failed ≡ replicate 32 false → AreTurns texts desk turns
+    → All (λ (text : List ℕ). length text < 2 ^ 64) (texts_behind texts turns)
+    → DidAll (calls_of_turns texts desk turns
+    ++ calls_until (texts_behind texts turns) (desk_behind texts desk turns) answers at) a c
+    → GivenUntil (1000 * length turns) (texts_behind texts turns) (desk_behind texts desk turns) answers at events
+    → (visits : List Visit) × (more : List Event)
+    × AreVisitsSoFar console texts turns (events_in (events_of_turns 0 texts desk turns) ++ events) more c visits
+    × HaveComeUntil turns answers at visits
+    × (at ≡ Advancing → more ≡ [])

@@ -5,7 +5,7 @@
 #![tactic(auto)]
 
 ghost use Rattle.console_laws.specs.Laws.{FewCalls, CallsAreTold, ReadingStops, WritingStops, OthersLeaveIt, CountsNeverFall, ReadsAreTaken, WritesAreSent};
-ghost use Rattle.console_laws.specs.VisitLaws.{EventsAreVisits};
+ghost use Rattle.console_laws.specs.VisitLaws.{EventsAreVisits, CutEventsAreVisits};
 
 /// A turn makes few calls.
 #[tactic(auto, using(crate::proofs::CallLaws::few_calls))]
@@ -48,4 +48,9 @@ pub fn bytes_pass()
 /// What the core hears at a console over many turns is what the console's connections sent, one after another.
 pub fn events_are_visits()
     ensures { EventsAreVisits }
+{}
+
+/// Where a turn failed, what the core heard at a console so far is a beginning of what the console's connections sent.
+pub fn cut_events_are_visits()
+    ensures { CutEventsAreVisits }
 {}

@@ -1,6 +1,7 @@
 -- One connection after another is accepted.
-use Rattle.std.specs.Prelude.{Bool, true, false, nat_eq, nat_lt, if◌then◌else◌, length, get_or, Option, Some, None}
-use Rattle.std.proofs.Common.{◌≡◌, ℕ, ◌<◌, List, [], ◌∷◌, ◌++◌, refl, sym, ◌∙◌, ap, subst, arith}
+use Rattle.std.specs.Prelude.{Bool, true, false, nat_eq, nat_lt, if◌then◌else◌, length, take, get_or, Option, Some, None}
+use Rattle.std.proofs.Math.Seq.{take-append_seam}
+use Rattle.std.proofs.Common.{◌≡◌, ℕ, ◌<◌, List, [], ◌∷◌, ◌++◌, refl, sym, ◌∙◌, ap, subst, arith, length-append}
 use Rattle.std.proofs.lemmas.Bool.{false≢true}
 use Rattle.std.proofs.lemmas.Bool.Decides.{nat_tests}
 use Rattle.std.proofs.lemmas.List.{append_assoc, append-nil}
@@ -12,8 +13,8 @@ use Rattle.live_core.specs.Core.{CoreCall}
 use Rattle.console_server.specs.Given.{IsGiven}
 use Rattle.console_server.specs.Readings.{DidAll, Nothing, Then}
 use Rattle.console_server.specs.Turns.{Talk, free_from, seats_with, calls_of_new, dial, calls_accepted, dials, seated, last_accept}
-use Rattle.console_server.specs.Seats.{SeatIsOpen, IsNotOf, AreSeated, StandAll, SeatsAreTaken, AreAccepted, AreDialled}
-use Rattle.console_server.proofs.Following.{did_both, given_both}
+use Rattle.console_server.specs.Seats.{SeatIsOpen, IsNotOf, AreSeated, StandAll, SeatsAreTaken, AreAccepted, AreDialled, AreDialledPart}
+use Rattle.console_server.proofs.Following.{did_both, did_one, given_both}
 
 same_number : (n : ℕ) → nat_eq n n ≡ true
 same_number n = grind (arith, nat_tests)
@@ -105,8 +106,29 @@ module _ {C : Type 0} (goes : C → List CoreCall → C → Type 0) (none : (a :
         stands = s.stands;
       }
 
-  -- memory lacked for the next of these
-  pub dialled_short : (tick : ℕ) (texts : List (List ℕ)) (desk : List (Option Talk)) (ids : List ℕ) (p q r : C) (x y z : List Timed) → IsGiven goes (dials tick texts desk ids) p q x y → IsGiven goes [] q r y z → AreDialled goes tick texts desk p r x z
-  dialled_short tick texts desk ids p q r x y z before last =
+  -- the listener failed
+  pub accept_failed : (tick : ℕ) (texts : List (List ℕ)) (desk : List (Option Talk)) (ids : List ℕ) (a b c : LinkSeen) (p q : C) (x y : List Timed) (now : List (Option Task)) →
+      SeatsAreTaken goes tick texts desk ids a b p q x y now → length ids < 32 → Did (DidAccept accepted.Failed) b c → AreDialled goes tick texts desk a c p q x y
+  accept_failed tick texts desk ids a b c p q x y now s few did =
+      record {
+        ids = ids;
+        few = few;
+        link = did_one (calls_accepted texts desk ids) (DidAccept accepted.Failed) a b c s.link did;
+        core = s.core;
+      }
+
+  -- memory lacked for the Dial of the last one
+  pub dial_failed : (tick : ℕ) (texts : List (List ℕ)) (desk : List (Option Talk)) (ids : List ℕ) (id : ℕ) (a b c d : LinkSeen) (p q r : C) (x y z : List Timed) (now : List (Option Task)) →
+      SeatsAreTaken goes tick texts desk ids a b p q x y now → length ids < 32 → Did (DidAccept (accepted.New id)) b c → DidAll (calls_of_new (free_from 1 (seated texts desk ids)) id) c d →
+      IsGiven goes [] q r y z → AreDialledPart goes tick texts desk a d p r x z
+  dial_failed tick texts desk ids id a b c d p q r x y z now s few did closes last =
       let front = dials tick texts desk ids in
-      (ids, subst (λ (es : List Timed). IsGiven goes es p r x z) (append-nil front) (given_both goes none on front [] p q r x y z before last))
+      let back = dial tick (free_from 1 (seated texts desk ids)) in
+      let both : dials tick texts desk (ids ++ id ∷ []) ≡ front ++ back = dials_end texts tick desk ids id in
+      let part : front ++ [] ≡ take (length front) (dials tick texts desk (ids ++ id ∷ [])) = append-nil front ∙ sym (ap (take (length front)) both ∙ take-append_seam front back) in
+      record {
+        ids = ids ++ id ∷ [];
+        few = omega (arith, length-append ids (id ∷ []), few);
+        link = subst (λ (ds : List Done). DidAll ds a d) (sym (calls_end texts desk ids id)) (did_both _ _ a b d s.link (Then (DidAccept (accepted.New id)) _ b c d did closes));
+        core = (length front, subst (λ (es : List Timed). IsGiven goes es p r x z) part (given_both goes none on front [] p q r x y z s.core last));
+      }

@@ -1,19 +1,21 @@
 -- What a turn leaves that was not done to its end.
-use Rattle.std.specs.Prelude.{Bool, map, length, get_or, set, take, drop, replicate, Option, Some, None}
+use Rattle.std.specs.Prelude.{Bool, true, false, map, length, get_or, set, take, drop, replicate, Option, Some, None}
 use Rattle.std.proofs.Math.Seq.{take-append_seam, take-append-add, take-length}
-use Rattle.std.proofs.Common.{◌≡◌, ℕ, zero, suc, ◌+◌, ◌*◌, ◌<◌, List, [], ◌∷◌, ◌++◌, refl, sym, ◌∙◌, ap, subst, arith}
+use Rattle.std.proofs.Common.{◌≡◌, ◌≢◌, ℕ, zero, suc, ◌+◌, ◌*◌, ◌<◌, List, [], ◌∷◌, ◌++◌, refl, sym, ◌∙◌, ap, subst, arith}
 use Rattle.std.proofs.lemmas.List.{append_assoc, append-nil, take_more, take-append-drop}
 use Rattle.ctss_types.specs.declared.script.Timed.{Timed}
-use Rattle.console_link.specs.Links.{LinkSeen, Done, Did, DidClose}
+use Rattle.console_link.specs.Links.{LinkSeen, Done, Did, DidWait, DidClose}
 use Rattle.live_core.specs.Core.{CoreSeen, CoreCall, Took}
 use Rattle.console_server.specs.declared.fault.ServeFault.{ServeFault}
+use Rattle.console_server.specs.declared.fault.ServeFault.TheVariants as serve
 use Rattle.console_server.specs.declared.tasks.Task.{Task}
 use Rattle.console_server.specs.Given.{IsGiven, IsGivenPart}
 use Rattle.console_server.specs.Readings.{DidAll, Nothing, Then}
-use Rattle.console_server.specs.Turns.{Talk, Desk, TurnAnswers, hangs, dials, seated, all_events_heard, events_of_turn}
-use Rattle.console_server.specs.Seats.{AreSeated, SeatIsOpen, IsOther, SeatsAreHeard, AreDialled, AreHeardPart, IsGivenOfTurn}
-use Rattle.console_server.specs.Server.{IsCut, ends_with, closes, closes_of}
+use Rattle.console_server.specs.Turns.{Talk, Desk, HeardOf, TurnAnswers, AreHeard, hangs, dials, seated, seats_to_read, calls_accepted, last_accept, all_calls_heard, all_events_heard, events_of_turn}
+use Rattle.console_server.specs.Seats.{AreSeated, SeatIsOpen, IsOther, SeatsAreHeard, AreAccepted, AreDialled, AreDialledPart, AreHeardPart}
+use Rattle.console_server.specs.Server.{CutAt, Waiting, Hanging, Accepting, Dialling, Reading, Advancing, calls_until, GivenUntil, ends_with, IsCutTurn, IsCut, closes, closes_of}
 use Rattle.console_server.proofs.Following.{given_both, did_both}
+use Rattle.console_server.proofs.SeatLaws.{nothing_given}
 
 -- a beginning of a list is one of a longer list too
 part_of : (n : ℕ) (xs ys : List Timed) → take n xs ≡ take (length (take n xs)) (xs ++ ys)
@@ -22,57 +24,138 @@ part_of n xs ys = sym (ap (take (length (take n xs))) both ∙ take-append_seam 
     both : xs ++ ys ≡ take n xs ++ (drop n xs ++ ys)
     both = ap (λ (l : List Timed). l ++ ys) (sym (take-append-drop n xs)) ∙ append_assoc (take n xs) (drop n xs) ys
 
+-- the faults of the core
+abbrev pub IsOfCore : ServeFault → Type 0
+IsOfCore serve.Link = ⊥
+IsOfCore serve.Drum = Unit {0}
+IsOfCore serve.Disk = Unit {0}
+IsOfCore serve.NoMemory = Unit {0}
+
+not_link : (fault : ServeFault) → IsOfCore fault → fault ≢ serve.Link
+not_link fault h is = subst IsOfCore is h
+
+again : (n : ℕ) (xs : List Timed) → take n xs ≡ take (length (take n xs)) xs
+again n xs = part_of n xs [] ∙ ap (take (length (take n xs))) (append-nil xs)
+
+begins_longer : (now xs ys : List Timed) → now ≡ take (length now) xs → now ≡ take (length now) (xs ++ ys)
+begins_longer now xs ys is = is ∙ part_of (length now) xs ys ∙ ap (λ (l : List Timed). take (length l) (xs ++ ys)) (sym is)
+
+whole_begins : (now xs ys : List Timed) → now ≡ xs → now ≡ take (length now) (xs ++ ys)
+whole_begins now xs ys is = is ∙ sym (take-append_seam xs ys) ∙ ap (λ (l : List Timed). take (length l) (xs ++ ys)) (sym is)
+
+whole_is : (now xs : List Timed) → now ≡ xs → now ≡ take (length now) xs
+whole_is now xs is = is ∙ sym (take-length xs) ∙ ap (λ (l : List Timed). take (length l) xs) (sym is)
+
+-- what was given until then is a beginning of the turn's events
+part_until : (tick : ℕ) (texts : List (List ℕ)) (desk : Desk) (turn : TurnAnswers) (at : CutAt) (events : List Timed) → GivenUntil tick texts desk turn at events → events ≡ take (length events) (events_of_turn tick texts desk turn)
+part_until tick texts desk turn Waiting events h = h ∙ sym (ap (λ (l : List Timed). take (length l) (events_of_turn tick texts desk turn)) h)
+part_until tick texts desk turn Hanging events h =
+    begins_longer events (hangs tick 1 desk.failed) (dials tick texts desk.seats turn.accepts ++ all_events_heard tick 1 (seats_to_read texts desk turn) turn.heard) h
+part_until tick texts desk turn Accepting events h =
+    let es = hangs tick 1 desk.failed in
+    let fs = dials tick texts desk.seats turn.accepts in
+    let gs = all_events_heard tick 1 (seats_to_read texts desk turn) turn.heard in
+    whole_begins events (es ++ fs) gs h ∙ ap (take (length events)) (append_assoc es fs gs)
+part_until tick texts desk turn Dialling events h =
+    let es = hangs tick 1 desk.failed in
+    let fs = dials tick texts desk.seats turn.accepts in
+    let gs = all_events_heard tick 1 (seats_to_read texts desk turn) turn.heard in
+    begins_longer events (es ++ fs) gs h ∙ ap (take (length events)) (append_assoc es fs gs)
+part_until tick texts desk turn Reading events h = h
+part_until tick texts desk turn Advancing events h = whole_is events (events_of_turn tick texts desk turn) h
+
+-- the calls of a turn up to its reads
+calls_joined : (texts : List (List ℕ)) (seats : List (Option Talk)) (ids : List ℕ) (heard : List HeardOf) (b c d : LinkSeen) → DidAll (calls_accepted texts seats ids ++ last_accept ids) b c → DidAll (all_calls_heard (seated texts seats ids) heard) c d →
+    DidAll (calls_accepted texts seats ids ++ (last_accept ids ++ all_calls_heard (seated texts seats ids) heard)) b d
+calls_joined texts seats ids heard b c d one two =
+    subst (λ (ds : List Done). DidAll ds b d) (append_assoc (calls_accepted texts seats ids) (last_accept ids) (all_calls_heard (seated texts seats ids) heard))
+    (did_both (calls_accepted texts seats ids ++ last_accept ids) (all_calls_heard (seated texts seats ids) heard) b c d one two)
+
 abbrev accepted_only : List ℕ → TurnAnswers
 accepted_only ids = record { accepts = ids; heard = []; told = [] }
 
-module _ {C : Type 0} (goes : C → List CoreCall → C → Type 0) (none : (a : C) → goes a [] a) (on : (a b c : C) (hs gs : List CoreCall) → goes a hs b → goes b gs c → goes a (hs ++ gs) c) where
-  module _ (tick : ℕ) (texts : List (List ℕ)) (desk : Desk) where
-    pub turn_none : (p : C) (x : List Timed) → IsGivenOfTurn goes tick texts desk p p x x
-    turn_none p x = (accepted_only [], (0, record { core = none p; noted = sym (append-nil x) }))
-
-    pub turn_hung : (p q : C) (x y : List Timed) → IsGivenPart goes (hangs tick 1 desk.failed) p q x y → IsGivenOfTurn goes tick texts desk p q x y
-    turn_hung p q x y h =
-        let es = hangs tick 1 desk.failed in
-        let rest = dials tick texts desk.seats [] ++ all_events_heard tick 1 desk.seats [] in
-        (accepted_only [], (length (take h.0 es), subst (λ (l : List Timed). IsGiven goes l p q x y) (part_of h.0 es rest) h.1))
-
-    pub turn_dialled : (p q r : C) (x y z : List Timed) → IsGiven goes (hangs tick 1 desk.failed) p q x y → AreDialled goes tick texts desk.seats q r y z → IsGivenOfTurn goes tick texts desk p r x z
-    turn_dialled p q r x y z hung d =
-        let es = hangs tick 1 desk.failed in
-        let fs = dials tick texts desk.seats d.0 in
-        let gs = all_events_heard tick 1 (seated texts desk.seats d.0) [] in
-        let part : es ++ fs ≡ take (length (es ++ fs)) (es ++ (fs ++ gs)) = sym (take-append_seam (es ++ fs) gs) ∙ ap (take (length (es ++ fs))) (append_assoc es fs gs) in
-        (accepted_only d.0, (length (es ++ fs), subst (λ (l : List Timed). IsGiven goes l p r x z) part (given_both goes none on es fs p q r x y z hung d.1)))
-
-    pub turn_heard : (ids : List ℕ) (p q r s : C) (x y z w : List Timed) → IsGiven goes (hangs tick 1 desk.failed) p q x y → IsGiven goes (dials tick texts desk.seats ids) q r y z →
-        AreHeardPart goes tick (seated texts desk.seats ids) r s z w → IsGivenOfTurn goes tick texts desk p s x w
-    turn_heard ids p q r s x y z w hung dialled h =
-        let es = hangs tick 1 desk.failed in
-        let fs = dials tick texts desk.seats ids in
-        let gs = all_events_heard tick 1 (seated texts desk.seats ids) h.0 in
-        let n = length (es ++ fs) + h.1.0 in
-        let part : (es ++ fs) ++ take h.1.0 gs ≡ take n (es ++ (fs ++ gs)) = sym (take-append-add (es ++ fs) gs h.1.0) ∙ ap (take n) (append_assoc es fs gs) in
-        (record { accepts = ids; heard = h.0; told = [] }, (n, subst (λ (l : List Timed). IsGiven goes l p s x w) part (given_both goes none on (es ++ fs) (take h.1.0 gs) p r s x z w (given_both goes none on es fs p q r x y z hung dialled) h.1.1)))
-
-  -- all that was read is a beginning too
-  pub heard_all : (tick : ℕ) (desk : List (Option Talk)) (a b : LinkSeen) (p q : C) (x y : List Timed) (now : List (Option Task)) → SeatsAreHeard goes tick (length desk) desk a b p q x y now → AreHeardPart goes tick desk p q x y
-  heard_all tick desk a b p q x y now hs =
-      let gs = all_events_heard tick 1 desk hs.heard in
-      (hs.heard, (length gs, subst (λ (l : List Timed). IsGiven goes l p q x y) (sym (take-length gs)) (subst (λ (l : List (Option Talk)). IsGiven goes (all_events_heard tick 1 l hs.heard) p q x y) (take-length desk) hs.core)))
-
-  pub cut_by : (see : C → CoreSeen) (number : ℕ) (desk : Desk) (fault : ServeFault) (at_limit : Bool) (p q r : C) (x y : List Timed) →
-      IsGivenOfTurn goes (1000 * number) (see p).texts desk p q x y → goes q (ends_with number fault at_limit) r → IsCut goes see number desk fault p r x y
-  cut_by see number desk fault at_limit p q r x y t last =
-      let es = events_of_turn (1000 * number) (see p).texts desk t.0 in
-      let now = take t.1.0 es in
+module _ {C : Type 0} (goes : C → List CoreCall → C → Type 0) (none : (a : C) → goes a [] a) (on : (a b c : C) (hs gs : List CoreCall) → goes a hs b → goes b gs c → goes a (hs ++ gs) c) (see : C → CoreSeen) (number : ℕ) (desk : Desk) where
+  cut_by : (fault : ServeFault) (answers : TurnAnswers) (at : CutAt) (events : List Timed) (a b : LinkSeen) (p q r : C) (x y : List Timed) →
+      IsCutTurn number (see p).texts desk answers at fault events → DidAll (calls_until (see p).texts desk answers at) a b → IsGiven goes events p q x y → goes q (ends_with number fault at) r →
+      IsCut goes see number desk fault a b p r x y
+  cut_by fault answers at events a b p q r x y cut did given last =
       record {
-        answers = t.0;
-        events = now;
-        at_limit = at_limit;
-        part = part_of t.1.0 es [] ∙ ap (take (length now)) (append-nil es);
-        core = on p q r (map Took now) (ends_with number fault at_limit) t.1.1.core last;
-        noted = t.1.1.noted;
+        answers = answers;
+        at = at;
+        events = events;
+        cut = cut;
+        link = did;
+        part = part_until (1000 * number) (see p).texts desk answers at events cut.given;
+        core = on p q r (map Took events) (ends_with number fault at) given.core last;
+        noted = given.noted;
       }
+
+  pub cut_waiting : (a b : LinkSeen) (p : C) (x : List Timed) → Did (DidWait 10 true) a b → IsCut goes see number desk serve.Link a b p p x x
+  cut_waiting a b p x did =
+      cut_by serve.Link (accepted_only []) Waiting [] a b p p p x x (record { met = refl; lawful = tt; given = refl })
+      (Then (DidWait 10 true) [] a b b did (Nothing b)) (nothing_given goes none on p x) (none p)
+
+  pub cut_hanging : (a b : LinkSeen) (p q : C) (x y : List Timed) → Did (DidWait 10 false) a b → IsGivenPart goes (hangs (1000 * number) 1 desk.failed) p q x y → IsCut goes see number desk serve.NoMemory a b p q x y
+  cut_hanging a b p q x y did hung =
+      let es = hangs (1000 * number) 1 desk.failed in
+      cut_by serve.NoMemory (accepted_only []) Hanging (take hung.0 es) a b p q q x y (record { met = refl; lawful = tt; given = again hung.0 es })
+      (Then (DidWait 10 false) [] a b b did (Nothing b)) hung.1 (none q)
+
+  pub cut_accepting : (a b c : LinkSeen) (p q r : C) (x y z : List Timed) → Did (DidWait 10 false) a b → IsGiven goes (hangs (1000 * number) 1 desk.failed) p q x y →
+      AreDialled goes (1000 * number) (see p).texts desk.seats b c q r y z → IsCut goes see number desk serve.Link a c p r x z
+  cut_accepting a b c p q r x y z did hung d =
+      let es = hangs (1000 * number) 1 desk.failed in
+      let fs = dials (1000 * number) (see p).texts desk.seats d.ids in
+      cut_by serve.Link (accepted_only d.ids) Accepting (es ++ fs) a c p r r x z (record { met = refl; lawful = d.few; given = refl })
+      (Then (DidWait 10 false) _ a b c did d.link) (given_both goes none on es fs p q r x y z hung d.core) (none r)
+
+  pub cut_dialling : (a b c : LinkSeen) (p q r : C) (x y z : List Timed) → Did (DidWait 10 false) a b → IsGiven goes (hangs (1000 * number) 1 desk.failed) p q x y →
+      AreDialledPart goes (1000 * number) (see p).texts desk.seats b c q r y z → IsCut goes see number desk serve.NoMemory a c p r x z
+  cut_dialling a b c p q r x y z did hung d =
+      let es = hangs (1000 * number) 1 desk.failed in
+      let fs = dials (1000 * number) (see p).texts desk.seats d.ids in
+      let n = length es + d.core.0 in
+      let part : es ++ take d.core.0 fs ≡ take n (es ++ fs) = sym (take-append-add es fs d.core.0) in
+      cut_by serve.NoMemory (accepted_only d.ids) Dialling (take n (es ++ fs)) a c p r r x z (record { met = refl; lawful = d.few; given = again n (es ++ fs) })
+      (Then (DidWait 10 false) _ a b c did d.link)
+      (subst (λ (l : List Timed). IsGiven goes l p r x z) part (given_both goes none on es (take d.core.0 fs) p q r x y z hung d.core.1)) (none r)
+
+  pub cut_reading : (a b c d : LinkSeen) (p q r s : C) (x y z w : List Timed) (one : List (Option Task)) → Did (DidWait 10 false) a b → IsGiven goes (hangs (1000 * number) 1 desk.failed) p q x y →
+      (acc : AreAccepted goes (1000 * number) (see p).texts desk.seats b c q r y z one) →
+      AreHeardPart goes (1000 * number) (seated (see p).texts desk.seats acc.ids) c d r s z w → IsCut goes see number desk serve.NoMemory a d p s x w
+  cut_reading a b c d p q r s x y z w one did hung acc h =
+      let tick = 1000 * number in
+      let texts = (see p).texts in
+      let first = seated texts desk.seats acc.ids in
+      let turn : TurnAnswers = record { accepts = acc.ids; heard = h.heard; told = [] } in
+      let es = hangs tick 1 desk.failed in
+      let fs = dials tick texts desk.seats acc.ids in
+      let gs = all_events_heard tick 1 first h.heard in
+      let n = length (es ++ fs) + h.core.0 in
+      let part : (es ++ fs) ++ take h.core.0 gs ≡ take n (es ++ (fs ++ gs)) = sym (take-append-add (es ++ fs) gs h.core.0) ∙ ap (take n) (append_assoc es fs gs) in
+      cut_by serve.NoMemory turn Reading (take n (es ++ (fs ++ gs))) a d p s s x w (record { met = refl; lawful = (acc.few, h.lawful); given = again n (es ++ (fs ++ gs)) })
+      (Then (DidWait 10 false) _ a b d did (calls_joined texts desk.seats acc.ids h.heard b c d acc.link h.link))
+      (subst (λ (l : List Timed). IsGiven goes l p s x w) part (given_both goes none on (es ++ fs) (take h.core.0 gs) p r s x z w (given_both goes none on es fs p q r x y z hung acc.core) h.core.1)) (none s)
+
+  pub cut_advancing : (fault : ServeFault) (a b c d : LinkSeen) (p q r s t : C) (x y z w : List Timed) (one two : List (Option Task)) → IsOfCore fault → Did (DidWait 10 false) a b → IsGiven goes (hangs (1000 * number) 1 desk.failed) p q x y →
+      (acc : AreAccepted goes (1000 * number) (see p).texts desk.seats b c q r y z one) →
+      (hs : SeatsAreHeard goes (1000 * number) (length (seated (see p).texts desk.seats acc.ids)) (seated (see p).texts desk.seats acc.ids) c d r s z w two) →
+      goes s (ends_with number fault Advancing) t → IsCut goes see number desk fault a d p t x w
+  cut_advancing fault a b c d p q r s t x y z w one two core did hung acc hs last =
+      let tick = 1000 * number in
+      let texts = (see p).texts in
+      let first = seated texts desk.seats acc.ids in
+      let all : take (length first) first ≡ first = take-length first in
+      let turn : TurnAnswers = record { accepts = acc.ids; heard = hs.heard; told = [] } in
+      let es = hangs tick 1 desk.failed in
+      let fs = dials tick texts desk.seats acc.ids in
+      let gs = all_events_heard tick 1 first hs.heard in
+      let lawful : AreHeard first hs.heard = subst (λ (l : List (Option Talk)). AreHeard l hs.heard) all hs.lawful in
+      let calls : DidAll (all_calls_heard first hs.heard) c d = subst (λ (l : List (Option Talk)). DidAll (all_calls_heard l hs.heard) c d) all hs.link in
+      let events : IsGiven goes gs r s z w = subst (λ (l : List (Option Talk)). IsGiven goes (all_events_heard tick 1 l hs.heard) r s z w) all hs.core in
+      cut_by fault turn Advancing (es ++ (fs ++ gs)) a d p s t x w (record { met = not_link fault core; lawful = (acc.few, lawful); given = refl })
+      (Then (DidWait 10 false) _ a b d did (calls_joined texts desk.seats acc.ids hs.heard b c d acc.link calls))
+      (given_both goes none on es (fs ++ gs) p q s x y w hung (given_both goes none on fs gs q r s y z w acc.core events)) last
 
 -- closing one console's connection after another
 closes_end : (seats : List (Option Task)) (s : Option Task) → closes (seats ++ s ∷ []) ≡ closes seats ++ closes_of s

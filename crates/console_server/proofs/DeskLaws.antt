@@ -11,7 +11,7 @@ use Rattle.console_server.specs.declared.tasks.Task.{Task}
 use Rattle.live_core.specs.Core.{CoreCall}
 use Rattle.console_server.specs.Given.{IsGiven}
 use Rattle.console_server.specs.Readings.{DidAll, Nothing}
-use Rattle.console_server.specs.Turns.{Talk, HeardOf, calls_heard, events_heard, seat_after, IsHeard, all_calls_heard, all_events_heard, all_seats_after, AreHeard}
+use Rattle.console_server.specs.Turns.{Talk, HeardOf, calls_heard, events_heard, seat_after, IsHeard, IsHeardPart, all_calls_heard, all_events_heard, all_seats_after, AreHeard, AreHeardUntil}
 use Rattle.console_server.specs.Seats.{Stands, SeatIsOpen, SeatIsHeard, SeatIsHeardPart, IsNotOf, IsOther, KeepsSeat, AreSeated, StandAll, SeatsAreHeard, AreHeardPart}
 use Rattle.console_server.proofs.Following.{did_both, given_both}
 use Rattle.console_server.proofs.SeatLaws.{nothing_given}
@@ -77,18 +77,30 @@ heard_more [] (x ∷ hs) s h are is = false_is are
 heard_more (t ∷ seats) [] s h are is = false_is are
 heard_more (t ∷ seats) (x ∷ hs) s h are is = (are.0, heard_more seats hs s h are.1 is)
 
-calls_more : (seats : List (Option Talk)) (hs : List HeardOf) (s : Option Talk) (h : HeardOf) → AreHeard seats hs → all_calls_heard (seats ++ s ∷ []) (hs ++ h ∷ []) ≡ all_calls_heard seats hs ++ calls_heard s h.reads h.over
-calls_more [] [] s h are = append-nil (calls_heard s h.reads h.over)
-calls_more [] (x ∷ hs) s h are = false_is are
-calls_more (t ∷ seats) [] s h are = false_is are
-calls_more (t ∷ seats) (x ∷ hs) s h are =
-    ap (λ (ds : List Done). calls_heard t x.reads x.over ++ ds) (calls_more seats hs s h are.1) ∙ sym (append_assoc (calls_heard t x.reads x.over) (all_calls_heard seats hs) (calls_heard s h.reads h.over))
+until_more : (seats : List (Option Talk)) (hs : List HeardOf) (s : Option Talk) (h : HeardOf) (behind : List (Option Talk)) → AreHeard seats hs → IsHeardPart s h.reads h.over → AreHeardUntil (seats ++ s ∷ behind) (hs ++ h ∷ [])
+until_more [] [] s h behind are part = part
+until_more [] (x ∷ hs) s h behind are part = false_is are
+until_more (t ∷ seats) [] s h behind are part = false_is are
+until_more (t ∷ seats) (x ∷ []) s h behind are part = (are.0, until_more seats [] s h behind are.1 part)
+until_more (t ∷ seats) (x ∷ y ∷ hs) s h behind are part = (are.0, until_more seats (y ∷ hs) s h behind are.1 part)
+
+pub none_called : (seats : List (Option Talk)) → all_calls_heard seats [] ≡ []
+none_called [] = refl
+none_called (t ∷ seats) = refl
+
+-- one console more, of which others stand behind
+calls_more : (seats : List (Option Talk)) (hs : List HeardOf) (s : Option Talk) (h : HeardOf) (behind : List (Option Talk)) → AreHeard seats hs →
+    all_calls_heard (seats ++ s ∷ behind) (hs ++ h ∷ []) ≡ all_calls_heard seats hs ++ calls_heard s h.reads h.over
+calls_more [] [] s h behind are = ap (λ (ds : List Done). calls_heard s h.reads h.over ++ ds) (none_called behind) ∙ append-nil (calls_heard s h.reads h.over)
+calls_more [] (x ∷ hs) s h behind are = false_is are
+calls_more (t ∷ seats) [] s h behind are = false_is are
+calls_more (t ∷ seats) (x ∷ hs) s h behind are =
+    ap (λ (ds : List Done). calls_heard t x.reads x.over ++ ds) (calls_more seats hs s h behind are.1) ∙ sym (append_assoc (calls_heard t x.reads x.over) (all_calls_heard seats hs) (calls_heard s h.reads h.over))
 
 none_heard : (tick console : ℕ) (seats : List (Option Talk)) → all_events_heard tick console seats [] ≡ []
 none_heard tick console [] = refl
 none_heard tick console (t ∷ seats) = refl
 
--- one console more, of which others stand behind
 events_more : (tick console : ℕ) (seats : List (Option Talk)) (hs : List HeardOf) (s : Option Talk) (h : HeardOf) (behind : List (Option Talk)) → AreHeard seats hs →
     all_events_heard tick console (seats ++ s ∷ behind) (hs ++ h ∷ []) ≡ all_events_heard tick console seats hs ++ events_heard tick (console + length seats) s h.reads h.over
 events_more tick console [] [] s h behind are =
@@ -161,7 +173,7 @@ module _ {C : Type 0} (goes : C → List CoreCall → C → Type 0) (none : (a :
         record {
           heard = sofar.heard ++ last ∷ [];
           lawful = subst (λ (l : List (Option Talk)). AreHeard l (sofar.heard ++ last ∷ [])) (sym front) (heard_more (take i desk) sofar.heard s last sofar.lawful one.lawful);
-          link = subst (λ (ds : List Done). DidAll ds a c) (sym (ap (λ (l : List (Option Talk)). all_calls_heard l (sofar.heard ++ last ∷ [])) front ∙ calls_more (take i desk) sofar.heard s last sofar.lawful)) (did_both _ _ a b c sofar.link one.link);
+          link = subst (λ (ds : List Done). DidAll ds a c) (sym (ap (λ (l : List (Option Talk)). all_calls_heard l (sofar.heard ++ last ∷ [])) front ∙ calls_more (take i desk) sofar.heard s last [] sofar.lawful)) (did_both _ _ a b c sofar.link one.link);
           core = subst (λ (es : List Timed). IsGiven goes es p r x z) (sym (ap (λ (l : List (Option Talk)). all_events_heard tick 1 l (sofar.heard ++ last ∷ [])) front ∙ events_more tick 1 (take i desk) sofar.heard s last [] sofar.lawful ∙ ap (λ (n : ℕ). all_events_heard tick 1 (take i desk) sofar.heard ++ events_heard tick n s one.reads one.over) (sym at))) (given_both goes none on _ _ p q r x y z sofar.core one.core);
           stands = after;
         }
@@ -180,7 +192,7 @@ module _ {C : Type 0} (goes : C → List CoreCall → C → Type 0) (none : (a :
             subst (λ (l : List (Option Talk)). AllZip Stands (set now i new) l) (sym whole) (subst (λ (n : ℕ). AllZip Stands (set now n new) (before ++ seat_after s one.reads one.over ∷ drop (suc i) desk)) at changed)
 
     -- memory lacked while one console more was read
-    pub heard_part : (c : LinkSeen) (r : C) (z : List Timed) (console : ℕ) → console ≡ i + 1 → SeatIsHeardPart goes tick console (get_or desk i None) b c q r y z → AreHeardPart goes tick desk p r x z
+    pub heard_part : (c : LinkSeen) (r : C) (z : List Timed) (console : ℕ) → console ≡ i + 1 → SeatIsHeardPart goes tick console (get_or desk i None) b c q r y z → AreHeardPart goes tick desk a c p r x z
     heard_part c r z console is one =
         let last : HeardOf = record { reads = one.reads; over = one.over } in
         let s = get_or desk i None in
@@ -191,7 +203,14 @@ module _ {C : Type 0} (goes : C → List CoreCall → C → Type 0) (none : (a :
         let all : desk ≡ take i desk ++ s ∷ drop (suc i) desk = sym (take-append-drop i desk) ∙ ap (λ (l : List (Option Talk)). take i desk ++ l) rest in
         let both : all_events_heard tick 1 desk (sofar.heard ++ last ∷ []) ≡ front ++ back =
         ap (λ (l : List (Option Talk)). all_events_heard tick 1 l (sofar.heard ++ last ∷ [])) all ∙ events_more tick 1 (take i desk) sofar.heard s last (drop (suc i) desk) sofar.lawful ∙ ap (λ (k : ℕ). front ++ events_heard tick k s one.reads one.over) (sym at) in
-        (sofar.heard ++ last ∷ [], (length front + n, subst (λ (es : List Timed). IsGiven goes es p r x z) (sym (ap (take (length front + n)) both ∙ take-append-add front back n)) (given_both goes none on front (take n back) p q r x y z sofar.core one.core.1)))
+        let calls : all_calls_heard desk (sofar.heard ++ last ∷ []) ≡ all_calls_heard (take i desk) sofar.heard ++ calls_heard s one.reads one.over =
+        ap (λ (l : List (Option Talk)). all_calls_heard l (sofar.heard ++ last ∷ [])) all ∙ calls_more (take i desk) sofar.heard s last (drop (suc i) desk) sofar.lawful in
+        record {
+          heard = sofar.heard ++ last ∷ [];
+          lawful = subst (λ (l : List (Option Talk)). AreHeardUntil l (sofar.heard ++ last ∷ [])) (sym all) (until_more (take i desk) sofar.heard s last (drop (suc i) desk) sofar.lawful one.lawful);
+          link = subst (λ (ds : List Done). DidAll ds a c) (sym calls) (did_both _ _ a b c sofar.link one.link);
+          core = (length front + n, subst (λ (es : List Timed). IsGiven goes es p r x z) (sym (ap (take (length front + n)) both ∙ take-append-add front back n)) (given_both goes none on front (take n back) p q r x y z sofar.core one.core.1));
+        }
 
   pub heard_first : (tick : ℕ) (desk : List (Option Talk)) (a : LinkSeen) (p : C) (x : List Timed) (now : List (Option Task)) → StandAll now desk → SeatsAreHeard goes tick 0 desk a a p p x x now
   heard_first tick desk a p x now stands = record { heard = []; lawful = tt; link = Nothing a; core = nothing_given goes none on p x; stands = stands }

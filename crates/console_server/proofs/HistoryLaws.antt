@@ -11,7 +11,7 @@ use Rattle.console_server.specs.Readings.{DidAll, Nothing}
 use Rattle.console_server.specs.Turns.{Desk, IsTurn, calls_of_turn, events_of_turn, desk_after}
 use Rattle.console_server.specs.Seats.{StandAll}
 use Rattle.console_server.specs.History.{heard_in, events_in}
-use Rattle.console_server.specs.Server.{ServerState, IsDeskOf, TurnIsDone, TurnIsCut, ends_with}
+use Rattle.console_server.specs.Server.{ServerState, IsDeskOf, TurnIsDone, TurnIsCut, IsCutTurn, calls_until, ends_with}
 use Rattle.console_server.specs.Conversation.{TurnSeen, AreTurns, calls_of_turns, events_of_turns, desk_behind, texts_behind, TurnsAreDone, TurnsAreCut}
 use Rattle.console_server.proofs.Following.{did_both}
 
@@ -32,7 +32,7 @@ events_end [] es = append-nil es
 events_end (x ∷ given) es = ap (λ (l : List Timed). x ++ l) (events_end given es) ∙ sym (append_assoc x (events_in given) es)
 
 -- what one turn more adds to the texts, the desk, the calls and the events
-texts_end : (texts : List (List ℕ)) (turns : List TurnSeen) (t : TurnSeen) → texts_behind texts (turns ++ t ∷ []) ≡ t.shown
+pub texts_end : (texts : List (List ℕ)) (turns : List TurnSeen) (t : TurnSeen) → texts_behind texts (turns ++ t ∷ []) ≡ t.shown
 texts_end texts [] t = refl
 texts_end texts (u ∷ turns) t = texts_end u.shown turns t
 
@@ -117,21 +117,27 @@ module _ {C L : Type 0} (goes : C → List CoreCall → C → Type 0) (none : (a
       }
 
   -- the turn behind those that were done failed
-  pub turns_cut : (n count : ℕ) (desk : Desk) (fault : ServeFault) (o p q : ServerState C L) → n < count → (s : TurnsAreDone goes see look n desk o p) → TurnIsCut goes see n (desk_behind (see o.core).texts desk s.turns) fault p q →
-      TurnsAreCut goes see count desk fault o q
+  pub turns_cut : (n count : ℕ) (desk : Desk) (fault : ServeFault) (o p q : ServerState C L) → n < count → (s : TurnsAreDone goes see look n desk o p) → TurnIsCut goes see look n (desk_behind (see o.core).texts desk s.turns) fault p q →
+      TurnsAreCut goes see look count desk fault o q
   turns_cut n count desk fault o p q lt s d =
       let texts = (see o.core).texts in
       let here = desk_behind texts desk s.turns in
-      let part : d.events ≡ take (length d.events) (events_of_turn (1000 * n) (texts_behind texts s.turns) here d.answers) =
+      let now = texts_behind texts s.turns in
+      let cut : IsCutTurn n now here d.answers d.at fault d.events = subst (λ (ts : List (List ℕ)). IsCutTurn n ts here d.answers d.at fault d.events) s.shown d.cut in
+      let link : DidAll (calls_until now here d.answers d.at) (look p.link.now) (look q.link.now) =
+      subst (λ (ts : List (List ℕ)). DidAll (calls_until ts here d.answers d.at) (look p.link.now) (look q.link.now)) s.shown d.link in
+      let part : d.events ≡ take (length d.events) (events_of_turn (1000 * n) now here d.answers) =
       subst (λ (ts : List (List ℕ)). d.events ≡ take (length d.events) (events_of_turn (1000 * n) ts here d.answers)) s.shown d.part in
       record {
         turns = s.turns;
         few = omega (arith, s.many, lt);
         lawful = s.lawful;
         answers = d.answers;
+        at = d.at;
         events = d.events;
-        at_limit = d.at_limit;
-        part = subst (λ (k : ℕ). d.events ≡ take (length d.events) (events_of_turn (1000 * k) (texts_behind texts s.turns) here d.answers)) (sym s.many) part;
-        core = subst (λ (k : ℕ). goes o.core (heard_in 0 (events_of_turns 0 texts desk s.turns) ++ (map Took d.events ++ ends_with k fault d.at_limit)) q.core) (sym s.many) (on o.core p.core q.core _ _ s.core d.core);
+        cut = subst (λ (k : ℕ). IsCutTurn k now here d.answers d.at fault d.events) (sym s.many) cut;
+        link = did_both (calls_of_turns texts desk s.turns) (calls_until now here d.answers d.at) (look o.link.now) (look p.link.now) (look q.link.now) s.link link;
+        part = subst (λ (k : ℕ). d.events ≡ take (length d.events) (events_of_turn (1000 * k) now here d.answers)) (sym s.many) part;
+        core = subst (λ (k : ℕ). goes o.core (heard_in 0 (events_of_turns 0 texts desk s.turns) ++ (map Took d.events ++ ends_with k fault d.at)) q.core) (sym s.many) (on o.core p.core q.core _ _ s.core d.core);
         noted = d.noted ∙ ap (λ (l : List Timed). l ++ d.events) s.noted;
       }

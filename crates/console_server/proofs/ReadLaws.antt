@@ -76,14 +76,16 @@ module _ {C : Type 0} (goes : C → List CoreCall → C → Type 0) (none : (a :
         }
 
     -- memory lacked for what the last read's bytes complete
-    pub read_short : (left n : ℕ) (bytes : List ℕ) → (s : ReadSoFar goes tick console id piece left a b p q x y half) → Did (DidRead id (got.Bytes n) bytes) b c →
+    pub read_short : (left n : ℕ) (bytes : List ℕ) → (s : ReadSoFar goes tick console id piece left a b p q x y half) →
+        0 < left → 1 ≤ n → n ≤ left → length bytes ≡ n → Did (DidRead id (got.Bytes n) bytes) b c →
         IsGivenPart goes (all_timed tick console (items_from (piece_from piece (bytes_of s.reads)) bytes)) q r y z →
         DrainedPart goes tick console id piece a c p r x z
-    read_short left n bytes s did part =
+    read_short left n bytes s some one within len did part =
         let last : Gave = record { answer = got.Bytes n; bytes = bytes } in
         let all = bytes_more s.reads last in
         record {
           reads = s.reads ++ last ∷ [];
+          goes_on = (left - n, reads_more s.reads (last ∷ []) 1024 left (left - n) s.goes_on (some, (one, within, len, refl)));
           link = calls_more id s.reads last a b c s.link did;
           core = subst (λ (l : List ℕ). IsGivenPart goes (all_timed tick console (items_from piece l)) p r x z) (sym all) (fed_both_part goes none on tick console piece (bytes_of s.reads) bytes p q r x y z s.core part);
         }

@@ -71,6 +71,7 @@ module _ {C : Type 0} (goes : C → List CoreCall → C → Type 0) (none : (a :
       record {
         reads = d.reads;
         over = false;
+        lawful = d.goes_on;
         link = subst (λ (ds : List Done). DidAll ds a b) (sym (append-nil (map (did_read t.id) d.reads))) (subst (λ (n : ℕ). DidAll (map (did_read n) d.reads) a b) s.id d.link);
         core = subst (λ (es : List Timed). IsGivenPart goes es p q x y) (sym (append-nil (all_timed tick console (items_from t.piece (bytes_of d.reads))))) d.core;
       }
@@ -86,6 +87,7 @@ module _ {C : Type 0} (goes : C → List CoreCall → C → Type 0) (none : (a :
       record {
         reads = d.reads;
         over = true;
+        lawful = d.lawful;
         link = subst (λ (n : ℕ). DidAll (map (did_read n) d.reads ++ DidClose n ∷ []) a c) s.id (did_one (map (did_read task.id) d.reads) (DidClose task.id) a b c d.link did);
         core = (length front, subst (λ (es : List Timed). IsGiven goes es p r x z) (append-nil front ∙ sym (take-append_seam front (timed tick console Hang ∷ []))) (given_both goes none on front [] p q r x y z d.core given));
       }

@@ -5,12 +5,13 @@ use Rattle.std.proofs.Common.{◌≡◌, ℕ, suc, ◌+◌, ◌*◌, ◌<◌, Li
 use Rattle.std.proofs.lemmas.List.{append_assoc, append-nil, map-append, take_all, take_more, take-append-drop}
 use Rattle.ctss_types.specs.declared.script.Timed.{Timed}
 use Rattle.console_link.specs.Links.{LinkSeen, Done, Did, DidWait}
+use Rattle.console_server.specs.declared.seating.SeatingFault.{SeatingFault}
 use Rattle.console_server.specs.declared.tasks.Task.{Task}
 use Rattle.live_core.specs.Core.{CoreSeen, CoreCall, Took, Went, WentTo}
 use Rattle.console_server.specs.Given.{IsGiven, IsGivenPart}
 use Rattle.console_server.specs.Readings.{DidAll, Then}
 use Rattle.console_server.specs.Turns.{Talk, Desk, hangs, dials, seated, calls_accepted, last_accept, all_calls_heard, all_events_heard, all_seats_after, AreHeard, all_calls_told, all_seats_told, AreTold}
-use Rattle.console_server.specs.Seats.{StandAll, SeatsAreHeard, SeatsAreTold, AreAccepted, AreDialled}
+use Rattle.console_server.specs.Seats.{StandAll, SeatsAreHeard, SeatsAreTold, AreAccepted, AcceptsAreCut}
 use Rattle.console_server.specs.Done.{IsDone}
 use Rattle.console_server.proofs.Following.{did_both, given_both}
 
@@ -111,5 +112,5 @@ module _ {C : Type 0} (goes : C → List CoreCall → C → Type 0) (none : (a :
   pub hung_part_as : (tick : ℕ) (fs gs : List Bool) (p q : C) (x y : List Timed) → fs ≡ gs → IsGivenPart goes (hangs tick 1 fs) p q x y → IsGivenPart goes (hangs tick 1 gs) p q x y
   hung_part_as tick fs gs p q x y is h = subst (λ (l : List Bool). IsGivenPart goes (hangs tick 1 l) p q x y) is h
 
-  pub dialled_as : (tick : ℕ) (s t : CoreSeen) (desk : List (Option Talk)) (p q : C) (x y : List Timed) → s ≡ t → AreDialled goes tick s.texts desk p q x y → AreDialled goes tick t.texts desk p q x y
-  dialled_as tick s t desk p q x y is h = subst (λ (u : CoreSeen). AreDialled goes tick u.texts desk p q x y) is h
+  pub dialled_as : (tick : ℕ) (s t : CoreSeen) (desk : List (Option Talk)) (fault : SeatingFault) (a b : LinkSeen) (p q : C) (x y : List Timed) → s ≡ t → AcceptsAreCut goes tick s.texts desk fault a b p q x y → AcceptsAreCut goes tick t.texts desk fault a b p q x y
+  dialled_as tick s t desk fault a b p q x y is h = subst (λ (u : CoreSeen). AcceptsAreCut goes tick u.texts desk fault a b p q x y) is h

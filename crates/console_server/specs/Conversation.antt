@@ -1,5 +1,5 @@
 -- claim: turns one after another: their calls, their events, and the desk behind them, by what the link answered.
-use Rattle.std.specs.Prelude.{◌≡◌, ℕ, suc, ◌*◌, ◌<◌, Bool, List, [], ◌∷◌, ◌++◌, length, take, map}
+use Rattle.std.specs.Prelude.{◌≡◌, ℕ, suc, ◌*◌, ◌<◌, List, [], ◌∷◌, ◌++◌, length, take, map}
 use Rattle.std.specs.List.{AllZip}
 use Rattle.ctss_types.specs.declared.script.Timed.{Timed}
 use Rattle.console_link.specs.Links.{LinkSeen, Done}
@@ -9,7 +9,7 @@ use Rattle.console_server.specs.Readings.{DidAll}
 use Rattle.console_server.specs.Turns.{Desk, TurnAnswers, IsTurn, calls_of_turn, events_of_turn, desk_after}
 use Rattle.console_server.specs.Seats.{StandAll}
 use Rattle.console_server.specs.History.{heard_in, events_in}
-use Rattle.console_server.specs.Server.{ServerState, ends_with}
+use Rattle.console_server.specs.Server.{ServerState, CutAt, calls_until, ends_with, IsCutTurn}
 
 -- a turn: what the link answered, and what the consoles had shown behind its advance
 pub record TurnSeen : Type 0 where
@@ -52,15 +52,21 @@ pub record TurnsAreDone {C L : Type 0} (goes : C → List CoreCall → C → Typ
   pub seats : StandAll new.seats (desk_behind (see old.core).texts desk turns).seats
   pub failed : new.failed ≡ (desk_behind (see old.core).texts desk turns).failed
 
--- Some turns were done, and the one behind them failed: the core was given a beginning of that turn's events, which is noted, and
--- maybe met the fault on its way to that turn's limit.
-pub record TurnsAreCut {C L : Type 0} (goes : C → List CoreCall → C → Type 0) (see : C → CoreSeen) (count : ℕ) (desk : Desk) (fault : ServeFault) (old new : ServerState C L) : Type 0 where
+-- Some turns were done, and the one behind them failed: the link was called up to there, the core was given a beginning of that
+-- turn's events, which is noted, and maybe met the fault on its way to that turn's limit.
+pub record TurnsAreCut {C L : Type 0} (goes : C → List CoreCall → C → Type 0) (see : C → CoreSeen) (look : L → LinkSeen) (count : ℕ) (desk : Desk) (fault : ServeFault) (old new : ServerState C L) : Type 0 where
   pub turns : List TurnSeen
   pub few : length turns < count
   pub lawful : AreTurns (see old.core).texts desk turns
   pub answers : TurnAnswers
+  pub at : CutAt
   pub events : List Timed
-  pub at_limit : Bool
+  pub cut :
+      IsCutTurn (length turns) (texts_behind (see old.core).texts turns) (desk_behind (see old.core).texts desk turns) answers at fault events
+  pub link :
+      DidAll (calls_of_turns (see old.core).texts desk turns
+      ++ calls_until (texts_behind (see old.core).texts turns) (desk_behind (see old.core).texts desk turns) answers at)
+      (look old.link.now) (look new.link.now)
   pub part : events ≡ take (length events) (events_of_turn (1000 * length turns) (texts_behind (see old.core).texts turns) (desk_behind (see old.core).texts desk turns) answers)
-  pub core : goes old.core (heard_in 0 (events_of_turns 0 (see old.core).texts desk turns) ++ (map Took events ++ ends_with (length turns) fault at_limit)) new.core
+  pub core : goes old.core (heard_in 0 (events_of_turns 0 (see old.core).texts desk turns) ++ (map Took events ++ ends_with (length turns) fault at)) new.core
   pub noted : new.events ≡ (old.events ++ events_in (events_of_turns 0 (see old.core).texts desk turns)) ++ events

@@ -67,6 +67,7 @@ pub record Drained {C : Type 0} (goes : C → List CoreCall → C → Type 0) (t
 -- memory lacked on the way: a beginning of these events was given
 pub record DrainedPart {C : Type 0} (goes : C → List CoreCall → C → Type 0) (tick console id : ℕ) (piece : List ℕ) (link_had link_has : LinkSeen) (core_had core_has : C) (had has : List Timed) : Type 0 where
   pub reads : List Gave
+  pub goes_on : (left : ℕ) × ReadsOn reads 1024 left
   pub link : DidAll (map (did_read id) reads) link_had link_has
   pub core : IsGivenPart goes (all_timed tick console (items_from piece (bytes_of reads))) core_had core_has had has
 

@@ -1,14 +1,17 @@
 -- proof: what a console's task stands for, and the parts of a turn.
-use Rattle.std.specs.Prelude.{length, ◌≤◌, ◌≡◌, ◌≢◌, ℕ, Bool, true, List, ◌++◌, take, drop, get_or, Option, Some, None}
+use Rattle.std.specs.Prelude.{length, ◌<◌, ◌≤◌, ◌≡◌, ◌≢◌, ℕ, Bool, true, List, [], ◌∷◌, ◌++◌, take, drop, get_or, Option, Some, None}
 use Rattle.std.specs.List.{AllZip}
 use Rattle.ctss_types.specs.declared.script.Timed.{Timed}
 use Rattle.console_wire.specs.Items.{half_of}
-use Rattle.console_link.specs.Links.{LinkSeen}
+use Rattle.console_link.specs.declared.link.Accepted.TheVariants as accepted
+use Rattle.console_link.specs.Links.{LinkSeen, DidAccept}
+use Rattle.console_server.specs.declared.seating.SeatingFault.{SeatingFault}
+use Rattle.console_server.specs.declared.seating.SeatingFault.TheVariants as seating
 use Rattle.console_server.specs.declared.tasks.Task.{Task}
 use Rattle.live_core.specs.Core.{CoreCall}
 use Rattle.console_server.specs.Given.{IsGiven, IsGivenPart}
 use Rattle.console_server.specs.Readings.{Gave, DidAll}
-use Rattle.console_server.specs.Turns.{Talk, Desk, HeardOf, calls_heard, events_heard, seat_after, IsHeard, all_calls_heard, all_events_heard, all_seats_after, AreHeard, calls_accepted, dials, seated, last_accept, Wrote, IsToldOf, calls_told, seat_told, Told, AreTold, all_calls_told, all_seats_told, losses, TurnAnswers, events_of_turn}
+use Rattle.console_server.specs.Turns.{Talk, HeardOf, calls_heard, events_heard, seat_after, IsHeard, IsHeardPart, all_calls_heard, all_events_heard, all_seats_after, AreHeard, AreHeardUntil, calls_accepted, dials, seated, last_accept, Wrote, IsToldOf, calls_told, seat_told, Told, AreTold, all_calls_told, all_seats_told, losses}
 
 pub record StandsFor (task : Task) (talk : Talk) : Type 0 where
   pub id : task.id ≡ talk.id
@@ -67,6 +70,7 @@ pub record SeatIsHeard {C : Type 0} (goes : C → List CoreCall → C → Type 0
 pub record SeatIsHeardPart {C : Type 0} (goes : C → List CoreCall → C → Type 0) (tick console : ℕ) (talk : Option Talk) (link_had link_has : LinkSeen) (core_had core_has : C) (had has : List Timed) : Type 0 where
   pub reads : List Gave
   pub over : Bool
+  pub lawful : IsHeardPart talk reads over
   pub link : DidAll (calls_heard talk reads over) link_had link_has
   pub core : IsGivenPart goes (events_heard tick console talk reads over) core_had core_has had has
 
@@ -107,14 +111,28 @@ pub record SeatsAreTold (texts : List (List ℕ)) (count : ℕ) (desk : List (Op
   pub stands : StandAll now (all_seats_told (take count desk) told ++ drop count desk)
   pub flags : take count failed ≡ losses told
 
--- connections were accepted in a turn, which the core heard of
-abbrev pub AreDialled : {C : Type 0} → (C → List CoreCall → C → Type 0) → ℕ → List (List ℕ) → List (Option Talk) → C → C → (had has : List Timed) → Type 0
-AreDialled goes tick texts desk old new had has = (ids : List ℕ) × IsGiven goes (dials tick texts desk ids) old new had has
+-- connections were accepted in a turn, which the core heard of, and then the listener failed
+pub record AreDialled {C : Type 0} (goes : C → List CoreCall → C → Type 0) (tick : ℕ) (texts : List (List ℕ)) (desk : List (Option Talk)) (link_had link_has : LinkSeen) (core_had core_has : C) (had has : List Timed) : Type 0 where
+  pub ids : List ℕ
+  pub few : length ids < 32
+  pub link : DidAll (calls_accepted texts desk ids ++ DidAccept accepted.Failed ∷ []) link_had link_has
+  pub core : IsGiven goes (dials tick texts desk ids) core_had core_has had has
 
--- a beginning of what was read in a turn was given
-abbrev pub AreHeardPart : {C : Type 0} → (C → List CoreCall → C → Type 0) → ℕ → List (Option Talk) → C → C → (had has : List Timed) → Type 0
-AreHeardPart goes tick desk old new had has = (heard : List HeardOf) × IsGivenPart goes (all_events_heard tick 1 desk heard) old new had has
+-- connections were accepted in a turn, and memory lacked for the Dial of the last one
+pub record AreDialledPart {C : Type 0} (goes : C → List CoreCall → C → Type 0) (tick : ℕ) (texts : List (List ℕ)) (desk : List (Option Talk)) (link_had link_has : LinkSeen) (core_had core_has : C) (had has : List Timed) : Type 0 where
+  pub ids : List ℕ
+  pub few : length ids ≤ 32
+  pub link : DidAll (calls_accepted texts desk ids) link_had link_has
+  pub core : IsGivenPart goes (dials tick texts desk ids) core_had core_has had has
 
--- a beginning of a turn's events was given
-abbrev pub IsGivenOfTurn : {C : Type 0} → (C → List CoreCall → C → Type 0) → ℕ → List (List ℕ) → Desk → C → C → (had has : List Timed) → Type 0
-IsGivenOfTurn goes tick texts desk old new had has = (answers : TurnAnswers) × IsGivenPart goes (events_of_turn tick texts desk answers) old new had has
+-- accepting ended before its end
+abbrev pub AcceptsAreCut : {C : Type 0} → (C → List CoreCall → C → Type 0) → ℕ → List (List ℕ) → List (Option Talk) → SeatingFault → (link_had link_has : LinkSeen) → C → C → (had has : List Timed) → Type 0
+AcceptsAreCut goes tick texts desk seating.Listener a b old new had has = AreDialled goes tick texts desk a b old new had has
+AcceptsAreCut goes tick texts desk seating.NoMemory a b old new had has = AreDialledPart goes tick texts desk a b old new had has
+
+-- consoles were read in a turn, and memory lacked for what the last of them sent
+pub record AreHeardPart {C : Type 0} (goes : C → List CoreCall → C → Type 0) (tick : ℕ) (desk : List (Option Talk)) (link_had link_has : LinkSeen) (core_had core_has : C) (had has : List Timed) : Type 0 where
+  pub heard : List HeardOf
+  pub lawful : AreHeardUntil desk heard
+  pub link : DidAll (all_calls_heard desk heard) link_had link_has
+  pub core : IsGivenPart goes (all_events_heard tick 1 desk heard) core_had core_has had has

@@ -1,16 +1,19 @@
 -- claim: what contracts see of a server, when it can do a turn, and what a turn leaves that was not done to its end.
-use Rattle.std.specs.Prelude.{◌≡◌, ℕ, ◌+◌, ◌*◌, Bool, true, false, List, [], ◌∷◌, ◌++◌, length, take, map, Option, Some, None}
+use Rattle.std.specs.Prelude.{◌≡◌, ◌≢◌, ℕ, ◌+◌, ◌*◌, ◌<◌, ◌≤◌, Bool, true, false, List, [], ◌∷◌, ◌++◌, length, take, map, Option, Some, None}
 use Rattle.std.specs.Borrow.{MutBor}
 use Rattle.faults.specs.Faults.{Rose}
 use Rattle.ctss_types.specs.declared.script.Timed.{Timed}
+use Rattle.ctss_types.specs.declared.fault.RunFault.{RunFault}
 use Rattle.ctss_types.specs.declared.fault.RunFault.TheVariants as run
-use Rattle.console_link.specs.Links.{LinkSeen, Done, DidClose}
+use Rattle.console_link.specs.declared.link.Accepted.TheVariants as accepted
+use Rattle.console_link.specs.Links.{LinkSeen, Done, DidWait, DidAccept, DidClose}
 use Rattle.live_core.specs.Core.{CoreSeen, CoreCall, Took, Went}
 use Rattle.console_server.specs.declared.fault.ServeFault.{ServeFault}
 use Rattle.console_server.specs.declared.fault.ServeFault.TheVariants as serve
 use Rattle.console_server.specs.declared.tasks.Task.{Task}
 use Rattle.console_server.specs.declared.server.Server.{Server}
-use Rattle.console_server.specs.Turns.{Desk, TurnAnswers, events_of_turn}
+use Rattle.console_server.specs.Readings.{DidAll}
+use Rattle.console_server.specs.Turns.{Desk, TurnAnswers, AreHeard, AreHeardUntil, calls_accepted, last_accept, all_calls_heard, seats_to_read, hangs, dials, events_of_turn}
 use Rattle.console_server.specs.Seats.{AreSeated, StandAll}
 use Rattle.console_server.specs.Done.{IsDone}
 
@@ -47,25 +50,102 @@ abbrev pub TurnIsDone : {C L : Type 0} → (C → List CoreCall → C → Type 0
 TurnIsDone goes see look number desk old new =
     IsDone goes see number desk (look old.link.now) (look new.link.now) old.core new.core old.events new.events new.seats new.failed
 
--- the last call of the core in a turn that failed: the one to its limit, where that met the fault
-abbrev pub ends_with : ℕ → ServeFault → Bool → List CoreCall
-ends_with number serve.Link at_limit = []
-ends_with number serve.Drum at_limit = Went (1000 * (number + 1)) (Some run.Drum) ∷ []
-ends_with number serve.Disk at_limit = Went (1000 * (number + 1)) (Some run.Disk) ∷ []
-ends_with number serve.NoMemory true = Went (1000 * (number + 1)) (Some run.NoMemory) ∷ []
-ends_with number serve.NoMemory false = []
+-- Where a turn failed: the listener at the wait; memory for a Hang of a connection that failed in the last turn's writes; the
+-- listener at an accept; memory for the Dial of the connection accepted last; memory while connections were read; or the core on
+-- its way to the turn's limit.
+pub data CutAt : Type 0 where
+  Waiting : CutAt
+  Hanging : CutAt
+  Accepting : CutAt
+  Dialling : CutAt
+  Reading : CutAt
+  Advancing : CutAt
 
--- a turn failed: the core was given a beginning of the turn's events, which is noted, and maybe met the fault on its way to the limit
-pub record IsCut {C : Type 0} (goes : C → List CoreCall → C → Type 0) (see : C → CoreSeen) (number : ℕ) (desk : Desk) (fault : ServeFault) (core_had core_has : C) (had has : List Timed) : Type 0 where
+-- the faults that a turn may meet there
+abbrev pub MayMeet : CutAt → ServeFault → Type 0
+MayMeet Waiting fault = fault ≡ serve.Link
+MayMeet Hanging fault = fault ≡ serve.NoMemory
+MayMeet Accepting fault = fault ≡ serve.Link
+MayMeet Dialling fault = fault ≡ serve.NoMemory
+MayMeet Reading fault = fault ≡ serve.NoMemory
+MayMeet Advancing fault = fault ≢ serve.Link
+
+-- the calls of a turn up to its reads
+abbrev pub calls_to_read : List (List ℕ) → Desk → TurnAnswers → List Done
+calls_to_read texts desk turn =
+    DidWait 10 false ∷ (calls_accepted texts desk.seats turn.accepts
+    ++ (last_accept turn.accepts
+    ++ all_calls_heard (seats_to_read texts desk turn) turn.heard))
+
+-- the calls that were made until then
+abbrev pub calls_until : List (List ℕ) → Desk → TurnAnswers → CutAt → List Done
+calls_until texts desk turn Waiting = DidWait 10 true ∷ []
+calls_until texts desk turn Hanging = DidWait 10 false ∷ []
+calls_until texts desk turn Accepting =
+    DidWait 10 false ∷ (calls_accepted texts desk.seats turn.accepts ++ DidAccept accepted.Failed ∷ [])
+calls_until texts desk turn Dialling = DidWait 10 false ∷ calls_accepted texts desk.seats turn.accepts
+calls_until texts desk turn Reading = calls_to_read texts desk turn
+calls_until texts desk turn Advancing = calls_to_read texts desk turn
+
+-- It accepted only as many as it may, and read the connections only as far as it may: where the core was to go on, all of them.
+abbrev pub IsTurnUntil : List (List ℕ) → Desk → TurnAnswers → CutAt → Type 0
+IsTurnUntil texts desk turn Waiting = Unit {0}
+IsTurnUntil texts desk turn Hanging = Unit {0}
+IsTurnUntil texts desk turn Accepting = length turn.accepts < 32
+IsTurnUntil texts desk turn Dialling = length turn.accepts ≤ 32
+IsTurnUntil texts desk turn Reading =
+    (length turn.accepts ≤ 32) × AreHeardUntil (seats_to_read texts desk turn) turn.heard
+IsTurnUntil texts desk turn Advancing =
+    (length turn.accepts ≤ 32) × AreHeard (seats_to_read texts desk turn) turn.heard
+
+-- the events that were given until then: all that had come, or where memory lacked for one of them a beginning
+abbrev pub GivenUntil : ℕ → List (List ℕ) → Desk → TurnAnswers → CutAt → List Timed → Type 0
+GivenUntil tick texts desk turn Waiting events = events ≡ []
+GivenUntil tick texts desk turn Hanging events = events ≡ take (length events) (hangs tick 1 desk.failed)
+GivenUntil tick texts desk turn Accepting events =
+    events ≡ hangs tick 1 desk.failed ++ dials tick texts desk.seats turn.accepts
+GivenUntil tick texts desk turn Dialling events =
+    events ≡ take (length events) (hangs tick 1 desk.failed ++ dials tick texts desk.seats turn.accepts)
+GivenUntil tick texts desk turn Reading events = events ≡ take (length events) (events_of_turn tick texts desk turn)
+GivenUntil tick texts desk turn Advancing events = events ≡ events_of_turn tick texts desk turn
+
+-- the core's own fault, if that it is
+abbrev pub core_fault : ServeFault → Option RunFault
+core_fault serve.Link = None
+core_fault serve.Drum = Some run.Drum
+core_fault serve.Disk = Some run.Disk
+core_fault serve.NoMemory = Some run.NoMemory
+
+-- the last call of the core in a turn that failed: the one to its limit, where it met the fault on the way
+abbrev pub ends_with : ℕ → ServeFault → CutAt → List CoreCall
+ends_with number fault Waiting = []
+ends_with number fault Hanging = []
+ends_with number fault Accepting = []
+ends_with number fault Dialling = []
+ends_with number fault Reading = []
+ends_with number fault Advancing = Went (1000 * (number + 1)) (core_fault fault) ∷ []
+
+-- a turn of these answers that failed there with this fault, and had given these events
+pub record IsCutTurn (number : ℕ) (texts : List (List ℕ)) (desk : Desk) (answers : TurnAnswers) (at : CutAt) (fault : ServeFault) (events : List Timed) : Type 0 where
+  pub met : MayMeet at fault
+  pub lawful : IsTurnUntil texts desk answers at
+  pub given : GivenUntil (1000 * number) texts desk answers at events
+
+-- A turn failed: the link was called up to there, the core was given a beginning of the turn's events, which is noted, and maybe met
+-- the fault on its way to the limit.
+pub record IsCut {C : Type 0} (goes : C → List CoreCall → C → Type 0) (see : C → CoreSeen) (number : ℕ) (desk : Desk) (fault : ServeFault) (link_had link_has : LinkSeen) (core_had core_has : C) (had has : List Timed) : Type 0 where
   pub answers : TurnAnswers
+  pub at : CutAt
   pub events : List Timed
-  pub at_limit : Bool
+  pub cut : IsCutTurn number (see core_had).texts desk answers at fault events
+  pub link : DidAll (calls_until (see core_had).texts desk answers at) link_had link_has
   pub part : events ≡ take (length events) (events_of_turn (1000 * number) (see core_had).texts desk answers)
-  pub core : goes core_had (map Took events ++ ends_with number fault at_limit) core_has
+  pub core : goes core_had (map Took events ++ ends_with number fault at) core_has
   pub noted : has ≡ had ++ events
 
-abbrev pub TurnIsCut : {C L : Type 0} → (C → List CoreCall → C → Type 0) → (C → CoreSeen) → ℕ → Desk → ServeFault → (old new : ServerState C L) → Type 0
-TurnIsCut goes see number desk fault old new = IsCut goes see number desk fault old.core new.core old.events new.events
+abbrev pub TurnIsCut : {C L : Type 0} → (C → List CoreCall → C → Type 0) → (C → CoreSeen) → (L → LinkSeen) → ℕ → Desk → ServeFault → (old new : ServerState C L) → Type 0
+TurnIsCut goes see look number desk fault old new =
+    IsCut goes see number desk fault (look old.link.now) (look new.link.now) old.core new.core old.events new.events
 
 -- which count of faults rose: the listener's, that of the drum or that of the disk
 abbrev pub IsCause : ServeFault → (link_had link_has : LinkSeen) (core_had core_has : CoreSeen) → Type 0

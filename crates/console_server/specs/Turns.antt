@@ -8,7 +8,7 @@ use Rattle.console_link.specs.declared.link.Accepted.TheVariants as accepted
 use Rattle.console_link.specs.declared.link.LinkTook.{LinkTook}
 use Rattle.console_link.specs.declared.link.LinkTook.TheVariants as took
 use Rattle.console_link.specs.Links.{Done, DidWait, DidAccept, DidWrite, DidClose}
-use Rattle.console_server.specs.Readings.{Gave, bytes_of, did_read, IsReading, timed, all_timed}
+use Rattle.console_server.specs.Readings.{Gave, bytes_of, did_read, IsReading, ReadsOn, timed, all_timed}
 
 -- a connection that has a console: its number, what it sent since its last whole line or quit, and up to which place of the
 -- console's text it was sent
@@ -74,6 +74,19 @@ AreHeard [] [] = Unit {0}
 AreHeard [] (h ∷ hs) = true ≡ false
 AreHeard (s ∷ seats) [] = true ≡ false
 AreHeard (s ∷ seats) (h ∷ hs) = IsHeard s h.reads h.over × AreHeard seats hs
+
+-- A console at which memory lacked: its reads gave bytes; or they went on to the end of its connection, which was closed.
+abbrev pub IsHeardPart : Option Talk → List Gave → Bool → Type 0
+IsHeardPart None reads over = true ≡ false
+IsHeardPart (Some t) reads true = IsReading true reads 1024
+IsHeardPart (Some t) reads false = (left : ℕ) × ReadsOn reads 1024 left
+
+-- the first consoles, of which the last was read in part
+abbrev pub AreHeardUntil : List (Option Talk) → List HeardOf → Type 0
+AreHeardUntil [] hs = true ≡ false
+AreHeardUntil (s ∷ seats) [] = true ≡ false
+AreHeardUntil (s ∷ seats) (h ∷ []) = IsHeardPart s h.reads h.over
+AreHeardUntil (s ∷ seats) (h ∷ k ∷ hs) = IsHeard s h.reads h.over × AreHeardUntil seats (k ∷ hs)
 
 -- accepting
 

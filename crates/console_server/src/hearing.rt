@@ -66,7 +66,7 @@ pub(crate) fn hear_all<C: LiveCore, L: Link>(
     requires sound { C.Sound book.old.core }
     ensures ok { (desk : List (Option Talk)) → StandAll seats.old.items desk → OnOk result (SeatsAreHeard C.Goes tick (length desk) desk (L.seen link.old) (L.seen link.new) book.old.core book.new.core book.old.events.items book.new.events.items seats.new.items) }
     ensures err { (desk : List (Option Talk)) → StandAll seats.old.items desk
-        → OnErr result (AreHeardPart C.Goes tick desk
+        → OnErr result (AreHeardPart C.Goes tick desk (L.seen link.old) (L.seen link.new)
         book.old.core book.new.core book.old.events.items book.new.events.items) }
     ensures seated { AreSeated (L.seen link.new).is_open seats.new.items }
     ensures listener { (L.seen link.new).faults ≡ (L.seen link.old).faults }

@@ -1,10 +1,10 @@
 //! Consoles for new connections.
-ghost use Rattle.std.specs.Prelude.{Err, ◌≡◌, ◌<◌, ◌≤◌, IfSome, false, true, ℕ, [], List, length, get_or, Option, None, OnOk, OnErr};
+ghost use Rattle.std.specs.Prelude.{Err, ◌≡◌, ◌<◌, ◌≤◌, IfSome, false, true, ℕ, [], List, length, get_or, Option, None, OnOk, OnErr, IfErr};
 ghost use Rattle.faults.specs.Faults.{Rose};
 ghost use Rattle.console_server.specs.Given.{IsGiven};
 ghost use Rattle.console_server.specs.Readings.{DidAll};
 ghost use Rattle.console_server.specs.Turns.{Talk, free_from, put_first, talk_of, seats_with, calls_of_new, dial};
-ghost use Rattle.console_server.specs.Seats.{AreSeated, StandAll, IsNotOf, AreAccepted, AreDialled};
+ghost use Rattle.console_server.specs.Seats.{AreSeated, StandAll, IsNotOf, AreAccepted, AcceptsAreCut};
 
 use crate::book::Book;
 use crate::tasks::Task;
@@ -85,7 +85,8 @@ pub(crate) fn accept_all<C: LiveCore, L: Link>(
     requires sound { C.Sound book.old.core }
     ensures ok { (desk : List (Option Talk)) → StandAll seats.old.items desk → OnOk result (AreAccepted C.Goes tick (C.seen book.old.core).texts desk (L.seen link.old) (L.seen link.new) book.old.core book.new.core book.old.events.items book.new.events.items seats.new.items) }
     ensures err { (desk : List (Option Talk)) → StandAll seats.old.items desk
-        → OnErr result (AreDialled C.Goes tick (C.seen book.old.core).texts desk
+        → IfErr result (λ fault. AcceptsAreCut C.Goes tick (C.seen book.old.core).texts desk fault
+        (L.seen link.old) (L.seen link.new)
         book.old.core book.new.core book.old.events.items book.new.events.items) }
     ensures listener { (L.seen link.old).faults ≤ (L.seen link.new).faults }
     ensures cause { result ≡ Err SeatingFault.Listener → Rose (L.seen link.old).faults (L.seen link.new).faults }

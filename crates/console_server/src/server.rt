@@ -78,7 +78,8 @@ impl<'a, C: LiveCore + Drop, L: Link> Server<'a, C, L> {
         ensures done { (desk : Desk) → IsDeskOf (state self.old) desk
             → OnOk result (TurnIsDone C.Goes C.seen L.seen number desk (state self.old) (state self.new)) }
         ensures cut { (desk : Desk) → IsDeskOf (state self.old) desk
-            → IfErr result (λ fault. TurnIsCut C.Goes C.seen number desk fault (state self.old) (state self.new)) }
+            → IfErr result (λ fault. TurnIsCut C.Goes C.seen L.seen number desk fault
+            (state self.old) (state self.new)) }
         ensures cause { IfErr result (λ fault. IsCause fault
             (L.seen (state self.old).link.now) (L.seen (state self.new).link.now)
             (C.seen (state self.old).core) (C.seen (state self.new).core)) }
@@ -105,7 +106,8 @@ impl<'a, C: LiveCore + Drop, L: Link> Server<'a, C, L> {
         ensures done { (desk : Desk) → IsDeskOf (state self.old) desk
             → OnOk result (TurnsAreDone C.Goes C.seen L.seen count desk (state self.old) (state self.new)) }
         ensures cut { (desk : Desk) → IsDeskOf (state self.old) desk
-            → IfErr result (λ fault. TurnsAreCut C.Goes C.seen count desk fault (state self.old) (state self.new)) }
+            → IfErr result (λ fault. TurnsAreCut C.Goes C.seen L.seen count desk fault
+            (state self.old) (state self.new)) }
         ensures cause { IfErr result (λ fault. IsCause fault
             (L.seen (state self.old).link.now) (L.seen (state self.new).link.now)
             (C.seen (state self.old).core) (C.seen (state self.new).core)) }

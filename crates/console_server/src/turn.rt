@@ -76,7 +76,7 @@ pub(crate) fn do_turn<C: LiveCore, L: Link>(
     requires sound { C.Sound book.old.core }
     ensures done { (desk : Desk) → StandAll seats.old.items desk.seats → desk.failed ≡ failed.old.items → OnOk result (IsDone C.Goes C.seen number desk (L.seen link.old) (L.seen link.new) book.old.core book.new.core book.old.events.items book.new.events.items seats.new.items failed.new.items) }
     ensures cut { (desk : Desk) → StandAll seats.old.items desk.seats → desk.failed ≡ failed.old.items
-        → IfErr result (λ fault. IsCut C.Goes C.seen number desk fault
+        → IfErr result (λ fault. IsCut C.Goes C.seen number desk fault (L.seen link.old) (L.seen link.new)
         book.old.core book.new.core book.old.events.items book.new.events.items) }
     ensures cause { IfErr result (λ fault. IsCause fault (L.seen link.old) (L.seen link.new) (C.seen book.old.core) (C.seen book.new.core)) }
     ensures listener { (L.seen link.old).faults ≤ (L.seen link.new).faults }

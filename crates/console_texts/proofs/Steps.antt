@@ -5,17 +5,17 @@ use Rattle.std.specs.Option.{is_some}
 use Rattle.std.proofs.lemmas.Option.{slice_get-get_or}
 use Rattle.std.proofs.lemmas.List.{append-nil, map-set, length-map, get_or-set_same, get_or-set_other}
 use Rattle.std.proofs.Math.ListN.{get_or-map}
-use Rattle.time_sharing.specs.Machine.{Line, Item, CutKind, Quit, Hang, Spent, End, Ending, Went, Stopped, Resized, Replaced, LoggedOut}
-use Rattle.time_sharing.specs.System.{Timed, Service, Console, Off, On, Password, Session, Entry, Taken, Login, Refused, Idle, Swap, Serve, Clock, Common, EventKind, LineTaken, Cause, Stop, Preempt, kind_of, cause_of, service_after, service_entry, clock_entry, consoles_after, without, out_of, at}
+use Rattle.time_sharing.specs.Machine.{Line, Item, CutKind, Quit, Hang, Spent, End, Ending, Went, Stopped, Resized, Replaced, LoggedOut, CommonOp, Reply}
+use Rattle.time_sharing.specs.System.{Timed, Service, Console, Off, On, Password, Session, Entry, Taken, Login, Refused, Idle, Swap, Serve, Clock, Common, EventKind, LineTaken, Cause, Stop, Preempt, kind_of, cause_of, service_after, service_entry, clock_entry, common_entry, consoles_after, without, out_of, at}
 use Rattle.time_sharing.specs.Texts.{refusals}
-use Rattle.user_model.specs.User.{User, typed, opened, cut, can_step, step, ending, asks_clock}
+use Rattle.user_model.specs.User.{User, typed, opened, cut, can_step, step, ending, asks_clock, asks_common}
 use Rattle.user_model.specs.Session.{nobody}
 use Rattle.user_model.specs.Inner.{blocks_of}
 use Rattle.plan_model.specs.Levels.{chosen, user_of, level_in, has_time}
 use Rattle.plan_model.specs.Plan.{must_load}
 use Rattle.ctss_types.specs.declared.session.Waiting.{Waiting}
 use Rattle.system_model.specs.Run.{Run, next, taken, otherwise, attended, by_due, due_of}
-use Rattle.system_model.specs.Cases.{user_at, with_user, idle_notes, stop_notes, heard, line_taken, quit_taken, hang_taken, spent_taken, cut_taken, login_taken, dial_taken, idled, served, brought, stepped, waited}
+use Rattle.system_model.specs.Cases.{reply_for, user_at, with_user, idle_notes, stop_notes, heard, line_taken, quit_taken, hang_taken, spent_taken, cut_taken, login_taken, dial_taken, idled, served, brought, stepped, waited}
 use Rattle.system_model.specs.Sound.{Sound, IsUser, HasSeat}
 use Rattle.system_model.proofs.EventLaws.{by_event}
 use Rattle.system_model.proofs.SoundLaws.{first_user}
@@ -273,24 +273,29 @@ waited_rests : (v : Service) (r : Run) → Rests r (waited v r)
 unfolding waited
 waited_rests v r = rests_same r (waited v r) _ (extends_same (transcripts_of r.system.users)) refl (λ c. refl) refl
 
-step_more : (t : ℕ) (p : User) → (more : List Item) × ((step t p).transcript ≡ p.transcript ++ more)
+step_more : (t : ℕ) (reply : Reply) (p : User) → (more : List Item) × ((step t reply p).transcript ≡ p.transcript ++ more)
 unfolding step
-step_more t p = (_, refl)
+step_more t reply p = (_, refl)
 
-stepped_none : (asked : Bool) (t u : ℕ) (v : Service) (cause : Option Cause) (c : ℕ) → refusals c (clock_entry asked t u ++ service_entry v cause) ≡ []
-stepped_none true t u v None c = refl
-stepped_none true t u v (Some cause) c = refl
-stepped_none false t u v None c = refl
-stepped_none false t u v (Some cause) c = refl
+stepped_none : (asked : Bool) (t u : ℕ) (made : Option CommonOp) (reply : Reply) (v : Service) (cause : Option Cause) (c : ℕ) → refusals c (clock_entry asked t u ++ (common_entry made u reply ++ service_entry v cause)) ≡ []
+stepped_none true t u None reply v None c = refl
+stepped_none true t u None reply v (Some cause) c = refl
+stepped_none false t u None reply v None c = refl
+stepped_none false t u None reply v (Some cause) c = refl
+stepped_none true t u (Some op) reply v None c = refl
+stepped_none true t u (Some op) reply v (Some cause) c = refl
+stepped_none false t u (Some op) reply v None c = refl
+stepped_none false t u (Some op) reply v (Some cause) c = refl
 
 -- where no entry is written, the service goes on
-stepped_still : (asked : Bool) (t u : ℕ) (v : Service) (e : Ending) (left : Bool) (cs : List Console) → clock_entry asked t u ++ service_entry v (cause_of e left) ≡ [] → consoles_after e u cs ≡ cs
-stepped_still asked t u v Went left cs h = refl
-stepped_still asked t u v Stopped left cs h = refl
-stepped_still asked t u v Resized left cs h = refl
-stepped_still asked t u v Replaced left cs h = refl
-stepped_still true t u v LoggedOut left cs h = cc h
-stepped_still false t u v LoggedOut left cs h = cc h
+stepped_still : (asked : Bool) (t u : ℕ) (made : Option CommonOp) (reply : Reply) (v : Service) (e : Ending) (left : Bool) (cs : List Console) → clock_entry asked t u ++ (common_entry made u reply ++ service_entry v (cause_of e left)) ≡ [] → consoles_after e u cs ≡ cs
+stepped_still asked t u made reply v Went left cs h = refl
+stepped_still asked t u made reply v Stopped left cs h = refl
+stepped_still asked t u made reply v Resized left cs h = refl
+stepped_still asked t u made reply v Replaced left cs h = refl
+stepped_still true t u made reply v LoggedOut left cs h = cc h
+stepped_still false t u None reply v LoggedOut left cs h = cc h
+stepped_still false t u (Some op) reply v LoggedOut left cs h = cc h
 
 -- where a service is open behind the step, the session goes on
 stepped_served : (u : ℕ) (v : Service) (e : Ending) (left : Bool) (cs : List Console) → is_some (service_after v (cause_of e left)) ≡ true → consoles_after e u cs ≡ cs
@@ -311,18 +316,21 @@ stepped_rests : (v : Service) (r : Run) → IsUser v.user r → Rests r (stepped
 unfolding stepped
 stepped_rests v r who =
     let p : User = user_at v.user r.system.users in
-    let m = step_more r.system.clock p in
+    let made : Option CommonOp = asks_common p in
+    let reply : Reply = reply_for r made in
+    let m = step_more r.system.clock reply p in
     let left : Bool = has_time r.system.plan.levels in
+    let e : Ending = ending r.system.clock reply p in
     record {
       grows = record {
-        grown = extends_user r v.user (step r.system.clock p) m.0 who m.1;
-        more = clock_entry (asks_clock p) r.system.clock v.user ++ service_entry v (cause_of (ending r.system.clock p) left);
+        grown = extends_user r v.user (step r.system.clock reply p) m.0 who m.1;
+        more = clock_entry (asks_clock p) r.system.clock v.user ++ (common_entry made v.user reply ++ service_entry v (cause_of e left));
         entries = refl;
       };
-      none = λ c. stepped_none (asks_clock p) r.system.clock v.user v (cause_of (ending r.system.clock p) left) c;
-      still = λ h. stepped_still (asks_clock p) r.system.clock v.user v (ending r.system.clock p) left r.system.consoles h;
-      served = λ h. stepped_served v.user v (ending r.system.clock p) left r.system.consoles h;
-      leaves = λ c. stepped_leaves (ending r.system.clock p) v.user c r.system.consoles;
+      none = λ c. stepped_none (asks_clock p) r.system.clock v.user made reply v (cause_of e left) c;
+      still = λ h. stepped_still (asks_clock p) r.system.clock v.user made reply v e left r.system.consoles h;
+      served = λ h. stepped_served v.user v e left r.system.consoles h;
+      leaves = λ c. stepped_leaves e v.user c r.system.consoles;
     }
 
 attended_rests : (v : Service) (r : Run) → IsUser v.user r → Rests r (attended v r)

@@ -28,7 +28,7 @@ use Rattle.console_texts.proofs.Laws.{step_text, text_grown, fit_grown}
 use Rattle.console_texts.proofs.Steps.{next_tells, next_rests}
 
 abbrev W : Run → theory.World User Plan (List FileBody)
-W r = round r.swap r.accounts
+W r = round r.swap r.common r.accounts
 
 -- what a console newly shows is said by the transcripts
 
@@ -290,7 +290,7 @@ module _ (limit : ℕ) (r : Run) where
   measure y = whole.measure (machine user_rows) (W r) limit y.system
 
   abbrev falls : (y : Watching) → before y ≡ true → measure (step y) < measure y
-  falls y up = ending.falls (machine user_rows) (W r) (ends r.swap r.accounts) limit y.system up
+  falls y up = ending.falls (machine user_rows) (W r) (ends r.swap r.common r.accounts) limit y.system up
 
   goes_along : (n : ℕ) (y : Watching) → (repeat before step n y).system ≡ whole.iterate (machine user_rows) (W r) limit n y.system
   goes_along zero y = refl

@@ -23,17 +23,17 @@ watch r texts = record { system = r.system; texts = texts }
 
 -- the texts behind one step
 unfoldable pub texts_next : ℕ → Run → List (List ℕ) → List (List ℕ)
-texts_next limit r texts = texts_after (machine user_rows) (round r.swap r.accounts) 1 r.system (next limit r).system texts
+texts_next limit r texts = texts_after (machine user_rows) (round r.swap r.common r.accounts) 1 r.system (next limit r).system texts
 
 -- the texts behind all steps below the limit
 unfoldable pub texts_to : ℕ → Run → List (List ℕ) → List (List ℕ)
-texts_to limit r texts = (watched_to (machine user_rows) (round r.swap r.accounts) limit (watch r texts)).texts
+texts_to limit r texts = (watched_to (machine user_rows) (round r.swap r.common r.accounts) limit (watch r texts)).texts
 
 -- a run and its texts after some whole steps
 unfoldable pub AfterShown : ℕ → (old new : Run) → (shown shows : List (List ℕ)) → Type 0
 AfterShown limit old new shown shows =
-    (n : ℕ) × (new ≡ record old { system = whole.iterate (machine user_rows) (round old.swap old.accounts) limit n old.system })
-    × (shows ≡ (repeat (λ (y : Watched User Plan (List FileBody)). whole.before (machine user_rows) (round old.swap old.accounts) limit y.system) (next_watched (machine user_rows) (round old.swap old.accounts) limit) n (watch old shown)).texts)
+    (n : ℕ) × (new ≡ record old { system = whole.iterate (machine user_rows) (round old.swap old.common old.accounts) limit n old.system })
+    × (shows ≡ (repeat (λ (y : Watched User Plan (List FileBody)). whole.before (machine user_rows) (round old.swap old.common old.accounts) limit y.system) (next_watched (machine user_rows) (round old.swap old.common old.accounts) limit) n (watch old shown)).texts)
 
 -- the console at which the last entry says that a login was refused, or 0
 abbrev pub refused_by : List Entry → ℕ

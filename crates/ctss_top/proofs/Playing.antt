@@ -16,13 +16,13 @@ use Rattle.user_cores.specs.Memory.{Memory}
 use Rattle.medium.specs.Medium.{CallList}
 use Rattle.time_sharing.specs.System.{Entry}
 use Rattle.console_texts.specs.Watching.{texts_to, AfterShown}
-use Rattle.supervisor.specs.Shows.{HasTexts, HasTextsPart, HasTextsToLoad}
+use Rattle.supervisor.specs.Shows.{HasTexts, HasTextsShown}
 use Rattle.supervisor.specs.Seen.{Bare, run_with, record_so_far}
 use Rattle.supervisor.specs.Counts.{IsCounted, IsCountedToLoad, calls_to_load}
-use Rattle.supervisor.specs.Steps.{Shows, StopsAtLoad, HasRun, HasRunPart, HasRunToLoad, Ends, Fails}
+use Rattle.supervisor.specs.Steps.{Shows, StopsAtLoad, HasRun, HasRunShown, HasRunToLoad, Ends, Fails}
 use Rattle.supervisor.proofs.Serving.{ends_map}
 use Rattle.live_run.proofs.Starts.{joined_start, quotas_are, no_user_has}
-use Rattle.live_laws.proofs.Records.{record_apart, so_far, counted_at_end}
+use Rattle.live_laws.proofs.Records.{record_apart, counted_at_end}
 use Rattle.ctss_top.specs.Played.{IsStopped, HasCores, Reaches, IsPart, Stops}
 
 -- the start
@@ -49,10 +49,10 @@ ends_both (Err Disk) A B C A' B' C' X Y Z f g h one two = one
 -- the run as it is seen from the start
 pub played : {T : Type 0} (r : Result T RunFault) (limit : ℕ) (old new : Bare) (quotas : List ℕ) (had has : Memory) (was now : Option CallList) (rose : Type 0) → HasCores old quotas
     → ((u : ℕ) → 1 ≤ u → had.words u ≡ []) → had.places ≡ no_places → had.tells ≡ true
-    → Ends r (HasRun limit (run_with had.places old) (run_with has.places new) had has) (HasRunPart limit (run_with had.places old) (run_with has.places new) had has)
+    → Ends r (HasRun limit (run_with had.places old) (run_with has.places new) had has) (HasRunShown limit (run_with had.places old) (run_with no_places new) had)
     (HasRunToLoad limit (run_with had.places old) (run_with no_places new) had was now × rose)
-    → Ends r (HasTexts limit (run_with had.places old) had old.texts new.texts) (HasTextsPart limit (run_with had.places old) (run_with has.places new) had has old.texts new.texts)
-    (HasTextsToLoad limit (run_with had.places old) (run_with no_places new) had old.texts new.texts)
+    → Ends r (HasTexts limit (run_with had.places old) had old.texts new.texts) (HasTextsShown limit (run_with had.places old) (run_with no_places new) had old.texts new.texts)
+    (HasTextsShown limit (run_with had.places old) (run_with no_places new) had old.texts new.texts)
     → Ends r (Reaches limit (run_with no_places old) old.texts new) (IsPart limit (run_with no_places old) old.texts new) (Stops limit (run_with no_places old) old.texts new was now)
 played r limit old new quotas had has was now rose cores none nowhere told ran shown =
     ends_both r _ _ _ _ _ _ _ _ _ (λ run texts. reaches (run told) (texts told)) (λ run texts. part (texts told)) (λ run texts. stops (run.0 told) (texts told)) ran shown
@@ -63,12 +63,12 @@ played r limit old new quotas had has was now rose cores none nowhere told ran s
     reaches : joined has.words (run_with has.places new) ≡ run_to limit (joined had.words (run_with had.places old)) → new.texts ≡ texts_to limit (joined had.words (run_with had.places old)) old.texts → Reaches limit (run_with no_places old) old.texts new
     reaches run texts = record { words = has.words; places = has.places; run = run ∙ ap (run_to limit) start; texts = texts ∙ ap (λ (x : Run). texts_to limit x old.texts) start }
 
-    part : AfterShown limit (joined had.words (run_with had.places old)) (joined has.words (run_with has.places new)) old.texts new.texts → IsPart limit (run_with no_places old) old.texts new
-    part some =
+    part : (at : Run) × AfterShown limit (joined had.words (run_with had.places old)) at old.texts new.texts × Shows at (run_with no_places new) → IsPart limit (run_with no_places old) old.texts new
+    part t =
         record {
-          at = joined has.words (run_with has.places new);
-          part = subst (λ (x : Run). AfterShown limit x (joined has.words (run_with has.places new)) old.texts new.texts) start some;
-          shown = so_far has.words no_places has.places new;
+          at = t.0;
+          part = subst (λ (x : Run). AfterShown limit x t.0 old.texts new.texts) start t.1;
+          shown = λ j. record { entries = t.2.entries j; transcripts = t.2.transcripts j; files = []; common = []; clock = t.2.clock j };
         }
 
     stops : StopsAtLoad limit (joined had.words (run_with had.places old)) (run_with no_places new) was now
@@ -81,11 +81,7 @@ played r limit old new quotas had has was now rose cores none nowhere told ran s
           load = s.load;
           shown = λ j. record { entries = s.shown.entries j; transcripts = s.shown.transcripts j; files = []; common = []; clock = s.shown.clock j };
           counted = subst (λ (x : Run). IsCountedToLoad x.system.entries new.entries was now (calls_to_load s.load.due.user s.at)) start s.counted;
-          texts = record {
-            at = t.0;
-            part = subst (λ (x : Run). AfterShown limit x t.0 old.texts new.texts) start t.1;
-            shown = λ j. record { entries = t.2.entries j; transcripts = t.2.transcripts j; files = []; common = []; clock = t.2.clock j };
-          };
+          texts = part t;
         }
 
 -- the record of a run that reached its limit

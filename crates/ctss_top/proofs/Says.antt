@@ -17,8 +17,8 @@ use Rattle.text_model.specs.Causes.{cause_number}
 use Rattle.text_model.specs.Words.{mode_of, script_refused}
 use Rattle.text_model.specs.Reading.{script_of, max_bytes}
 use Rattle.script_read.specs.Bases.{base_of}
-use Rattle.system_model.specs.Record.{record_of, EachIsAlone}
-use Rattle.system_model.proofs.AloneLaws.{users_are_alone}
+use Rattle.system_model.specs.Record.{record_of, EachIsAlone, IsOneList}
+use Rattle.system_model.proofs.AloneLaws.{users_are_alone, commons_are_one}
 use Rattle.supervisor.specs.Counts.{IsCounted}
 use Rattle.live_laws.specs.Parts.{live_script}
 use Rattle.live_serve.specs.Talks.{IsTalk}
@@ -160,6 +160,7 @@ is_run mode old new o script comes run counted numbers written =
       written = written;
       run = run;
       alone = λ t. subst (EachIsAlone script) (sym (run t)) (users_are_alone script);
+      shared = λ t. subst (IsOneList script) (sym (run t)) (commons_are_one script);
       counted = counted;
       card = numbers.0;
       cause = numbers.1;

@@ -13,7 +13,7 @@ use Rattle.text_model.specs.Causes.{cause_number}
 use Rattle.text_model.specs.Words.{mode_of, words_refused, script_refused}
 use Rattle.text_model.specs.Reading.{script_of}
 use Rattle.script_read.specs.Bases.{base_of}
-use Rattle.system_model.specs.Record.{record_of, EachIsAlone}
+use Rattle.system_model.specs.Record.{record_of, EachIsAlone, IsOneList}
 use Rattle.supervisor.specs.Counts.{IsCounted}
 use Rattle.ctss_top.specs.declared.outcome.Outcome.{Outcome}
 use Rattle.ctss_top.specs.Outcomes.{empty_record, bare, IsOneOf}
@@ -23,16 +23,17 @@ use Rattle.ctss_top.specs.Played.{IsStopped}
 use Rattle.ctss_top.specs.Modes.{Comes, IsSpelled, IsRefused, text_for, reads_script, runs_script, serves}
 use Rattle.ctss_top.specs.Asm.{IsTextOfCards, CardsAreRefused, InputIsTooLong, statuses_for_cards}
 
--- The headline. The script is the one that the mode runs: that of all bytes that came, a made one, or a base with what people did over
--- the link. The text of the run has come
--- to the output. Where the drum tells its records, the run is the script's one record, and each account's transcript and files
--- are those of the user's machine alone. Where it tells its calls, they are just those of the run's loads.
+-- The headline. The script is the one that the mode runs: that of all bytes that came, a made one, or a base with what people did
+-- over the link. The text of the run has come to the output. Where the drum tells its records, the run is the script's one record,
+-- each account's transcript and files are those of the user's machine alone, and all replies of the common files are those of one
+-- list of files. Where it tells its calls, they are just those of the run's loads.
 pub record IsRun (mode : Mode) (old new : DevicesSeen) (result : Outcome) : Type 0 where
   pub script : Script
   pub comes : Comes mode old new script
   pub written : new.output.held ≡ after old.output.held (text_for mode script result.run)
   pub run : old.drum.tells ≡ true → result.run ≡ record_of script
   pub alone : old.drum.tells ≡ true → EachIsAlone script result.run
+  pub shared : old.drum.tells ≡ true → IsOneList script result.run
   pub counted : IsCounted [] result.run.entries old.drum.calls new.drum.calls
   pub card : result.card ≡ 0
   pub cause : result.cause ≡ 0

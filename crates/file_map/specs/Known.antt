@@ -1,5 +1,5 @@
 -- proof: files as a disk tells them: where it doesn't tell its records, names, modes and lengths are known, and no word.
-use Rattle.std.specs.Prelude.{◌≡◌, Bool, true, false, List, map, length, replicate, Ok, Err}
+use Rattle.std.specs.Prelude.{◌≡◌, refl, Bool, true, false, List, map, length, replicate, Ok, Err}
 use Rattle.std.specs.declared.result.Result.{Result}
 use Rattle.ctss_types.specs.declared.file.FileBody.{FileBody}
 use Rattle.ctss_types.specs.declared.file.Refusal.{Refusal}
@@ -13,6 +13,11 @@ blank f = record f { words = replicate (length f.words) 0 }
 unfoldable pub known : Bool → List FileBody → List FileBody
 known true files = files
 known false files = map blank files
+
+-- what a disk that tells its records holds is known as it is
+pub whole_is_known : (files : List FileBody) → known true files ≡ files
+unfolding known
+whole_is_known files = refl
 
 -- the told files, as far as the disk tells them
 abbrev pub known_of : Bool → Result (List FileBody) Refusal → Result (List FileBody) Refusal

@@ -39,7 +39,8 @@ impl Model for Files {
 fn used_after(used: u32, quota: u16, before: u64, after: u64) -> Option<u32>
     requires before { before ≤ used }
     requires after { after < 2 ^ 60 }
-    ensures { MatchOption result (quota + before < used + after) (λ now. (now + before ≡ used + after) × (now ≤ quota)) }
+    ensures { MatchOption result (quota + before < used + after) (λ now. (now + before ≡ used + after) × (now ≤
+        quota)) }
 {
     let now = u64::from(used) - before + after;
     if now <= u64::from(quota) {
@@ -103,12 +104,11 @@ impl Files {
 impl FilePort for Files {
     ghost use Rattle.std.specs.Prelude.{◌≡◌, [], true, refl};
     ghost use Rattle.std.proofs.Common.{◌∙◌, lit≤};
+    ghost use Rattle.file_map.specs.Known.{whole_is_known};
 
     ghost files = { λ d. d.files };
 
     ghost quota = { λ d. d.quota };
-
-    ghost beside = { λ _. record { files = []; quota = 0; past = [] } };
 
     ghost tells = { λ _. true };
 
@@ -260,6 +260,8 @@ impl FilePort for Files {
         self.table.drop_temporary();
         self.used = self.table.tracks();
     }
+
+    ghost is_known = { λ a works. whole_is_known a.files };
 
     ghost stays = { λ a. refl };
 

@@ -1,17 +1,15 @@
-//! Directories of files: the ports through which a program reaches its files and the common ones.
+//! Directories of files: the port through which users reach their own files and the common ones.
 //!
 //! `FilePort` is a directory as contracts see it, a list of files with a quota of tracks. Each call answers what the
 //! definition of its operation (file_model `specs/Files`) says, or a fault. `Files` is a directory in memory.
 #![tactic(auto)]
 
-mod common;
 mod fault;
 mod files;
 mod port;
 mod table;
 mod words;
 
-pub use common::CommonPort;
 pub use fault::PortFault;
 pub use files::Files;
 pub use port::{FilePort, Listing, ListingRow};

@@ -3,8 +3,7 @@ ghost use Rattle.faults.specs.Faults.{Rose};
 ghost use Rattle.ctss_types.specs.declared.file.FileBody.{FileBody};
 ghost use Rattle.file_model.specs.Files.{stat, read, got, written, appended, put, renamed, deleted, moded, lasting, tracks_of};
 ghost use Rattle.file_map.specs.Answers.{Answers, Leaves};
-ghost use Rattle.file_map.specs.Known.{AnswersOver, known_of};
-ghost use Rattle.file_map.specs.Beside.{Beside};
+ghost use Rattle.file_map.specs.Known.{AnswersOver, known, known_of};
 ghost use Rattle.file_map.specs.Listing.{listing_of};
 
 use crate::PortFault;
@@ -35,9 +34,6 @@ pub trait FilePort {
     /// How many tracks the files may take together.
     ghost quota: { Self → ℕ };
 
-    /// The common files beside it, and what was done to them through it. The calls here leave them as they are.
-    ghost beside: { Self → Beside };
-
     /// Whether the disk tells its records.
     ghost tells: { Self → Bool };
 
@@ -65,7 +61,6 @@ pub trait FilePort {
         ensures answer { AnswersOver (tells self.old) (files self.old) result (read name place count) }
         ensures left { ¬ IsErrOf result PortFault.Disk → files self.new ≡ files self.old }
         ensures told { ¬ IsErrOf result PortFault.Disk → tells self.new ≡ tells self.old }
-        ensures beside { ¬ IsErrOf result PortFault.Disk → beside self.new ≡ beside self.old }
         ensures works { ¬ IsErrOf result PortFault.Disk → Works self.new }
         ensures keeps { Keeps self.old self.new }
         ensures cause { IsErrOf result PortFault.Disk → Rose (faults self.old) (faults self.new) };
@@ -76,7 +71,6 @@ pub trait FilePort {
         ensures answer { AnswersOver (tells self.old) (files self.old) result (got name) }
         ensures left { ¬ IsErrOf result PortFault.Disk → files self.new ≡ files self.old }
         ensures told { ¬ IsErrOf result PortFault.Disk → tells self.new ≡ tells self.old }
-        ensures beside { ¬ IsErrOf result PortFault.Disk → beside self.new ≡ beside self.old }
         ensures works { ¬ IsErrOf result PortFault.Disk → Works self.new }
         ensures keeps { Keeps self.old self.new }
         ensures cause { IsErrOf result PortFault.Disk → Rose (faults self.old) (faults self.new) };
@@ -87,7 +81,6 @@ pub trait FilePort {
         ensures left { let told = written name place words.now (quota self.old) (files self.old)
             in Leaves result (known_of (tells self.old) told) (files self.old) (files self.new) }
         ensures told { ¬ IsErrOf result PortFault.Disk → tells self.new ≡ tells self.old }
-        ensures beside { ¬ IsErrOf result PortFault.Disk → beside self.new ≡ beside self.old }
         ensures works { ¬ IsErrOf result PortFault.Disk → Works self.new }
         ensures keeps { Keeps self.old self.new }
         ensures cause { IsErrOf result PortFault.Disk → Rose (faults self.old) (faults self.new) };
@@ -98,7 +91,6 @@ pub trait FilePort {
         ensures left { let told = appended name words.now (quota self.old) (files self.old)
             in Leaves result (known_of (tells self.old) told) (files self.old) (files self.new) }
         ensures told { ¬ IsErrOf result PortFault.Disk → tells self.new ≡ tells self.old }
-        ensures beside { ¬ IsErrOf result PortFault.Disk → beside self.new ≡ beside self.old }
         ensures works { ¬ IsErrOf result PortFault.Disk → Works self.new }
         ensures keeps { Keeps self.old self.new }
         ensures cause { IsErrOf result PortFault.Disk → Rose (faults self.old) (faults self.new) };
@@ -109,7 +101,6 @@ pub trait FilePort {
         ensures left { let told = put name words.now (quota self.old) (files self.old)
             in Leaves result (known_of (tells self.old) told) (files self.old) (files self.new) }
         ensures told { ¬ IsErrOf result PortFault.Disk → tells self.new ≡ tells self.old }
-        ensures beside { ¬ IsErrOf result PortFault.Disk → beside self.new ≡ beside self.old }
         ensures works { ¬ IsErrOf result PortFault.Disk → Works self.new }
         ensures keeps { Keeps self.old self.new }
         ensures cause { IsErrOf result PortFault.Disk → Rose (faults self.old) (faults self.new) };
@@ -120,7 +111,6 @@ pub trait FilePort {
         ensures left { Leaves result (renamed name to (files self.old)) (files self.old) (files self.new) }
         ensures disk { ¬ IsErrOf result PortFault.Disk }
         ensures told { tells self.new ≡ tells self.old }
-        ensures beside { beside self.new ≡ beside self.old }
         ensures works { Works self.new }
         ensures keeps { Keeps self.old self.new };
 
@@ -131,7 +121,6 @@ pub trait FilePort {
         ensures disk { ¬ IsErrOf result PortFault.Disk }
         ensures memory { ¬ IsErrOf result PortFault.NoMemory }
         ensures told { tells self.new ≡ tells self.old }
-        ensures beside { beside self.new ≡ beside self.old }
         ensures works { Works self.new }
         ensures keeps { Keeps self.old self.new };
 
@@ -142,7 +131,6 @@ pub trait FilePort {
         ensures disk { ¬ IsErrOf result PortFault.Disk }
         ensures memory { ¬ IsErrOf result PortFault.NoMemory }
         ensures told { tells self.new ≡ tells self.old }
-        ensures beside { beside self.new ≡ beside self.old }
         ensures works { Works self.new }
         ensures keeps { Keeps self.old self.new };
 
@@ -167,9 +155,11 @@ pub trait FilePort {
         requires works { Works self.old }
         ensures left { files self.new ≡ lasting (files self.old) }
         ensures told { tells self.new ≡ tells self.old }
-        ensures beside { beside self.new ≡ beside self.old }
         ensures works { Works self.new }
         ensures keeps { Keeps self.old self.new };
+
+    /// The files are known as its disk tells them.
+    ghost is_known: { (a : Self) → Works a → known (tells a) (files a) ≡ files a };
 
     /// A port that nothing was done to stands over the same objects.
     ghost stays: { (a : Self) → Keeps a a };

@@ -91,7 +91,8 @@ impl FileTable {
 
     /// The file of a name.
     pub(crate) fn get(&self, name: FileName) -> Option<&StoredFile>
-        ensures file { MatchOption result (file_named name self.now ≡ None) (λ f. file_named name self.now ≡ Some (body_of (name, f.now))) }
+        ensures file { MatchOption result (file_named name self.now ≡ None) (λ f. file_named name self.now ≡ Some
+            (body_of (name, f.now))) }
         ensures differ { NamesDiffer self.now }
     {
         // `len` is called for its clause that the names differ.
@@ -102,7 +103,8 @@ impl FileTable {
     /// A new file behind the others. Where memory lacks, all is as before.
     pub(crate) fn add(&mut self, name: FileName, mode: u8, words: Vec<Word>) -> Result<(), NoMemory>
         requires { file_named name self.old ≡ None }
-        ensures ok { OnOk result (self.new ≡ self.old ++ record { name = name; mode = mode; words = words.items } ∷ []) }
+        ensures ok { OnOk result (self.new ≡ self.old ++ record { name = name; mode = mode; words = words.items } ∷
+            []) }
         ensures err { OnErr result (self.new ≡ self.old) }
     {
         self.by_name.insert(name, StoredFile { mode, words })?;
@@ -135,7 +137,10 @@ impl FileTable {
         words: &[Word],
     ) -> Result<(), NoMemory>
         requires { (f : FileBody) → file_named name self.old ≡ Some f → place ≤ length f.words }
-        ensures ok { OnOk result (self.new ≡ with_change name (λ f. record f { words = overwritten place words.now f.words }) self.old) }
+        ensures ok { OnOk result (self.new ≡ with_change name (λ f. record f {
+          words = overwritten place words.now
+              f.words;
+        }) self.old) }
         ensures err { OnErr result (self.new ≡ self.old) }
     {
         match self.by_name.get_mut(&name) {

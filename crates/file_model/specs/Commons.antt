@@ -1,5 +1,5 @@
 -- proof: the common directory: what each operation answers, and the files behind it.
-use Rattle.std.specs.Prelude.{ℕ, ◌+◌, ◌*◌, List, Ok, Err}
+use Rattle.std.specs.Prelude.{ℕ, ◌<◌, ◌^◌, ◌+◌, ◌*◌, List, Ok, Err}
 use Rattle.std.specs.declared.result.Result.{Result}
 use Rattle.ctss_types.specs.declared.file.FileBody.{FileBody}
 use Rattle.ctss_types.specs.declared.file.CommonOp.{CommonOp}
@@ -9,6 +9,13 @@ use Rattle.ctss_types.specs.declared.file.Reply.TheVariants.{Done, Size, Words, 
 use Rattle.ctss_types.specs.declared.file.Refusal.{Refusal}
 use Rattle.file_model.specs.declared.Stat.{Stat}
 use Rattle.file_model.specs.Files.{stat, read, got, written, put, deleted}
+
+-- the size that a reply tells is one that a program gets
+abbrev pub ReplyFits : Reply → Type 0
+ReplyFits Done = Unit {0}
+ReplyFits (Size n) = n < 2 ^ 35
+ReplyFits (Words words) = Unit {0}
+ReplyFits (Refused r) = Unit {0}
 
 abbrev pub size_reply : Result Stat Refusal → Reply
 size_reply (Ok s) = Size (4 * s.words + s.mode)

@@ -1,3 +1,4 @@
 pub mod InParts
 pub mod Calls
 pub mod Records
+pub mod Beginnings

@@ -12,7 +12,7 @@ use Rattle.system_model.specs.Joined.{joined, with_cores}
 use Rattle.system_model.specs.Record.{record_from}
 use Rattle.system_model.proofs.CaseLaws.{closes}
 use Rattle.system_model.proofs.SwapLaws.{dumped-append, read-append}
-use Rattle.supervisor.specs.Seen.{Bare, run_with, record_so_far}
+use Rattle.supervisor.specs.Seen.{Bare, run_with}
 use Rattle.supervisor.specs.Counts.{IsCounted}
 use Rattle.supervisor.proofs.Running.{transcripts_same}
 
@@ -26,10 +26,6 @@ closed_apart f p q b = λ j. record (record_from (closed (run_with p b))) { tran
 
 pub record_apart : (f : ℕ → List ℕ) (p q : Places) (b : Bare) → record_from (ended (run_with p b)) ≡ record_from (ended (joined f (run_with q b)))
 record_apart f p q b = ap record_from (closes (run_with p b)) ∙ closed_apart f p q b ∙ ap record_from (sym (closes (joined f (run_with q b))))
-
-pub so_far : (f : ℕ → List ℕ) (p q : Places) (b : Bare) → record_so_far (run_with p b) ≡ record_so_far (joined f (run_with q b))
-unfolding joined
-so_far f p q b = λ j. record (record_so_far (run_with p b)) { transcripts = transcripts_same 1 f b.users j }
 
 -- the end of a record adds no load
 

@@ -3,6 +3,7 @@
 //! The definitions stand in `specs/`. The functions here do nothing: each carries a law.
 #![tactic(auto)]
 
+ghost use Rattle.live_laws.specs.Beginnings.{StoppedRunsAreBeginnings, StoppedPartsAreBeginnings};
 ghost use Rattle.live_laws.specs.Parts.{LiveRunsAreReplays, CallsAreRuns};
 
 /// The record of a run to which events are given in parts is that of the script with all of them.
@@ -15,4 +16,16 @@ pub fn live_runs_are_replays()
 #[tactic(auto, using(crate::proofs::Calls::calls_are_runs))]
 pub fn calls_are_runs()
     ensures { CallsAreRuns }
+{}
+
+/// The schedule of a script's run that stopped is a beginning of that of the script's record.
+#[tactic(auto, using(crate::proofs::Beginnings::stopped_runs_are_beginnings))]
+pub fn stopped_runs_are_beginnings()
+    ensures { StoppedRunsAreBeginnings }
+{}
+
+/// The schedule of a run in parts that stopped is a beginning of that of the script with all events of these parts.
+#[tactic(auto, using(crate::proofs::Beginnings::stopped_parts_are_beginnings))]
+pub fn stopped_parts_are_beginnings()
+    ensures { StoppedPartsAreBeginnings }
 {}

@@ -1,5 +1,6 @@
 -- The start and the end of a talk.
 use Rattle.std.proofs.Common.{◌≡◌, ℕ, zero, suc, ◌≤◌, Bool, true, false, List, [], ◌∷◌, ◌++◌, length, map, replicate, Option, Some, None, Ok, Err, refl, sym, ap, ap₂, subst, ◌∙◌, arith}
+use Rattle.std.proofs.lemmas.List.{append_assoc}
 use Rattle.std.specs.Prelude.{OnOk, IfErr}
 use Rattle.std.specs.declared.result.Result.{Result}
 use Rattle.std.specs.Borrow.{MutBor}
@@ -13,8 +14,8 @@ use Rattle.console_server.specs.declared.fault.ServeFault.{ServeFault}
 use Rattle.console_server.specs.declared.fault.ServeFault.TheVariants as serve
 use Rattle.console_server.specs.Readings.{DidAll, Nothing, Then}
 use Rattle.console_server.specs.History.{heard_in}
-use Rattle.console_server.specs.Server.{ServerState, IsDeskOf, IsCause, ends_with, closes, closes_of}
-use Rattle.console_server.specs.Conversation.{TurnsAreDone, TurnsAreCut, calls_of_turns, events_of_turns, desk_behind}
+use Rattle.console_server.specs.Server.{ServerState, IsDeskOf, IsCause, calls_until, ends_with, closes, closes_of}
+use Rattle.console_server.specs.Conversation.{TurnsAreDone, TurnsAreCut, calls_of_turns, events_of_turns, desk_behind, texts_behind}
 use Rattle.console_server.proofs.Following.{did_both}
 use Rattle.live_serve.specs.Talks.{empty_desk, close_of, closes_of_desk, TalkIsDone, TalkIsCut}
 
@@ -29,6 +30,16 @@ closes_stand [] [] h = refl
 closes_stand [] (t ∷ desk) h = absurd h
 closes_stand (s ∷ seats) [] h = absurd h
 closes_stand (s ∷ seats) (t ∷ desk) h = ap₂ (λ (a b : List Done). a ++ b) (close_stands s t h.0) (closes_stand seats desk h.1)
+
+abbrev numbers_of : List (Option Task) → List ℕ
+numbers_of [] = []
+numbers_of (None ∷ seats) = numbers_of seats
+numbers_of (Some task ∷ seats) = task.id ∷ numbers_of seats
+
+closes_numbers : (seats : List (Option Task)) → closes seats ≡ map DidClose (numbers_of seats)
+closes_numbers [] = refl
+closes_numbers (None ∷ seats) = closes_numbers seats
+closes_numbers (Some task ∷ seats) = ap (λ (ds : List Done). DidClose task.id ∷ ds) (closes_numbers seats)
 
 pub stand_none : (n : ℕ) → StandAll (replicate n None) (replicate n None)
 stand_none zero = tt
@@ -77,12 +88,31 @@ module _ {C L : Type 0} (goes : C → List CoreCall → C → Type 0) (see : C �
       }
   talk_done (Err f) count old new core end link m z events is done closed core_is events_are same = tt
 
-  pub talk_cut : (r : Result Unit ServeFault) (count : ℕ) (old new : ServerState C L) (core end : C) (link : MutBor L) → old ≡ first core link
-      → IfErr r (λ fault. TurnsAreCut goes see count empty_desk fault old new) → end ≡ new.core → IfErr r (λ fault. TalkIsCut goes (see core).texts count fault core end)
-  talk_cut (Ok x) count old new core end link is cut core_is = tt
-  talk_cut (Err f) count old new core end link is cut core_is =
-      let t : TurnsAreCut goes see count empty_desk f (first core link) new = subst (λ (s : ServerState C L). TurnsAreCut goes see count empty_desk f s new) is cut in
-      record { turns = t.turns; few = t.few; lawful = t.lawful; events = t.events; answers = t.answers; part = t.part; at_limit = t.at_limit; core = subst (λ (c : C). goes core (heard_in 0 (events_of_turns 0 (see core).texts empty_desk t.turns) ++ (map Took t.events ++ ends_with (length t.turns) f t.at_limit)) c) (sym core_is) t.core }
+  pub talk_cut : (r : Result Unit ServeFault) (count : ℕ) (old new : ServerState C L) (core end : C) (link : MutBor L) (m z : LinkSeen) → old ≡ first core link
+      → IfErr r (λ fault. TurnsAreCut goes see look count empty_desk fault old new) → DidAll (closes new.seats) (look new.link.now) m → end ≡ new.core → m ≡ z
+      → IfErr r (λ fault. TalkIsCut goes (see core).texts count fault (look link.now) z core end)
+  talk_cut (Ok x) count old new core end link m z is cut closed core_is same = tt
+  talk_cut (Err f) count old new core end link m z is cut closed core_is same =
+      let t : TurnsAreCut goes see look count empty_desk f (first core link) new = subst (λ (s : ServerState C L). TurnsAreCut goes see look count empty_desk f s new) is cut in
+      let texts = (see core).texts in
+      let done = calls_of_turns texts empty_desk t.turns in
+      let made = calls_until (texts_behind texts t.turns) (desk_behind texts empty_desk t.turns) t.answers t.at in
+      let shut : DidAll (map DidClose (numbers_of new.seats)) (look new.link.now) z =
+      subst (λ (ds : List Done). DidAll ds (look new.link.now) z) (closes_numbers new.seats) (subst (λ (s : LinkSeen). DidAll (closes new.seats) (look new.link.now) s) same closed) in
+      record {
+        turns = t.turns;
+        few = t.few;
+        lawful = t.lawful;
+        events = t.events;
+        answers = t.answers;
+        at = t.at;
+        closed = numbers_of new.seats;
+        cut = t.cut;
+        link = subst (λ (ds : List Done). DidAll ds (look link.now) z) (append_assoc done made (map DidClose (numbers_of new.seats)))
+            (did_both (done ++ made) (map DidClose (numbers_of new.seats)) (look link.now) (look new.link.now) z t.link shut);
+        part = t.part;
+        core = subst (λ (c : C). goes core (heard_in 0 (events_of_turns 0 texts empty_desk t.turns) ++ (map Took t.events ++ ends_with (length t.turns) f t.at)) c) (sym core_is) t.core;
+      }
 
   pub talk_cause : (r : Result Unit ServeFault) (old new : ServerState C L) (core end : C) (link : MutBor L) (m z : LinkSeen) → old ≡ first core link
       → IfErr r (λ fault. IsCause fault (look old.link.now) (look new.link.now) (see old.core) (see new.core)) → DidAll (closes new.seats) (look new.link.now) m → end ≡ new.core → m ≡ z

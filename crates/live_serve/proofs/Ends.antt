@@ -1,5 +1,5 @@
 -- What the runs of live consoles leave.
-use Rattle.std.proofs.Common.{◌≡◌, ℕ, ◌+◌, ◌*◌, ◌<◌, Bool, true, List, [], ◌∷◌, ◌++◌, map, length, take, replicate, Option, Some, Err, refl, sym, ap, subst, ◌∙◌, arith}
+use Rattle.std.proofs.Common.{◌≡◌, ℕ, ◌+◌, ◌*◌, ◌<◌, Bool, true, List, [], ◌∷◌, ◌++◌, map, length, replicate, Option, Some, Err, refl, sym, ap, subst, ◌∙◌, arith}
 use Rattle.medium.specs.Medium.{CallList}
 use Rattle.ctss_types.specs.declared.fault.RunFault.TheVariants.{Drum}
 use Rattle.ctss_types.specs.declared.script.Script.{Script}
@@ -78,10 +78,10 @@ module _ (base : Script) (tells : Bool) (turns : List TurnSeen) (a b : Whole) (b
 module _ (base : Script) (tells : Bool) (turns : List TurnSeen) (a c : Whole) (begins : Begins base tells a) (was now : Option CallList) (was_is : a.cores.calls ≡ was) (now_is : c.cores.calls ≡ now) where
   -- the drum failed on the way of a turn to its limit
   pub stops_in_turn : (count : ℕ) (events : List Timed) (answers : TurnAnswers) (rec : Record) → length turns < count → AreTurns blank empty_desk turns → tells ≡ true
-      → events ≡ take (length events) (events_of_turn (1000 * length turns) (texts_behind blank turns) (desk_behind blank empty_desk turns) answers)
+      → events ≡ events_of_turn (1000 * length turns) (texts_behind blank turns) (desk_behind blank empty_desk turns) answers
       → Follows (heard_in 0 (events_by turns) ++ (map Took events ++ Went (1000 * (length turns + 1)) (Some Drum) ∷ [])) a c → rec ≡ record_so_far (run_apart c)
       → StopsInTurn base count was now rec
-  stops_in_turn count events answers rec few lawful told part h rec_is =
+  stops_in_turn count events answers rec few lawful told given_is h rec_is =
       let limit = 1000 * (length turns + 1) in
       let last = Went limit (Some Drum) ∷ [] in
       let apart = follows_apart (heard_in 0 (events_by turns)) (map Took events ++ last) a c h in
@@ -96,7 +96,7 @@ module _ (base : Script) (tells : Bool) (turns : List TurnSeen) (a c : Whole) (b
         lawful = lawful;
         events = events;
         answers = answers;
-        given = part;
+        given = given_is;
         at = s.at;
         part = subst (λ (r : Run). AfterSteps limit r s.at) (given.1 ∙ ap (given_all events) run.0) s.part;
         early = s.early;

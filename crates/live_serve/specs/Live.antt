@@ -1,5 +1,5 @@
 -- claim: what live consoles leave: the record of the script with their events, or that of a run which the drum stopped.
-use Rattle.std.specs.Prelude.{◌≡◌, ℕ, suc, ◌+◌, ◌*◌, ◌<◌, Bool, true, List, [], ◌∷◌, length, take, replicate, Option}
+use Rattle.std.specs.Prelude.{◌≡◌, ℕ, suc, ◌+◌, ◌*◌, ◌<◌, Bool, true, List, [], ◌∷◌, length, replicate, Option}
 use Rattle.faults.specs.Faults.{Rose}
 use Rattle.medium.specs.Medium.{CallList}
 use Rattle.ctss_types.specs.declared.script.Script.{Script}
@@ -29,8 +29,8 @@ pub record IsLiveRecord (base : Script) (turns : ℕ) (events : List Timed) (tel
   pub record_is : tells ≡ true → rec ≡ record_of (live_script base events (1000 * turns))
   pub counted : IsCounted [] rec.entries was now
 
--- A record of some whole steps in the turn behind those that were done, of whose events a beginning was given, behind which blocks of a
--- user are to be brought into core.
+-- A record of some whole steps in the turn behind those that were done, whose events were given, behind which blocks of a user are to
+-- be brought into core.
 -- The drum's calls are those of the loads so far and, where it tells them, a beginning of that next load's, of which the last one failed.
 pub record StopsInTurn (base : Script) (turns : ℕ) (was now : Option CallList) (rec : Record) : Type 0 where
   pub before : List TurnSeen
@@ -38,7 +38,7 @@ pub record StopsInTurn (base : Script) (turns : ℕ) (was now : Option CallList)
   pub lawful : AreTurns (replicate 32 []) empty_desk before
   pub events : List Timed
   pub answers : TurnAnswers
-  pub given : events ≡ take (length events) (events_of_turn (1000 * length before) (texts_behind (replicate 32 []) before) (desk_behind (replicate 32 []) empty_desk before) answers)
+  pub given : events ≡ events_of_turn (1000 * length before) (texts_behind (replicate 32 []) before) (desk_behind (replicate 32 []) empty_desk before) answers
   pub at : Run
   pub part : AfterSteps (1000 * (length before + 1)) (given_all events (run_in (parts_from 0 (events_of_turns 0 (replicate 32 []) empty_desk before)) (start_of (record base { events = [] })))) at
   pub early : at.system.clock < 1000 * (length before + 1)

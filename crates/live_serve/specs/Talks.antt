@@ -1,5 +1,5 @@
 -- claim: what passes over a link from its opening to the closing of all connections, and what the core is given of it.
-use Rattle.std.specs.Prelude.{◌≡◌, ℕ, ◌*◌, ◌<◌, Bool, false, List, [], ◌∷◌, ◌++◌, length, take, map, replicate, Option, Some, None}
+use Rattle.std.specs.Prelude.{◌≡◌, ℕ, ◌*◌, ◌<◌, false, List, [], ◌∷◌, ◌++◌, length, take, map, replicate, Option, Some, None}
 use Rattle.ctss_types.specs.declared.script.Timed.{Timed}
 use Rattle.console_link.specs.Links.{LinkSeen, Done, DidOpen, DidClose}
 use Rattle.console_server.specs.declared.fault.ServeFault.{ServeFault}
@@ -7,7 +7,7 @@ use Rattle.live_core.specs.Core.{CoreCall, Took}
 use Rattle.console_server.specs.Readings.{DidAll}
 use Rattle.console_server.specs.Turns.{Talk, Desk, TurnAnswers, events_of_turn}
 use Rattle.console_server.specs.History.{heard_in, events_in}
-use Rattle.console_server.specs.Server.{ends_with}
+use Rattle.console_server.specs.Server.{CutAt, calls_until, ends_with, IsCutTurn}
 use Rattle.console_server.specs.Conversation.{TurnSeen, AreTurns, calls_of_turns, events_of_turns, desk_behind, texts_behind}
 
 -- 32 consoles, none of which has a connection
@@ -45,13 +45,19 @@ pub record TalkIsDone {C : Type 0} (goes : C → List CoreCall → C → Type 0)
   pub core : goes old (heard_in 0 (events_of_turns 0 texts empty_desk turns)) new
   pub events_are : events ≡ events_in (events_of_turns 0 texts empty_desk turns)
 
--- a core behind some of its turns and one that failed, of which it was given a beginning of its events
-pub record TalkIsCut {C : Type 0} (goes : C → List CoreCall → C → Type 0) (texts : List (List ℕ)) (count : ℕ) (fault : ServeFault) (old new : C) : Type 0 where
+-- A core behind some of its turns and one that failed, of which it was given a beginning of its events. The link was called as far as
+-- that, and then these connections were closed.
+pub record TalkIsCut {C : Type 0} (goes : C → List CoreCall → C → Type 0) (texts : List (List ℕ)) (count : ℕ) (fault : ServeFault) (a b : LinkSeen) (old new : C) : Type 0 where
   pub turns : List TurnSeen
   pub few : length turns < count
   pub lawful : AreTurns texts empty_desk turns
   pub events : List Timed
   pub answers : TurnAnswers
+  pub at : CutAt
+  pub closed : List ℕ
+  pub cut : IsCutTurn (length turns) (texts_behind texts turns) (desk_behind texts empty_desk turns) answers at fault events
+  pub link :
+      DidAll (calls_of_turns texts empty_desk turns
+      ++ (calls_until (texts_behind texts turns) (desk_behind texts empty_desk turns) answers at ++ map DidClose closed)) a b
   pub part : events ≡ take (length events) (events_of_turn (1000 * length turns) (texts_behind texts turns) (desk_behind texts empty_desk turns) answers)
-  pub at_limit : Bool
-  pub core : goes old (heard_in 0 (events_of_turns 0 texts empty_desk turns) ++ (map Took events ++ ends_with (length turns) fault at_limit)) new
+  pub core : goes old (heard_in 0 (events_of_turns 0 texts empty_desk turns) ++ (map Took events ++ ends_with (length turns) fault at)) new

@@ -3,7 +3,7 @@ use Rattle.std.proofs.Common.{refl}
 use Rattle.word36.specs.Octal.{octal_digits}
 use Rattle.ctss_types.specs.Words.{name_of}
 use Rattle.program_model.specs.Decks.{filled}
-use Rattle.program_model.specs.Rows.{RowOfCalls, RowOfFileCalls, RowOfLines, RowOfDecks, RowOfSaved}
+use Rattle.program_model.specs.Rows.{RowOfCalls, RowOfFileCalls, RowOfCommonCalls, RowOfLines, RowOfDecks, RowOfSaved}
 
 pub row_of_calls : RowOfCalls
 unfolding name_of
@@ -12,6 +12,10 @@ row_of_calls = record { reads = refl; writes = refl; past = refl; long = refl; n
 pub row_of_file_calls : RowOfFileCalls
 unfolding name_of
 row_of_file_calls = record { stat = refl; delete = refl; rename = refl; mode = refl; read = refl; written = refl; minus = refl; argument = refl; names = refl; place = refl; buffer = refl; second = refl }
+
+pub row_of_common_calls : RowOfCommonCalls
+unfolding name_of
+row_of_common_calls = record { stat = refl; delete = refl; read = refl; written = refl; buffer = refl; unknown = refl }
 
 pub row_of_lines : RowOfLines
 unfolding name_of

@@ -7,7 +7,7 @@ use Rattle.ctss_types.specs.Words.{name_of}
 use Rattle.cpu_regs.specs.declared.regs.Regs.{Regs}
 use Rattle.cpu_regs.specs.Registers.{xr}
 use Rattle.program_model.specs.declared.Call.{Call}
-use Rattle.program_model.specs.declared.Call.TheVariants.{ReadLine, WriteLine, GetTime, GetMemory, SetMemory, FileStat, ReadFile, WriteFile, DeleteFile, RenameFile, ChangeMode, Dead, Dormant}
+use Rattle.program_model.specs.declared.Call.TheVariants.{ReadLine, WriteLine, GetTime, GetMemory, SetMemory, FileStat, ReadFile, WriteFile, DeleteFile, RenameFile, ChangeMode, CommonStat, CommonRead, CommonWrite, CommonDelete, Dead, Dormant}
 use Rattle.program_model.specs.declared.EntryFault.{EntryFault}
 use Rattle.program_model.specs.declared.EntryFault.TheVariants.{NoSuchEntry, Outside}
 
@@ -69,6 +69,14 @@ mode_call r core =
     with_word core (behind_call r 1) (λ n. with_word core (behind_call r 2) (λ m.
     with_file core (address_of n) (λ name. Ok (ChangeMode name (address_of m)))))
 
+-- the entries that ask for something of a common file
+abbrev pub call_of_common : Regs → List ℕ → ℕ → Result Call EntryFault
+call_of_common r core name =
+    if nat_eq name (name_of (codes "CFSTAT")) then file_call r core (λ file. CommonStat file)
+    else (if nat_eq name (name_of (codes "CRDFIL")) then transfer_call r core (λ file at count place. CommonRead file at count place)
+    else (if nat_eq name (name_of (codes "CWRFIL")) then transfer_call r core (λ file at count place. CommonWrite file at count place)
+    else (if nat_eq name (name_of (codes "CDELET")) then file_call r core (λ file. CommonDelete file) else Err NoSuchEntry)))
+
 -- the entries that ask for something of a file
 abbrev pub call_of_file : Regs → List ℕ → ℕ → Result Call EntryFault
 call_of_file r core name =
@@ -77,7 +85,7 @@ call_of_file r core name =
     else (if nat_eq name (name_of (codes "WRFILE")) then transfer_call r core (λ file at count place. WriteFile file at count place)
     else (if nat_eq name (name_of (codes "DELETE")) then file_call r core (λ file. DeleteFile file)
     else (if nat_eq name (name_of (codes "RENAME")) then rename_call r core
-    else (if nat_eq name (name_of (codes "CHMODE")) then mode_call r core else Err NoSuchEntry)))))
+    else (if nat_eq name (name_of (codes "CHMODE")) then mode_call r core else call_of_common r core name)))))
 
 -- the entries without arguments
 abbrev pub simple_call : Regs → List ℕ → ℕ → Result Call EntryFault

@@ -5,7 +5,7 @@
 //! (worked rows). The functions here do nothing: each carries a row.
 #![tactic(auto)]
 
-ghost use Rattle.program_model.specs.Rows.{RowOfCalls, RowOfFileCalls, RowOfLines, RowOfDecks, RowOfSaved};
+ghost use Rattle.program_model.specs.Rows.{RowOfCalls, RowOfFileCalls, RowOfCommonCalls, RowOfLines, RowOfDecks, RowOfSaved};
 
 use ctss_types::FileName;
 use thiserror::Error;
@@ -62,6 +62,28 @@ pub enum Call {
     ChangeMode {
         name: FileName,
         mode: u16,
+    },
+    /// CFSTAT: the size and the mode of a common file.
+    CommonStat {
+        name: FileName,
+    },
+    /// CRDFIL: so many words of a common file, from a place on, to a buffer.
+    CommonRead {
+        name: FileName,
+        at: u16,
+        count: u16,
+        place: u64,
+    },
+    /// CWRFIL: a buffer to a common file, from a place on.
+    CommonWrite {
+        name: FileName,
+        at: u16,
+        count: u16,
+        place: u64,
+    },
+    /// CDELET: a common file goes.
+    CommonDelete {
+        name: FileName,
     },
     /// DEAD: the program is over and goes.
     Dead,
@@ -141,6 +163,12 @@ pub fn row_of_lines()
 #[tactic(auto, using(crate::proofs::RowsComputed::row_of_decks))]
 pub fn row_of_decks()
     ensures { RowOfDecks }
+{}
+
+/// Calls that ask for something of a common file.
+#[tactic(auto, using(crate::proofs::RowsComputed::row_of_common_calls))]
+pub fn row_of_common_calls()
+    ensures { RowOfCommonCalls }
 {}
 
 /// Saved programs, and what is printed of one that stopped.

@@ -22,4 +22,6 @@ mod services;
 #[cfg(test)]
 mod sessions;
 #[cfg(test)]
+mod sharing;
+#[cfg(test)]
 mod typing;

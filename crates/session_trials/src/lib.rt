@@ -1,8 +1,10 @@
-//! Trials of one user: directories and their quotas, decks, saved programs and cards, calls and commands, sessions and levels.
+//! Trials of one user: directories and their quotas, the common directory, decks, saved programs and cards, calls and commands, sessions and levels.
 #![tactic(auto)]
 
 #[cfg(test)]
 mod cards;
+#[cfg(test)]
+mod commons;
 #[cfg(test)]
 mod decks;
 #[cfg(test)]

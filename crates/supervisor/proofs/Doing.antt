@@ -1,16 +1,16 @@
 -- What a step of the code does, as a step of the definitions over users joined with words.
 use Rattle.std.proofs.Common.{◌≡◌, ◌≢◌, ℕ, ◌-◌, ◌<◌, ◌≤◌, Bool, true, false, not, nat_eq, List, [], Option, Some, None, get_or, refl, sym, ◌∙◌, ap, subst, arith, ◌⊎◌, inl, inr}
-use Rattle.time_sharing.specs.Machine.{Ending}
+use Rattle.time_sharing.specs.Machine.{Ending, CommonOp, Reply}
 use Rattle.time_sharing.specs.System.{Timed, Service, Off, Preempt}
 use Rattle.user_model.specs.Inner.{blocks_of}
-use Rattle.user_model.specs.User.{User, can_step, step, ending, asks_clock, in_core, core_after, IsStep}
+use Rattle.user_model.specs.User.{User, can_step, step, ending, asks_clock, asks_common, in_core, core_after, IsStep}
 use Rattle.plan_model.specs.Levels.{chosen, user_of, level_in}
 use Rattle.plan_model.specs.Loads.{is_loaded}
 use Rattle.image_map.specs.Images.{size_of}
 use Rattle.ctss_types.specs.declared.session.Waiting.{Waiting}
 use Rattle.plan_model.specs.Plan.{must_load}
 use Rattle.system_model.specs.Run.{Run, next, taken, otherwise, attended, by_due, due_of, measure}
-use Rattle.system_model.specs.Cases.{user_at, brought, waited, idled, served}
+use Rattle.system_model.specs.Cases.{user_at, brought, waited, idled, served, reply_for}
 use Rattle.system_model.specs.Joined.{joined, with_core, cut_user, stepped_to}
 use Rattle.system_model.specs.Sound.{Sound, IsUser, HasSeat}
 use Rattle.system_model.proofs.CaseLaws.{next_due, attended_loads, attended_steps, attended_waits, idles, preempts_none, begins, goes_on, preempts}
@@ -102,19 +102,20 @@ does_waited v old new had has window who loaded cannot is was words tells =
     same t u h = same_but v.user window had.words had.words (was t) (λ x p n. refl) u h
 
 -- a user's step, with its words in core before and after it
-pub does_stepped : (v : Service) (p : User) (t : Ending) (asked : Bool) (old new : Run) (had has : Memory) (window after : List ℕ) → IsUser v.user old
+pub does_stepped : (v : Service) (p : User) (t : Ending) (asked : Bool) (made : Option CommonOp) (r : Reply) (old new : Run) (had has : Memory) (window after : List ℕ) → IsUser v.user old
     → must_load old.system.plan v.user (blocks_of (user_at v.user old.system.users).inner) ≡ false
-    → IsStep t asked old.system.clock (user_at v.user old.system.users) p window after
-    → new ≡ stepped_to v p t asked old
+    → IsStep t asked made old.system.clock r (user_at v.user old.system.users) p window after
+    → r ≡ reply_for old made
+    → new ≡ stepped_to v p t asked made old
     → (had.tells ≡ true → had.words v.user ≡ window)
     → (had.tells ≡ true → has.words v.user ≡ core_after t (blocks_of p.inner) after)
     → ((u : ℕ) → 1 ≤ u → u ≢ v.user → has.words u ≡ had.words u) → has.tells ≡ had.tells → Does (attended v) old new had has
-does_stepped v p t asked old new had has window after who loaded says is was mine others tells =
+does_stepped v p t asked made r old new had has window after who loaded said answer is was mine others tells =
     record {
       before = f;
       after = with_core v.user core f;
       is = ap (joined (with_core v.user core f)) is
-          ∙ sym (stepped_joined f v core p t asked old who (says.left ∙ with_words (step old.system.clock)) (says.ends ∙ with_words (ending old.system.clock)) (says.asks ∙ with_words asks_clock))
+          ∙ sym (stepped_joined f v core p t asked made old who (says.left ∙ with_words (step old.system.clock reply)) (says.ends ∙ with_words (ending old.system.clock reply)) (says.asks ∙ with_words asks_clock) (says.makes ∙ with_words asks_common))
           ∙ sym (attended_steps v (joined f old) who.some (must_same f v.user old who ∙ loaded) (ap can_step (serves_joined f v.user old who) ∙ sym (with_words can_step) ∙ says.can));
       was = λ told u h. same_but v.user window had.words had.words (was told) (λ x k n. refl) u h;
       now = λ told u h. same_but v.user core f has.words (mine told) (λ x k n. others x k n ∙ sym (with_other v.user x window had.words n)) u h;
@@ -127,8 +128,27 @@ does_stepped v p t asked old new had has window after who loaded says is was min
     core : List ℕ
     core = core_after t (blocks_of p.inner) after
 
+    reply : Reply
+    reply = reply_for old made
+
+    says : IsStep t asked made old.system.clock reply (user_at v.user old.system.users) p window after
+    says = subst (λ (q : Reply). IsStep t asked made old.system.clock q (user_at v.user old.system.users) p window after) answer said
+
     with_words : {X : Type 0} (g : User → X) → g (in_core window (user_at v.user old.system.users)) ≡ g (in_core (f v.user) (user_at v.user old.system.users))
     with_words g = ap (λ (c : List ℕ). g (in_core c (user_at v.user old.system.users))) (sym (with_own v.user window had.words))
+
+-- behind a call that left the run as it was
+pub does_from : (f : Run → Run) (old mid new : Run) (had has at : Memory) → mid ≡ old → (had.tells ≡ true → (u : ℕ) → 1 ≤ u → at.words u ≡ had.words u) → at.tells ≡ had.tells
+    → Does f mid new at has → Does f old new had has
+does_from f old mid new had has at is words tells d =
+    record {
+      before = d.before;
+      after = d.after;
+      is = d.is ∙ ap (λ (r : Run). f (joined d.before r)) is;
+      was = λ t u h. d.was (tells ∙ t) u h ∙ words t u h;
+      now = λ t u h. d.now (tells ∙ t) u h;
+      tells = d.tells ∙ tells;
+    }
 
 -- who is served
 

@@ -38,7 +38,7 @@ module _ {S P F : Type 0} (m : Machine S) (w : World S P F) where
 
 pub next_grow : (limit : ℕ) (r : Run) (texts : List (List ℕ)) → TextsGrow texts (texts_next limit r texts)
 unfolding texts_next
-next_grow limit r texts = after_grow (machine user_rows) (round r.swap r.accounts) 1 r.system (next limit r).system texts
+next_grow limit r texts = after_grow (machine user_rows) (round r.swap r.common r.accounts) 1 r.system (next limit r).system texts
 
 -- behind a step
 pub step_grow : (limit : ℕ) (old new : Run) (had has : Memory) (x y : List (List ℕ)) → Does (next limit) old new had has → GoesOn limit old new x y → TextsGrow x y

@@ -9,3 +9,4 @@ pub mod Watching
 pub mod Growing
 pub mod Seats
 pub mod Passing
+pub mod Sharing

@@ -22,12 +22,12 @@ use Rattle.console_texts.specs.Watching.{transcripts_of, texts_to, AfterShown}
 use Rattle.console_texts.proofs.Watched.{shown_still, texts_on, shown_on}
 use Rattle.user_cores.specs.Memory.{Memory}
 use Rattle.supervisor.specs.Runs.{DoesMany}
-use Rattle.supervisor.specs.Steps.{IsTied, IsHeld, HasRunPart}
-use Rattle.supervisor.specs.Shows.{HasTextsPart, TextsGrow}
+use Rattle.supervisor.specs.Steps.{IsTied, IsHeld}
+use Rattle.supervisor.specs.Shows.{TextsGrow}
 use Rattle.supervisor.proofs.Growing.{grow_none, grow_trans, next_grow}
 use Rattle.supervisor.proofs.Doing.{same_but}
-use Rattle.supervisor.proofs.Running.{Leads}
-use Rattle.supervisor.proofs.Watching.{TextsLead, texts_same, told_joined, told_apart}
+use Rattle.supervisor.proofs.Running.{HasRunPart, Leads}
+use Rattle.supervisor.proofs.Watching.{HasTextsPart, TextsLead, texts_same, told_joined, told_apart}
 
 -- no step
 pub does_none_at_all : (limit : ℕ) (old new : Run) (had has : Memory) → new ≡ old → (had.tells ≡ true → (u : ℕ) → 1 ≤ u → has.words u ≡ had.words u) → has.tells ≡ had.tells → DoesMany limit old new had has

@@ -4,6 +4,7 @@ use Rattle.std.specs.Prelude.{Ok, Err}
 use Rattle.std.specs.declared.result.Result.{Result}
 use Rattle.ctss_types.specs.declared.fault.RunFault.{RunFault}
 use Rattle.ctss_types.specs.declared.fault.RunFault.TheVariants.{Drum, Disk, NoMemory}
+use Rattle.ctss_types.specs.declared.file.FileBody.{FileBody}
 use Rattle.time_sharing.specs.Machine.{Item}
 use Rattle.user_model.specs.User.{User}
 use Rattle.system_model.specs.Run.{Run, next, run_to, AfterSteps}
@@ -18,7 +19,7 @@ use Rattle.system_model.proofs.JoinedLaws.{joined_same, must_same, blocks_same}
 use Rattle.system_model.proofs.RunLaws.{run_to_next, run_to_done, after_next, after_none}
 use Rattle.user_cores.specs.Memory.{Memory}
 use Rattle.supervisor.specs.Counts.{IsCounted, calls_to_load}
-use Rattle.supervisor.specs.Steps.{Does, Stays, IsTied, IsHeld, LoadIsDue, NextLoadFails, HasRun, HasRunPart, HasRunToLoad, Ends, Lasts}
+use Rattle.supervisor.specs.Steps.{Does, Stays, with_files, IsTied, IsHeld, LoadIsDue, NextLoadFails, HasRun, HasRunShown, HasRunToLoad, Ends, Lasts}
 use Rattle.supervisor.proofs.Counting.{counted_to_load}
 use Rattle.supervisor.proofs.Doing.{does_sound}
 
@@ -26,6 +27,10 @@ use Rattle.supervisor.proofs.Doing.{does_sound}
 pub joined_next : (limit : ℕ) (old new : Run) (had has : Memory) → Does (next limit) old new had has → had.tells ≡ true → joined has.words new ≡ next limit (joined had.words old)
 joined_next limit old new had has d told =
     joined_same has.words d.after new (λ u h. sym (d.now told u h)) ∙ d.is ∙ ap (next limit) (joined_same d.before had.words old (d.was told))
+
+-- a part of the run, of the users joined with their words, where the drum tells them
+abbrev pub HasRunPart : ℕ → (old new : Run) → (had has : Memory) → Type 0
+HasRunPart limit old new had has = had.tells ≡ true → AfterSteps limit (joined had.words old) (joined has.words new)
 
 -- what is to come of a run is the same behind a step
 abbrev pub Leads : ℕ → (start now : Run) → (first has : Memory) → Type 0
@@ -51,13 +56,6 @@ run_done limit start now first has up leads = λ told. sym (run_to_done limit (j
 pub held_on : (limit : ℕ) (old new : Run) (had has : Memory) → old.system.clock < limit → IsHeld old had → IsTied new.system.users has → Does (next limit) old new had has → IsHeld new has
 held_on limit old new had has up held tied d = record { sound = does_sound limit old new had has up held.sound d; tied = tied }
 
-pub held_still : (old new : Run) (had has : Memory) → IsHeld old had → IsTied new.system.users has → Stays old new had has → IsHeld new has
-held_still old new had has held tied s = record { sound = subst Sound (sym s.run) held.sound; tied = tied }
-
-pub part_still : (limit : ℕ) (start old new : Run) (first had has : Memory) → had.tells ≡ first.tells → Stays old new had has → HasRunPart limit start old first had → HasRunPart limit start new first has
-part_still limit start old new first had has tells s part = λ told.
-    subst (AfterSteps limit (joined first.words start)) (sym (joined_same has.words had.words new (s.words (tells ∙ told)) ∙ ap (joined had.words) s.run)) (part told)
-
 pub transcripts_same : (k : ℕ) (f : ℕ → List ℕ) (ps : List User) → map (λ (p : User). p.transcript) ps ≡ map (λ (p : User). p.transcript) (with_cores k f ps)
 transcripts_same k f [] = refl
 transcripts_same k f (p ∷ ps) = ap (λ (ts : List (List Item)). p.transcript ∷ ts) (transcripts_same (suc k) f ps)
@@ -74,6 +72,20 @@ due_user r due sound = is_user (chosen r.system.plan.levels) refl
 calls_joined : (f : ℕ → List ℕ) (u : ℕ) (r : Run) → IsUser u r → calls_to_load u (joined f r) ≡ calls_to_load u r
 unfolding joined
 calls_joined f u r who = ap (λ (n : ℕ). count_below n (is_dumped r.system.plan.places u) + count_below n (is_read r.system.plan.places u)) (blocks_same f u r who)
+
+-- a part of a run is shown
+pub part_shown : (limit : ℕ) (start old new : Run) (first had : Memory) → HasRunPart limit start old first had
+    → new.system.entries ≡ old.system.entries → new.system.users ≡ old.system.users → new.system.clock ≡ old.system.clock → HasRunShown limit start new first
+unfolding joined
+part_shown limit start old new first had part entries users clock = λ told. (
+  joined had.words old,
+  part told,
+  record {
+    entries = entries;
+    transcripts = ap (λ (ps : List User). map (λ (p : User). p.transcript) ps) users ∙ transcripts_same 1 had.words old.system.users;
+    clock = clock;
+  },
+)
 
 -- a run that stopped at a load
 pub stops_at_load : (limit : ℕ) (start old new : Run) (first had : Memory) (was mid now : Option CallList) → HasRunPart limit start old first had → old.system.clock < limit → Sound old
@@ -127,3 +139,23 @@ sound_places places r sound =
   where
     same : Alike r (at_places places r)
     same = record { users = refl; accounts = refl; consoles = refl }
+
+-- nor at the common files
+pub sound_files : (files : List FileBody) (r : Run) → Sound r → Sound (with_files files r)
+sound_files files r sound =
+    record {
+      few = sound.few;
+      accounts = sound.accounts;
+      seats = seats_too r (with_files files r) r.system.events same sound.seats;
+      sits = λ k u h. user_too r (with_files files r) u same (sound.sits k u h);
+      served = λ v h. user_too r (with_files files r) v.user same (sound.served v h);
+      ran = sound.ran;
+      queued = λ u h. user_too r (with_files files r) u same (sound.queued u h);
+      owns = sound.owns;
+    }
+  where
+    same : Alike r (with_files files r)
+    same = record { users = refl; accounts = refl; consoles = refl }
+
+pub sound_still : (old new : Run) (had has : Memory) → Sound old → Stays old new had has → Sound new
+sound_still old new had has sound s = subst Sound (sym s.run) (sound_files new.system.files old sound)

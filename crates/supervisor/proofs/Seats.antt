@@ -105,7 +105,7 @@ module _ {S P F : Type 0} (m : Machine S) (w : World S P F) where
 
 pub next_seats : (limit : ℕ) (r : Run) → length (next limit r).system.consoles ≡ length r.system.consoles
 unfolding next
-next_seats limit r = next_keeps (machine user_rows) (round r.swap r.accounts) limit r.system.events r.system
+next_seats limit r = next_keeps (machine user_rows) (round r.swap r.common r.accounts) limit r.system.events r.system
 
 joined_seats : (f : ℕ → List ℕ) (r : Run) → length (joined f r).system.consoles ≡ length r.system.consoles
 unfolding joined

@@ -1,8 +1,8 @@
 -- Parts of what a step of the user that is served does.
-use Rattle.std.proofs.Common.{◌≡◌, ℕ, zero, ◌-◌, ◌*◌, Bool, List, [], ◌++◌, length, take, replicate, refl, sym, ◌∙◌, ap, arith}
+use Rattle.std.proofs.Common.{◌≡◌, ℕ, zero, ◌-◌, ◌*◌, Bool, List, [], ◌++◌, length, take, replicate, Option, refl, sym, ◌∙◌, ap, arith}
 use Rattle.std.proofs.lemmas.List.{append-nil}
 use Rattle.std.proofs.Math.Seq.{take-length}
-use Rattle.time_sharing.specs.Machine.{Ending, Went, Stopped, Resized, Replaced, LoggedOut}
+use Rattle.time_sharing.specs.Machine.{Ending, CommonOp, Reply, Went, Stopped, Resized, Replaced, LoggedOut}
 use Rattle.time_sharing.specs.System.{Service, Entry, Cause}
 use Rattle.image_map.specs.Images.{size_of}
 use Rattle.user_model.specs.Inner.{blocks_of, recut}
@@ -19,9 +19,9 @@ use Rattle.ctss_types.specs.declared.fault.RunFault.TheVariants.{Drum, Disk, NoM
 use Rattle.supervisor.specs.Steps.{IsResized, settled, Ends, Fails}
 
 -- a step that goes on leaves as many blocks
-pub went_size : (e : Ending) (asked : Bool) (t : ℕ) (old new : User) (before after : List ℕ) → IsStep e asked t old new before after → e ≡ Went → blocks_of new.inner ≡ blocks_of old.inner
-went_size e asked t old new before after says is =
-    ap (λ (p : User). blocks_of p.inner) says.left ∙ went_stays t (in_core before old) (sym says.ends ∙ is)
+pub went_size : (e : Ending) (asked : Bool) (made : Option CommonOp) (t : ℕ) (r : Reply) (old new : User) (before after : List ℕ) → IsStep e asked made t r old new before after → e ≡ Went → blocks_of new.inner ≡ blocks_of old.inner
+went_size e asked made t r old new before after says is =
+    ap (λ (p : User). blocks_of p.inner) says.left ∙ went_stays t r (in_core before old) (sym says.ends ∙ is)
 
 recut_whole : (n : ℕ) (core : List ℕ) → length core ≡ 256 * n → core ≡ recut n core
 recut_whole n core h =
@@ -72,9 +72,9 @@ pub waited_users : (v : Service) (r : Run) → (waited v r).system.users ≡ r.s
 unfolding waited
 waited_users v r = refl
 
-pub counted_users : (v : Service) (t : Ending) (asked : Bool) (r : Run) → (counted v t asked r).system.users ≡ r.system.users
+pub counted_users : (v : Service) (t : Ending) (asked : Bool) (notes : List Entry) (r : Run) → (counted v t asked notes r).system.users ≡ r.system.users
 unfolding counted
-counted_users v t asked r = refl
+counted_users v t asked notes r = refl
 
 pub moved_users : (u dumped read fresh : ℕ) (r : Run) → (moved u dumped read fresh r).system.users ≡ r.system.users
 unfolding moved

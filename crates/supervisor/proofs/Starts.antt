@@ -16,6 +16,7 @@ abbrev pub made : Script → Run
 made script =
     record {
       swap = script.params.swap;
+      common = script.params.common;
       accounts = script.accounts;
       system = record {
         users = users_from 1 script.accounts script.files;

@@ -15,7 +15,7 @@ use Rattle.console_texts.specs.Following.{AreShown, followed, settled_in}
 use Rattle.console_texts.specs.Watching.{transcripts_of, texts_next, texts_to, AfterShown, refused_by}
 use Rattle.console_texts.proofs.Watched.{shown_event, shown_rest, shown_served, texts_on, texts_done, shown_none, shown_on}
 use Rattle.user_cores.specs.Memory.{Memory}
-use Rattle.supervisor.specs.Shows.{GoesOn, HasTexts, HasTextsPart, HasTextsToLoad}
+use Rattle.supervisor.specs.Shows.{GoesOn, HasTexts, HasTextsShown}
 use Rattle.supervisor.specs.Steps.{Does, Stays}
 use Rattle.supervisor.proofs.Running.{joined_next, transcripts_same}
 
@@ -123,6 +123,10 @@ served_told limit old new had has rows quiet sound opened told d =
 
 -- whole runs
 
+-- the texts behind a part of the run; where the drum tells its records
+abbrev pub HasTextsPart : ℕ → (old new : Run) → (had has : Memory) → (told tells : List (List ℕ)) → Type 0
+HasTextsPart limit old new had has told tells = had.tells ≡ true → AfterShown limit (joined had.words old) (joined has.words new) told tells
+
 abbrev pub TextsLead : ℕ → (start now : Run) → (first has : Memory) → (told tells : List (List ℕ)) → Type 0
 TextsLead limit start now first has told tells = first.tells ≡ true → texts_to limit (joined has.words now) tells ≡ texts_to limit (joined first.words start) told
 
@@ -144,18 +148,12 @@ texts_part limit start old new first had has x y z tells up d goes part = λ tol
 pub texts_none : (limit : ℕ) (start : Run) (first : Memory) (x : List (List ℕ)) → HasTextsPart limit start start first first x x
 texts_none limit start first x = λ told. shown_none limit (joined first.words start) x
 
-pub texts_still : (limit : ℕ) (start old new : Run) (first had has : Memory) (x y z : List (List ℕ)) → had.tells ≡ first.tells → Stays old new had has → z ≡ y
-    → HasTextsPart limit start old first had x y → HasTextsPart limit start new first has x z
-texts_still limit start old new first had has x y z tells s same part = λ told.
-    subst (λ (q : Run). AfterShown limit (joined first.words start) q x z) (sym (joined_same has.words had.words new (s.words (tells ∙ told)) ∙ ap (joined had.words) s.run))
-    (subst (AfterShown limit (joined first.words start) (joined had.words old) x) (sym same) (part told))
-
 pub texts_end : (limit : ℕ) (start now : Run) (first has : Memory) (x y : List (List ℕ)) → limit ≤ now.system.clock → TextsLead limit start now first has x y → HasTexts limit start first x y
 unfolding joined
 texts_end limit start now first has x y up lead = λ told. sym (texts_done limit (joined has.words now) y up) ∙ lead told
 
 pub texts_stop : (limit : ℕ) (start old new : Run) (first had : Memory) (x y z : List (List ℕ)) → HasTextsPart limit start old first had x y → z ≡ y
-    → new.system.entries ≡ old.system.entries → new.system.users ≡ old.system.users → new.system.clock ≡ old.system.clock → HasTextsToLoad limit start new first x z
+    → new.system.entries ≡ old.system.entries → new.system.users ≡ old.system.users → new.system.clock ≡ old.system.clock → HasTextsShown limit start new first x z
 unfolding joined
 texts_stop limit start old new first had x y z part same entries users clock = λ told. (
   joined had.words old,

@@ -19,8 +19,10 @@ use Rattle.supervisor.specs.declared.state.State.{State}
 -- cut off
 pub record Bare : Type 0 where
   pub swap : ℕ
+  pub common : ℕ
   pub accounts : List Account
   pub users : List User
+  pub files : List FileBody
   pub levels : Levels
   pub consoles : List Console
   pub clock : ℕ
@@ -31,15 +33,16 @@ pub record Bare : Type 0 where
   pub texts : List (List ℕ)
   pub ended : Bool
 
--- the run with blocks in these places; there are no common files yet
+-- the run with blocks in these places
 abbrev pub run_with : Places → Bare → Run
 run_with places b =
     record {
       swap = b.swap;
+      common = b.common;
       accounts = b.accounts;
       system = record {
         users = b.users;
-        files = [];
+        files = b.files;
         plan = record { levels = b.levels; places = places };
         consoles = b.consoles;
         clock = b.clock;
@@ -54,8 +57,10 @@ abbrev pub bare_of : State → Bare
 bare_of s =
     record {
       swap = s.swap;
+      common = s.common.quota;
       accounts = s.accounts.list;
       users = s.sessions.items;
+      files = s.common.files;
       levels = s.queues;
       consoles = s.consoles.items;
       clock = s.clock;

@@ -27,16 +27,12 @@ IsTold consoles users rows = AreShown consoles (transcripts_of users) (rows_of r
 abbrev pub GoesOn : ℕ → (old new : Run) → (had has : List (List ℕ)) → Type 0
 GoesOn limit old new had has = (before after : ℕ → List ℕ) → joined after new ≡ next limit (joined before old) → has ≡ texts_next limit (joined before old) had
 
--- The texts behind the run to the limit, behind a part of it, and behind a part that ends before a load; where the drum tells
--- its records.
+-- The texts behind the run to the limit, and behind a part that is shown; where the drum tells its records.
 abbrev pub HasTexts : ℕ → (old : Run) → (had : Memory) → (told tells : List (List ℕ)) → Type 0
 HasTexts limit old had told tells = had.tells ≡ true → tells ≡ texts_to limit (joined had.words old) told
 
-abbrev pub HasTextsPart : ℕ → (old new : Run) → (had has : Memory) → (told tells : List (List ℕ)) → Type 0
-HasTextsPart limit old new had has told tells = had.tells ≡ true → AfterShown limit (joined had.words old) (joined has.words new) told tells
-
-abbrev pub HasTextsToLoad : ℕ → (old new : Run) → (had : Memory) → (told tells : List (List ℕ)) → Type 0
-HasTextsToLoad limit old new had told tells = had.tells ≡ true → (at : Run) × AfterShown limit (joined had.words old) at told tells × Shows at new
+abbrev pub HasTextsShown : ℕ → (old new : Run) → (had : Memory) → (told tells : List (List ℕ)) → Type 0
+HasTextsShown limit old new had told tells = had.tells ≡ true → (at : Run) × AfterShown limit (joined had.words old) at told tells × Shows at new
 
 -- nothing that a console has shown is taken back
 abbrev pub TextsGrow : (had has : List (List ℕ)) → Type 0

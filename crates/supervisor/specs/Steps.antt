@@ -2,6 +2,7 @@
 use Rattle.std.specs.Prelude.{◌≡◌, ◌≢◌, ℕ, suc, ◌≤◌, ◌<◌, true, false, List, [], length, map, Option, Some, None, Ok, Err}
 use Rattle.std.specs.declared.result.Result.{Result}
 use Rattle.ctss_types.specs.declared.fault.RunFault.{RunFault}
+use Rattle.ctss_types.specs.declared.file.FileBody.{FileBody}
 use Rattle.ctss_types.specs.declared.fault.RunFault.TheVariants.{Drum, Disk, NoMemory}
 use Rattle.time_sharing.specs.Machine.{Ending, Went, Stopped, Resized, Replaced, LoggedOut}
 use Rattle.time_sharing.specs.System.{Service}
@@ -31,9 +32,13 @@ pub record Does (f : Run → Run) (old new : Run) (had has : Memory) : Type 0 wh
   pub now : had.tells ≡ true → (u : ℕ) → 1 ≤ u → after u ≡ has.words u
   pub tells : has.tells ≡ had.tells
 
--- nothing happened
+-- a run with other common files
+abbrev pub with_files : List FileBody → Run → Run
+with_files files r = record r { system = record r.system { files = files } }
+
+-- nothing happened, but that an operation on the common files may have been made, whose step is not done
 pub record Stays (old new : Run) (had has : Memory) : Type 0 where
-  pub run : new ≡ old
+  pub run : new ≡ with_files new.system.files old
   pub words : had.tells ≡ true → (u : ℕ) → 1 ≤ u → has.words u ≡ had.words u
   pub tells : has.tells ≡ had.tells
 
@@ -105,12 +110,12 @@ pub record Shows (r s : Run) : Type 0 where
   pub transcripts : map (λ (p : User). p.transcript) s.system.users ≡ map (λ (p : User). p.transcript) r.system.users
   pub clock : s.system.clock ≡ r.system.clock
 
--- What happened is the run to the limit, or a part of it, of the users joined with their words, where the drum tells them.
+-- What happened is the run to the limit, of the users joined with their words, or a part of it is shown, where the drum tells them.
 abbrev pub HasRun : ℕ → (old new : Run) → (had has : Memory) → Type 0
 HasRun limit old new had has = had.tells ≡ true → joined has.words new ≡ run_to limit (joined had.words old)
 
-abbrev pub HasRunPart : ℕ → (old new : Run) → (had has : Memory) → Type 0
-HasRunPart limit old new had has = had.tells ≡ true → AfterSteps limit (joined had.words old) (joined has.words new)
+abbrev pub HasRunShown : ℕ → (old new : Run) → (had : Memory) → Type 0
+HasRunShown limit old new had = had.tells ≡ true → (at : Run) × AfterSteps limit (joined had.words old) at × Shows at new
 
 -- A part of the run, short of the limit and behind which a load is next, is shown. The drum's calls are those of the loads so far and, where it tells
 -- them, a beginning of that next load's, of which the last one failed.

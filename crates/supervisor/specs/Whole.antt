@@ -10,10 +10,10 @@ use Rattle.user_cores.specs.Swaps.{IsCutOff}
 use Rattle.supervisor.specs.Counts.{IsCounted, calls_to_load}
 use Rattle.supervisor.specs.Runs.{DoesMany}
 use Rattle.supervisor.specs.Seen.{Bare, bare_of, run_with}
-use Rattle.supervisor.specs.Shows.{texts_of, TextsGrow, GoesOn, HasTexts, HasTextsPart, HasTextsToLoad}
+use Rattle.supervisor.specs.Shows.{texts_of, TextsGrow, GoesOn, HasTexts, HasTextsShown}
 use Rattle.supervisor.specs.declared.state.State.{State}
 use Rattle.supervisor.specs.declared.watch.Watch.{Watch}
-use Rattle.supervisor.specs.Steps.{Does, Stays, IsHeld, IsTied, LoadFails, NextLoadFails, HasRun, HasRunPart, HasRunToLoad, Ends, Lasts}
+use Rattle.supervisor.specs.Steps.{Does, Stays, IsHeld, IsTied, LoadFails, NextLoadFails, HasRun, HasRunShown, HasRunToLoad, Ends, Lasts}
 
 -- a run but for its cores, and these
 pub record Whole : Type 0 where
@@ -80,7 +80,7 @@ ServedIsCut old new = LoadFails (run_of old) old.cores.calls new.cores.calls
 abbrev pub NextIsCut : Whole → Whole → Type 0
 NextIsCut old new = NextLoadFails (run_of old) old.cores.calls new.cores.calls
 
--- One step: what this function does; nothing, where memory lacks; and where the drum fails no part of the run but what lies in
+-- One step: what this function does; nothing but an operation on the common files, where memory lacks; and where the drum fails no part of the run but what lies in
 -- core has changed, the count of the drum's faults rose, and a load was cut off so.
 abbrev pub Steps : (Run → Run) → (Whole → Whole → Type 0) → Result Unit RunFault → Whole → Whole → Type 0
 Steps f Cut result old new =
@@ -93,19 +93,19 @@ TextsFollow limit result old new =
     Ends result (GoesOn limit (run_of old) (run_of new) old.bare.texts new.bare.texts)
     (new.bare.texts ≡ old.bare.texts) (new.bare.texts ≡ old.bare.texts)
 
--- Whole steps: all up to the limit; some, where memory lacks; and where the drum fails those before a load.
+-- Whole steps: all up to the limit; some that are shown, where memory lacks; and where the drum fails those before a load.
 abbrev pub RunsTo : ℕ → Result Unit RunFault → Whole → Whole → Type 0
 RunsTo limit result old new =
     Ends result (HasRun limit (run_of old) (run_of new) old.cores.memory new.cores.memory)
-    (HasRunPart limit (run_of old) (run_of new) old.cores.memory new.cores.memory)
+    (HasRunShown limit (run_of old) (run_apart new) old.cores.memory)
     (HasRunToLoad limit (run_of old) (run_apart new) old.cores.memory old.cores.calls new.cores.calls × Rose old.cores.faults new.cores.faults)
 
 -- What the consoles show behind them.
 abbrev pub TextsRunTo : ℕ → Result Unit RunFault → Whole → Whole → Type 0
 TextsRunTo limit result old new =
     Ends result (HasTexts limit (run_of old) old.cores.memory old.bare.texts new.bare.texts)
-    (HasTextsPart limit (run_of old) (run_of new) old.cores.memory new.cores.memory old.bare.texts new.bare.texts)
-    (HasTextsToLoad limit (run_of old) (run_apart new) old.cores.memory old.bare.texts new.bare.texts)
+    (HasTextsShown limit (run_of old) (run_apart new) old.cores.memory old.bare.texts new.bare.texts)
+    (HasTextsShown limit (run_of old) (run_apart new) old.cores.memory old.bare.texts new.bare.texts)
 
 -- The run of a supervisor to a limit: whole steps with what the consoles show of them, of which nothing is taken back, the drum's
 -- calls as the loads say, and that a fault ended it. There are as many consoles as before. Unless the drum failed it tells its

@@ -1,12 +1,12 @@
 //! Whom the queues serve, and how a service ends.
-ghost use Rattle.std.specs.Prelude.{◌≡◌, ◌<◌, ◌≤◌, ◌+◌, ◌-◌, length, vec_len, vec_capacity};
+ghost use Rattle.std.specs.Prelude.{◌≡◌, ◌<◌, ◌≤◌, ◌+◌, ◌-◌, length, vec_len, vec_capacity, option_to_list};
 ghost use Rattle.system_model.specs.Cases.{idled, served, waited};
 ghost use Rattle.system_model.specs.Joined.{counted, moved};
 ghost use Rattle.system_model.specs.Runs.{elapsed};
 ghost use Rattle.supervisor.specs.Seen.{left_queues, Becomes, BecomesIf, StaysIf};
 
 use crate::notes::{
-    cause_of, idle_from, leave_consoles, note, note_clock, note_service, service_after,
+    cause_of, idle_from, leave_consoles, note, note_clock, note_service, note_some, service_after,
 };
 use crate::state::State;
 use ctss_types::{Cause, Ending, Entry, NoMemory, Service, UserNo};
@@ -91,16 +91,17 @@ impl State {
         self.clock += u64::from(self.swap) * moved;
     }
 
-    /// The clock, the queues and the service behind a step of the user that is served.
+    /// The clock, the queues and the service behind a step of the user that is served, with the entry of its common operation,
+    /// if it made one.
     #[tactic(auto, unfolding(system_model::specs::Joined::counted))]
-    pub(crate) fn count_step(&mut self, v: Service, step: Step)
-        requires room { vec_len self.old.entries + 2 ≤ vec_capacity self.old.entries }
+    pub(crate) fn count_step(&mut self, v: Service, step: Step, common: Option<Entry>)
+        requires room { vec_len self.old.entries + 3 ≤ vec_capacity self.old.entries }
         requires some { 0 < v.user }
         requires within { v.user ≤ length self.old.sessions.items }
         requires few { length self.old.sessions.items ≤ 30 }
         requires ran { v.ran ≤ self.old.clock }
         requires before { self.old.clock ≤ 100000000 }
-        ensures { Becomes (counted v step.ending step.clock) self.old self.new }
+        ensures { Becomes (counted v step.ending step.clock (option_to_list common)) self.old self.new }
     {
         let session = &self.sessions[v.user as usize - 1];
         let unread = session.has_line();
@@ -115,6 +116,7 @@ impl State {
             leave_consoles(&mut self.consoles, v.user);
         }
         note_clock(&mut self.entries, step.clock, self.clock, v.user);
+        note_some(&mut self.entries, common);
         note_service(&mut self.entries, v, cause);
         self.clock += 1;
         self.service = service_after(v, cause);

@@ -11,6 +11,7 @@ ghost use Rattle.supervisor.specs.Seen.{AreFit, seen};
 use crate::state::State;
 use accounts::Accounts;
 use ctss_types::{Account, Console, FileBody, NoMemory, OwnedFile, Script};
+use file_map::Files;
 use level_queues::Queues;
 use std::alloc::Global;
 use std::collections::VecDeque;
@@ -99,6 +100,7 @@ pub(crate) fn first_state(alloc: Global, script: &Script) -> Result<State, NoMem
     Ok(State {
         swap: script.params.swap as u32,
         accounts: Accounts::new(alloc, accounts)?,
+        common: Files::new(alloc, script.params.common),
         sessions: sessions_of(alloc, accounts, files)?,
         queues: Queues::new(script.params.wq, script.params.quantum),
         consoles: consoles_of(alloc)?,

@@ -11,6 +11,7 @@ use crate::notes::{end_note, idle_note, note_some};
 use accounts::Accounts;
 use console_texts::Transcripts;
 use ctss_types::{Console, Entry, Event, Item, NoMemory, Service, Timed};
+use file_map::Files;
 use level_queues::Queues;
 use std::collections::VecDeque;
 use user_session::Session;
@@ -21,6 +22,8 @@ pub(crate) struct State {
     /// Ticks for a block that goes to the drum or comes from it.
     pub(crate) swap: u32,
     pub(crate) accounts: Accounts,
+    /// The common files.
+    pub(crate) common: Files,
     pub(crate) sessions: Vec<Session>,
     pub(crate) queues: Queues,
     pub(crate) consoles: Vec<Console>,

@@ -112,11 +112,12 @@ impl Supervisor {
         let mut state = watch.state;
         state.close()?;
         let (transcripts, files) = parts_of(alloc, state.sessions)?;
+        let common = state.common.into_list()?;
         Ok(Record {
             entries: Sequence::from_vec(state.entries),
             transcripts: Sequence::from_vec(transcripts),
             files: Sequence::from_vec(files),
-            common: Sequence::new(alloc),
+            common,
             clock: state.clock,
         })
     }

@@ -1,12 +1,14 @@
 //! Steps of the state together with users' cores, one after another.
-ghost use Rattle.std.specs.Prelude.{◌≡◌, ◌<◌, ◌≤◌, ◌+◌, ◌-◌, length, true, false, Some, None, OnOk, OnErr};
+ghost use Rattle.std.specs.Prelude.{◌≡◌, ◌<◌, ◌≤◌, ◌+◌, ◌-◌, length, true, false, Some, None, IfOk, OnOk, OnErr, vec_len, vec_capacity};
 ghost use Rattle.std.specs.Option.{is_some};
 ghost use Rattle.drum_slots.specs.Keys.{quota_of};
+ghost use Rattle.file_model.specs.Commons.{reply_to, files_after, ReplyFits};
+ghost use Rattle.user_model.specs.User.{can_step, asks_common, in_core};
 ghost use Rattle.image_map.specs.Images.{size_of};
 ghost use Rattle.plan_model.specs.Levels.{chosen, user_of};
 ghost use Rattle.plan_model.specs.Loads.{is_loaded};
 ghost use Rattle.system_model.specs.Run.{next, taken, otherwise, attended, due_of};
-ghost use Rattle.system_model.specs.Cases.{served, idled};
+ghost use Rattle.system_model.specs.Cases.{served, idled, user_at};
 ghost use Rattle.system_model.specs.Sound.{HasSeat, IsUser};
 ghost use Rattle.time_sharing.specs.Machine.{Went};
 ghost use Rattle.time_sharing.specs.System.{Preempt, next_tick};
@@ -15,7 +17,11 @@ ghost use Rattle.supervisor.specs.Steps.{IsLeft, IsSettled, Lasts};
 ghost use Rattle.supervisor.specs.Whole.{whole, run_of, Holds, HasBlocks, StepsBy, IsSame, StepsOn, Agrees, AreCounted, AreCountedBy, LoadIsCut, AbsentIsCut, ServedIsCut, NextIsCut, Steps};
 
 use crate::state::State;
-use ctss_types::{Cause, Ending, NoMemory, RunFault, Service, Timed, UserNo};
+use common_file::apply;
+use ctss_types::{
+    Cause, CommonOp, Ending, Entry, NoMemory, Reply, RunFault, Service, Timed, UserNo,
+};
+use file_map::{Files, PortFault};
 use level_queues::Chosen;
 use user_cores::Cores;
 use user_session::Turn;
@@ -51,6 +57,23 @@ fn settle<C: Cores>(cores: &mut C, user: UserNo, ending: Ending, blocks: u8)
         Ending::Went => {}
         Ending::Replaced => cores.replace(user, blocks),
         Ending::Stopped | Ending::Resized | Ending::LoggedOut => cores.resize(user, blocks),
+    }
+}
+
+/// What the common files reply to an operation, which is done.
+fn reply_of(op: &CommonOp, files: &mut Files) -> Result<Reply, NoMemory>
+    ensures done { OnOk result (files.new ≡ record files.old {
+      files = files_after files.old.quota files.old.files
+          op.now;
+    }) }
+    ensures reply { IfOk result (λ r. r ≡ reply_to files.old.quota files.old.files op.now) }
+    ensures fits { IfOk result ReplyFits }
+    ensures err { OnErr result (files.new ≡ files.old) }
+{
+    match apply(op, files) {
+        Ok(reply) => Ok(reply),
+        Err(PortFault::NoMemory) => Err(NoMemory),
+        Err(PortFault::Disk | PortFault::Refused(_)) => unreachable!(),
     }
 }
 
@@ -103,6 +126,44 @@ impl State {
         }
     }
 
+    /// A step of the user that is served, whose blocks are in core, makes its operation on the common files and goes on with
+    /// the reply.
+    fn share<C: Cores>(&mut self, cores: &mut C, v: Service, op: CommonOp) -> Result<(), NoMemory>
+        requires works { C.Works cores.old }
+        requires held { Holds (whole self.old (C.state cores.old)) }
+        requires user { IsUser v.user (run_of (whole self.old (C.state cores.old))) }
+        requires loaded { HasBlocks v.user true (whole self.old (C.state cores.old)) }
+        requires can { can_step (in_core ((C.state cores.old).window v.user) (user_at v.user
+            self.old.sessions.items)) ≡ true }
+        requires makes { asks_common (in_core ((C.state cores.old).window v.user) (user_at v.user self.old.sessions.items))
+            ≡ Some op }
+        requires room { vec_len self.old.entries + 3 ≤ vec_capacity self.old.entries }
+        requires ran { v.ran ≤ self.old.clock }
+        requires before { self.old.clock ≤ 100000000 }
+        ensures ok { OnOk result (StepsBy (attended v)
+            (whole self.old (C.state cores.old)) (whole self.new (C.state cores.new))) }
+        ensures err { OnErr result (IsSame (whole self.old (C.state cores.old)) (whole self.new (C.state cores.new))) }
+        ensures counted { AreCounted (whole self.old (C.state cores.old)) (whole self.new (C.state cores.new)) }
+        ensures tied { Agrees (whole self.new (C.state cores.new)) }
+        ensures works { C.Works cores.new }
+        ensures keeps { C.Keeps cores.old cores.new }
+        ensures faults { (C.state cores.new).faults ≡ (C.state cores.old).faults }
+    {
+        let user = UserNo::of(v.user);
+        let reply = reply_of(&op, &mut self.common)?;
+        let session = &mut self.sessions[v.user as usize - 1];
+        let step = cores.take_reply(user, session, &reply, self.clock)?;
+        let blocks = session.blocks();
+        settle(cores, user, step.ending, blocks);
+        let entry = Entry::Common {
+            user: v.user,
+            op,
+            reply,
+        };
+        self.count_step(v, step, Some(entry));
+        Ok(())
+    }
+
     /// A step of the user that is served, whose blocks are in core; where it can't step, it waits.
     fn serve<C: Cores>(&mut self, cores: &mut C, v: Service) -> Result<(), NoMemory>
         requires works { C.Works cores.old }
@@ -120,18 +181,22 @@ impl State {
         ensures keeps { C.Keeps cores.old cores.new }
         ensures faults { (C.state cores.new).faults ≡ (C.state cores.old).faults }
     {
-        self.entries.reserve(2)?;
+        self.entries.reserve(3)?;
         let user = UserNo::of(v.user);
         let session = &mut self.sessions[v.user as usize - 1];
         match cores.turn(user, session, self.clock)? {
-            Turn::Waits => self.count_wait(v),
+            Turn::Waits => {
+                self.count_wait(v);
+                Ok(())
+            }
             Turn::Done(step) => {
                 let blocks = session.blocks();
                 settle(cores, user, step.ending, blocks);
-                self.count_step(v, step);
+                self.count_step(v, step, None);
+                Ok(())
             }
+            Turn::Asks(op) => self.share(cores, v, op),
         }
-        Ok(())
     }
 
     /// The user that is served: its blocks are brought in, or it steps.

@@ -6,13 +6,13 @@ use Rattle.time_sharing.specs.Rows.{machine}
 use Rattle.time_sharing.specs.System as theory
 use Rattle.time_sharing.specs.System.{SystemState, Timed, Service, Console, Off, On, Password, Session, Entry, Taken, Login, Refused, Idle, Swap, Serve, EventKind, Event, Dials, Types, Quits, Hangs, LineTaken, DialTaken, kind_of, QuitTaken, HangTaken, Cause, Stop, Wait, Preempt, AtEnd, at, put, max_lines, without}
 use Rattle.user_model.specs.Session.{user_rows, nobody}
-use Rattle.user_model.specs.User.{User, typed, opened, cut, can_step, step, ending, asks_clock}
+use Rattle.user_model.specs.User.{User, typed, opened, cut, can_step, step, ending, asks_clock, asks_common}
 use Rattle.plan_model.specs.Levels.{Levels, chosen, user_of, level_in, has_time, charged, dropped, woken}
 use Rattle.plan_model.specs.Plan.{Plan, must_load, places_cut, places_after}
 use Rattle.user_model.specs.Inner.{blocks_of}
 use Rattle.system_model.specs.Round.{round, leaves, line_blocks, asked, check}
 use Rattle.system_model.specs.Run.{Run, State, next, taken, at_console, awake, otherwise, attended, by_due, due_of, ended}
-use Rattle.system_model.specs.Cases.{brought, levels_after, heard, line_taken, quit_taken, hang_taken, spent_taken, cut_taken, login_taken, dial_taken, idled, served, stepped, stepped_by, waited, user_at, with_user, closed, end_notes, idle_start, idle_notes, stop_notes, not_served}
+use Rattle.system_model.specs.Cases.{brought, reply_for, levels_after, heard, line_taken, quit_taken, hang_taken, spent_taken, cut_taken, login_taken, dial_taken, idled, served, stepped, stepped_by, waited, user_at, with_user, closed, end_notes, idle_start, idle_notes, stop_notes, not_served}
 
 pub at_user : {X : Type 0} (d : X) (xs : List X) (u : ℕ) → 0 < u → at d xs u ≡ get_or xs (u - 1) d
 at_user d xs zero h = absurd (omega arith)
@@ -27,11 +27,11 @@ unfolding next taken otherwise
 next_due limit r = by_events r.system.events refl
   where
     by_test : (e : Timed) (rest : List Timed) → r.system.events ≡ e ∷ rest → (b : Bool)
-        → record r { system = cond b (theory.taken (machine user_rows) (round r.swap r.accounts) e rest r.system) (theory.otherwise (machine user_rows) (round r.swap r.accounts) limit (user_of (chosen r.system.plan.levels)) r.system.service r.system) } ≡ by_due limit (cond b (Some e) None) r
-    by_test e rest is true = ap (λ (es : List Timed). record r { system = theory.taken (machine user_rows) (round r.swap r.accounts) e (drop 1 es) r.system }) (sym is)
+        → record r { system = cond b (theory.taken (machine user_rows) (round r.swap r.common r.accounts) e rest r.system) (theory.otherwise (machine user_rows) (round r.swap r.common r.accounts) limit (user_of (chosen r.system.plan.levels)) r.system.service r.system) } ≡ by_due limit (cond b (Some e) None) r
+    by_test e rest is true = ap (λ (es : List Timed). record r { system = theory.taken (machine user_rows) (round r.swap r.common r.accounts) e (drop 1 es) r.system }) (sym is)
     by_test e rest is false = refl
 
-    by_events : (es : List Timed) → r.system.events ≡ es → record r { system = theory.next_by (machine user_rows) (round r.swap r.accounts) limit es r.system } ≡ by_due limit (due_of es r.system.clock) r
+    by_events : (es : List Timed) → r.system.events ≡ es → record r { system = theory.next_by (machine user_rows) (round r.swap r.common r.accounts) limit es r.system } ≡ by_due limit (due_of es r.system.clock) r
     by_events [] is = refl
     by_events (e ∷ rest) is = by_test e rest is (nat_le e.tick r.system.clock)
 
@@ -39,7 +39,7 @@ abbrev M : Rattle.time_sharing.specs.Machine.Machine User
 M = machine user_rows
 
 abbrev W : Run → theory.World User Plan (List FileBody)
-W r = round r.swap r.accounts
+W r = round r.swap r.common r.accounts
 
 -- an event that no session hears
 heard_is : (c : ℕ) (kind : EventKind) (now : Console) (more : ℕ → List Entry) (r : Run) → 0 < c
@@ -251,7 +251,7 @@ attended_in_core v r h loaded =
     ∙ ap (λ (b : Bool). record r { system = cond b (theory.swapped M (W r) v.user r.system) (cond (M.can_step (user_at v.user r.system.users)) (theory.goes M (W r) v (user_at v.user r.system.users) r.system) (theory.waits M (W r) v (user_at v.user r.system.users) r.system)) }) loaded
 
 pub attended_steps : (v : Service) (r : Run) → 0 < v.user → must_load r.system.plan v.user (blocks_of (user_at v.user r.system.users).inner) ≡ false → can_step (user_at v.user r.system.users) ≡ true → attended v r ≡ stepped v r
-unfolding stepped can_step step ending asks_clock
+unfolding stepped can_step step ending asks_clock asks_common
 attended_steps v r h loaded can =
     attended_in_core v r h loaded
     ∙ ap (λ (b : Bool). record r { system = cond b (theory.goes M (W r) v (user_at v.user r.system.users) r.system) (theory.waits M (W r) v (user_at v.user r.system.users) r.system) }) can
@@ -270,8 +270,8 @@ attended_steps v r h loaded can =
     goes_is : record r { system = theory.goes M (W r) v (user_at v.user r.system.users) r.system } ≡ stepped v r
     goes_is = λ j. record r {
       system = record (theory.goes M (W r) v (user_at v.user r.system.users) r.system) {
-        users = put_user r.system.users v.user (step r.system.clock (user_at v.user r.system.users)) h j;
-        plan = planned (theory.cause_of (ending r.system.clock p) (has_time r.system.plan.levels)) (step r.system.clock p) (ending r.system.clock p) j;
+        users = put_user r.system.users v.user (step r.system.clock (reply_for r (asks_common p)) p) h j;
+        plan = planned (theory.cause_of (ending r.system.clock (reply_for r (asks_common p)) p) (has_time r.system.plan.levels)) (step r.system.clock (reply_for r (asks_common p)) p) (ending r.system.clock (reply_for r (asks_common p)) p) j;
       };
     }
 

@@ -2,11 +2,11 @@
 use Rattle.std.proofs.Common.{◌≡◌, ◌≢◌, ℕ, zero, suc, ◌+◌, ◌-◌, ◌*◌, ◌<◌, ◌≤◌, Bool, true, false, cond, not, nat_eq, nat_le, nat_lt, eq-eqb, ne_eqb, List, [], ◌∷◌, ◌++◌, Option, Some, None, length, drop, set, get_or, refl, sym, ◌∙◌, ap, subst, arith, ◌⊎◌, inl, inr, lt-ltb, le-ltb}
 use Rattle.std.proofs.lemmas.Bool.Decides.{nat_tests}
 use Rattle.std.proofs.lemmas.List.{get_or-set_same}
-use Rattle.time_sharing.specs.Machine.{Line, CutKind, Quit, Hang, Spent, Ending, Went, Stopped, Resized, Replaced, LoggedOut}
-use Rattle.time_sharing.specs.System.{Timed, Service, Console, Off, On, Password, Session, Entry, Taken, Login, Swap, Refused, kind_of, without, EventKind, at, Event, Dials, Types, Quits, Hangs, LineTaken, DialTaken, QuitTaken, HangTaken, Cause, Time, Wait, Stop, Size, Preempt, AtEnd, max_lines, cause_of, service_after, service_entry, clock_entry, consoles_after}
+use Rattle.time_sharing.specs.Machine.{Line, CutKind, Quit, Hang, Spent, Ending, Went, Stopped, Resized, Replaced, LoggedOut, CommonOp}
+use Rattle.time_sharing.specs.System.{Timed, Service, Console, Off, On, Password, Session, Entry, Taken, Login, Swap, Refused, kind_of, without, EventKind, at, Event, Dials, Types, Quits, Hangs, LineTaken, DialTaken, QuitTaken, HangTaken, Cause, Time, Wait, Stop, Size, Preempt, AtEnd, max_lines, cause_of, service_after, service_entry, clock_entry, common_entry, consoles_after}
 use Rattle.user_model.specs.Session.{user_rows, nobody}
 use Rattle.user_model.specs.Inner.{blocks_of}
-use Rattle.user_model.specs.User.{User, typed, opened, cut, can_step, step, ending, asks_clock, in_core}
+use Rattle.user_model.specs.User.{User, typed, opened, cut, can_step, step, ending, asks_clock, asks_common, in_core}
 use Rattle.plan_model.specs.Levels.{Levels, charged, dropped, woken, has_time, chosen, user_of}
 use Rattle.plan_model.specs.Loads.{loaded, count_below, is_dumped, is_read, is_fresh}
 use Rattle.plan_model.specs.Plan.{must_load, with_load, move_of, places_after, places_cut}
@@ -18,7 +18,7 @@ use Rattle.ctss_types.specs.declared.file.FileBody.{FileBody}
 use Rattle.plan_model.specs.Plan.{Plan}
 use Rattle.time_sharing.specs.Record as whole
 use Rattle.system_model.specs.Run.{Run, taken, at_console, attended, measure}
-use Rattle.system_model.specs.Cases.{brought, levels_after, heard, line_taken, quit_taken, hang_taken, spent_taken, login_taken, dial_taken, idled, served, stepped, stepped_by, waited, idle_notes, stop_notes, not_served, cut_taken, user_at, with_user}
+use Rattle.system_model.specs.Cases.{brought, reply_for, commons_for, levels_after, heard, line_taken, quit_taken, hang_taken, spent_taken, login_taken, dial_taken, idled, served, stepped, stepped_by, waited, idle_notes, stop_notes, not_served, cut_taken, user_at, with_user}
 use Rattle.system_model.specs.Joined.{with_cores, joined, with_core, cut_user, stepped_to, counted, moved, at_places}
 use Rattle.system_model.specs.Sound.{Sound, IsUser, HasSeat}
 use Rattle.system_model.proofs.SoundLaws.{Alike, user_too, seats_too, checked_is_user}
@@ -28,7 +28,7 @@ abbrev M : Machine User
 M = machine user_rows
 
 abbrev W : Run → World User Plan (List FileBody)
-W r = round r.swap r.accounts
+W r = round r.swap r.common r.accounts
 
 -- lists of users with their words
 
@@ -274,39 +274,45 @@ brought_joined f u r who = ap loads (blocks_same f u r who)
         }
 
 -- a step of a user, from what it leaves
-pub stepped_joined : (f : ℕ → List ℕ) (v : Service) (core : List ℕ) (p : User) (t : Ending) (asked : Bool) (r : Run) → IsUser v.user r →
-    in_core core p ≡ step r.system.clock (in_core (f v.user) (user_at v.user r.system.users)) →
-    t ≡ ending r.system.clock (in_core (f v.user) (user_at v.user r.system.users)) →
+pub stepped_joined : (f : ℕ → List ℕ) (v : Service) (core : List ℕ) (p : User) (t : Ending) (asked : Bool) (made : Option CommonOp) (r : Run) → IsUser v.user r →
+    in_core core p ≡ step r.system.clock (reply_for r made) (in_core (f v.user) (user_at v.user r.system.users)) →
+    t ≡ ending r.system.clock (reply_for r made) (in_core (f v.user) (user_at v.user r.system.users)) →
     asked ≡ asks_clock (in_core (f v.user) (user_at v.user r.system.users)) →
-    stepped v (joined f r) ≡ joined (with_core v.user core f) (stepped_to v p t asked r)
+    made ≡ asks_common (in_core (f v.user) (user_at v.user r.system.users)) →
+    stepped v (joined f r) ≡ joined (with_core v.user core f) (stepped_to v p t asked made r)
 unfolding stepped stepped_to joined
-stepped_joined f v core p t asked r who leaves_it ends asks =
+stepped_joined f v core p t asked made r who leaves_it ends asks makes =
     ap from_user (user_joined f r.system.users v.user who.some who.within)
-    ∙ (λ j. to (sym leaves_it j) (sym ends j) (sym asks j))
+    ∙ ap (λ (o : Option CommonOp). made_to o (in_core (f v.user) (user_at v.user r.system.users))) (sym makes)
+    ∙ (λ j. to made (sym leaves_it j) (sym ends j) (sym asks j))
     ∙ same_levels (cause_of t (has_time r.system.plan.levels))
     ∙ ap users_too (sym (set_joined f r.system.users v.user core p who.some))
   where
     -- with a cause
-    to_by : Option Cause → List User → Levels → ℕ → Ending → Bool → Run
-    to_by cause us levels blocks t asked =
+    to_by : Option CommonOp → Option Cause → List User → Levels → ℕ → Ending → Bool → Run
+    to_by made cause us levels blocks t asked =
         record r {
           system = record r.system {
             users = us;
+            files = commons_for r made;
             plan = record { levels = levels; places = places_after t v.user blocks r.system.plan.places };
             consoles = consoles_after t v.user r.system.consoles;
             clock = suc r.system.clock;
             service = service_after v cause;
-            entries = r.system.entries ++ (clock_entry asked r.system.clock v.user ++ service_entry v cause);
+            entries = r.system.entries ++ (clock_entry asked r.system.clock v.user ++ (common_entry made v.user (reply_for r made) ++ service_entry v cause));
           };
         }
 
-    to : User → Ending → Bool → Run
-    to q t asked =
+    to : Option CommonOp → User → Ending → Bool → Run
+    to made q t asked =
         let cause = cause_of t (has_time r.system.plan.levels) in
-        to_by cause (with_user v.user q (with_cores 1 f r.system.users)) (levels_after cause v.user q (charged v.user r.system.plan.levels)) (blocks_of q.inner) t asked
+        to_by made cause (with_user v.user q (with_cores 1 f r.system.users)) (levels_after cause v.user q (charged v.user r.system.plan.levels)) (blocks_of q.inner) t asked
+
+    made_to : Option CommonOp → User → Run
+    made_to o q = to o (step r.system.clock (reply_for r o) q) (ending r.system.clock (reply_for r o) q) (asks_clock q)
 
     from_user : User → Run
-    from_user q = to (step r.system.clock q) (ending r.system.clock q) (asks_clock q)
+    from_user q = made_to (asks_common q) q
 
     -- the queues don't look at the words
     levels_same : (o : Option Cause) (q : Levels) → levels_after o v.user (in_core core p) q ≡ levels_after o v.user p q
@@ -319,14 +325,14 @@ stepped_joined f v core p t asked r who leaves_it ends asks =
     levels_same (Some AtEnd) q = refl
 
     same_levels : (o : Option Cause) →
-        to_by o (with_user v.user (in_core core p) (with_cores 1 f r.system.users)) (levels_after o v.user (in_core core p) (charged v.user r.system.plan.levels)) (blocks_of p.inner) t asked
-        ≡ to_by o (with_user v.user (in_core core p) (with_cores 1 f r.system.users)) (levels_after o v.user p (charged v.user r.system.plan.levels)) (blocks_of p.inner) t asked
-    same_levels o = ap (λ (q : Levels). to_by o (with_user v.user (in_core core p) (with_cores 1 f r.system.users)) q (blocks_of p.inner) t asked) (levels_same o (charged v.user r.system.plan.levels))
+        to_by made o (with_user v.user (in_core core p) (with_cores 1 f r.system.users)) (levels_after o v.user (in_core core p) (charged v.user r.system.plan.levels)) (blocks_of p.inner) t asked
+        ≡ to_by made o (with_user v.user (in_core core p) (with_cores 1 f r.system.users)) (levels_after o v.user p (charged v.user r.system.plan.levels)) (blocks_of p.inner) t asked
+    same_levels o = ap (λ (q : Levels). to_by made o (with_user v.user (in_core core p) (with_cores 1 f r.system.users)) q (blocks_of p.inner) t asked) (levels_same o (charged v.user r.system.plan.levels))
 
     users_too : List User → Run
     users_too us =
         let cause = cause_of t (has_time r.system.plan.levels) in
-        to_by cause us (levels_after cause v.user p (charged v.user r.system.plan.levels)) (blocks_of p.inner) t asked
+        to_by made cause us (levels_after cause v.user p (charged v.user r.system.plan.levels)) (blocks_of p.inner) t asked
 
 -- events
 
@@ -520,10 +526,11 @@ measure_joined limit f r =
     by_choice (Some u) = ap (λ (n : ℕ). whole.as_number M (W r) (must_load r.system.plan u n)) (at_blocks f r.system.users u)
 
 -- a step's own changes, and then the places of its blocks
-pub stepped_is : (v : Service) (p : User) (t : Ending) (asked : Bool) (r : Run) → IsUser v.user r →
-    at_places (places_after t v.user (blocks_of p.inner) r.system.plan.places) (counted v t asked (record r { system = record r.system { users = with_user v.user p r.system.users } })) ≡ stepped_to v p t asked r
+pub stepped_is : (v : Service) (p : User) (t : Ending) (asked : Bool) (made : Option CommonOp) (r : Run) → IsUser v.user r →
+    at_places (places_after t v.user (blocks_of p.inner) r.system.plan.places)
+    (counted v t asked (common_entry made v.user (reply_for r made)) (record r { system = record r.system { users = with_user v.user p r.system.users; files = commons_for r made } })) ≡ stepped_to v p t asked made r
 unfolding counted stepped_to
-stepped_is v p t asked r who =
+stepped_is v p t asked made r who =
     ap from_user (get_or-set_same r.system.users (v.user - 1) p nobody (let a = who.some in let b = who.within in omega (arith, a, b)))
   where
     from_user : User → Run
@@ -532,6 +539,7 @@ stepped_is v p t asked r who =
         record r {
           system = record r.system {
             users = with_user v.user p r.system.users;
+            files = commons_for r made;
             plan = record {
               levels = levels_after cause v.user q (charged v.user r.system.plan.levels);
               places = places_after t v.user (blocks_of p.inner) r.system.plan.places;
@@ -539,7 +547,7 @@ stepped_is v p t asked r who =
             consoles = consoles_after t v.user r.system.consoles;
             clock = suc r.system.clock;
             service = service_after v cause;
-            entries = r.system.entries ++ (clock_entry asked r.system.clock v.user ++ service_entry v cause);
+            entries = r.system.entries ++ (clock_entry asked r.system.clock v.user ++ (common_entry made v.user (reply_for r made) ++ service_entry v cause));
           };
         }
 

@@ -2,8 +2,8 @@
 use Rattle.std.proofs.Common.{◌≡◌, ℕ, zero, suc, ◌+◌, ◌-◌, ◌<◌, ◌≤◌, Bool, true, false, cond, nat_le, min, List, [], ◌∷◌, ◌++◌, length, set, get_or, Option, Some, None, refl, sym, ap, subst, ◌∙◌, arith, le-ltb}
 use Rattle.std.proofs.lemmas.List.{get_or-set_same, set-get_or, set-set, append-nil}
 use Rattle.std.proofs.lemmas.Bool.Decides.{nat_tests}
-use Rattle.time_sharing.specs.Machine.{Ending, Went}
-use Rattle.time_sharing.specs.System.{Timed, Service, Entry, Cause, cause_of, consoles_after, service_after, service_entry, clock_entry, next_tick}
+use Rattle.time_sharing.specs.Machine.{Ending, Went, CommonOp, Done}
+use Rattle.time_sharing.specs.System.{Timed, Service, Entry, Cause, cause_of, consoles_after, service_after, service_entry, clock_entry, common_entry, next_tick}
 use Rattle.ctss_types.specs.declared.session.Waiting.{Waiting}
 use Rattle.cpu_regs.specs.declared.regs.Regs.{Regs}
 use Rattle.machine_model.specs.Step.{went}
@@ -12,15 +12,15 @@ use Rattle.machine_model.specs.Runs.{many}
 use Rattle.machine_model.proofs.Runs.{many_less}
 use Rattle.user_model.specs.Session.{nobody}
 use Rattle.user_model.specs.Inner.{blocks_of}
-use Rattle.user_model.specs.User.{User, can_step, step, ending, asks_clock, in_core}
+use Rattle.user_model.specs.User.{User, can_step, step, ending, asks_clock, asks_common, in_core}
 use Rattle.user_model.specs.Runs.{IsAtWork, gone, HaveGone}
-use Rattle.user_model.proofs.RunLaws.{work_on, work_can, work_ends, work_asks, gone_more, gone_none}
+use Rattle.user_model.proofs.RunLaws.{work_on, work_can, work_ends, work_asks, work_makes, gone_more, gone_none}
 use Rattle.plan_model.specs.Levels.{Levels, chosen, user_of, has_time, charged}
 use Rattle.plan_model.specs.Spent.{spent}
 use Rattle.plan_model.specs.Plan.{must_load, places_after}
 use Rattle.plan_model.proofs.SpentLaws.{still_chosen, still_time, charged_more, spent_none}
 use Rattle.system_model.specs.Run.{Run, next, due_of, by_due, otherwise, attended}
-use Rattle.system_model.specs.Cases.{user_at, with_user, levels_after, stepped}
+use Rattle.system_model.specs.Cases.{user_at, with_user, levels_after, reply_for, commons_for, stepped}
 use Rattle.system_model.specs.Joined.{joined, with_core}
 use Rattle.system_model.specs.Runs.{Passes, passed, elapsed}
 use Rattle.system_model.specs.Sound.{IsUser}
@@ -46,39 +46,42 @@ passed_attends limit n l w v p r quiet is mine =
     ∙ goes_on limit v.user (later n v) (passed n v p r) refl
 
 -- a step that goes on, of a user that was as p
-abbrev stepped_as : ℕ → Service → User → User → Run → Ending → Bool → Bool → Run
-stepped_as n v p x r e time asked =
+abbrev stepped_as : ℕ → Service → User → User → Run → Option CommonOp → Ending → Bool → Bool → Run
+stepped_as n v p x r made e time asked =
     let t = r.system.clock + n in
     let cause = cause_of e time in
+    let q = step t (reply_for r made) x in
     record r {
       system = record r.system {
-        users = with_user v.user (step t x) (with_user v.user p r.system.users);
+        users = with_user v.user q (with_user v.user p r.system.users);
+        files = commons_for r made;
         plan = record {
-          levels = levels_after cause v.user (step t x) (charged v.user (spent n v.user r.system.plan.levels));
-          places = places_after e v.user (blocks_of (step t x).inner) r.system.plan.places;
+          levels = levels_after cause v.user q (charged v.user (spent n v.user r.system.plan.levels));
+          places = places_after e v.user (blocks_of q.inner) r.system.plan.places;
         };
         consoles = consoles_after e v.user r.system.consoles;
         clock = suc t;
         service = service_after (later n v) cause;
-        entries = r.system.entries ++ (clock_entry asked t v.user ++ service_entry (later n v) cause);
+        entries = r.system.entries ++ (clock_entry asked t v.user ++ (common_entry made v.user (reply_for r made) ++ service_entry (later n v) cause));
       };
     }
 
 passed_steps : (n l : ℕ) (w : Waiting) (v : Service) (p : User) (r : Run) → IsUser v.user r
     → chosen r.system.plan.levels ≡ Some (l, w) → w.user ≡ v.user → suc n < w.left
-    → ending (r.system.clock + n) p ≡ Went → asks_clock p ≡ false
-    → stepped (later n v) (passed n v p r) ≡ passed (suc n) v (step (r.system.clock + n) p) r
+    → ending (r.system.clock + n) Done p ≡ Went → asks_clock p ≡ false → asks_common p ≡ None
+    → stepped (later n v) (passed n v p r) ≡ passed (suc n) v (step (r.system.clock + n) Done p) r
 unfolding passed stepped
-passed_steps n l w v p r who is mine left ends asks =
+passed_steps n l w v p r who is mine left ends asks makes =
     let t = r.system.clock + n in
     let time = still_time n v.user l w r.system.plan.levels is mine left in
     let more : suc (r.system.clock + n) ≡ r.system.clock + suc n = omega arith in
     let ran : suc (v.ran + n) ≡ v.ran + suc n = omega arith in
-    ap (λ (x : User). stepped_as n v p x r (ending t x) (has_time (spent n v.user r.system.plan.levels)) (asks_clock x)) (get_or-set_same r.system.users (v.user - 1) p nobody (let a = who.some in let b = who.within in omega (arith, a, b)))
-    ∙ (λ j. stepped_as n v p p r (ends j) (time j) (asks j))
+    ap (λ (x : User). stepped_as n v p x r (asks_common x) (ending t (reply_for r (asks_common x)) x) (has_time (spent n v.user r.system.plan.levels)) (asks_clock x)) (get_or-set_same r.system.users (v.user - 1) p nobody (let a = who.some in let b = who.within in omega (arith, a, b)))
+    ∙ ap (λ (o : Option CommonOp). stepped_as n v p p r o (ending t (reply_for r o) p) (has_time (spent n v.user r.system.plan.levels)) (asks_clock p)) makes
+    ∙ (λ j. stepped_as n v p p r None (ends j) (time j) (asks j))
     ∙ (λ j. record r {
       system = record r.system {
-        users = set-set r.system.users (v.user - 1) p (step t p) j;
+        users = set-set r.system.users (v.user - 1) p (step t Done p) j;
         plan = record r.system.plan { levels = charged_more n v.user r.system.plan.levels time j };
         clock = more j;
         service = Some (record v { ran = ran j });
@@ -94,12 +97,12 @@ must_passed n v p r who loaded = ap (λ (x : User). must_load r.system.plan v.us
 -- one step more
 pub passed_next : (limit n l : ℕ) (w : Waiting) (v : Service) (p : User) (r : Run) → IsUser v.user r → due_of r.system.events (r.system.clock + n) ≡ None
     → chosen r.system.plan.levels ≡ Some (l, w) → w.user ≡ v.user → suc n < w.left
-    → must_load r.system.plan v.user (blocks_of p.inner) ≡ false → can_step p ≡ true → ending (r.system.clock + n) p ≡ Went → asks_clock p ≡ false
-    → next limit (passed n v p r) ≡ passed (suc n) v (step (r.system.clock + n) p) r
-passed_next limit n l w v p r who quiet is mine left loaded can ends asks =
+    → must_load r.system.plan v.user (blocks_of p.inner) ≡ false → can_step p ≡ true → ending (r.system.clock + n) Done p ≡ Went → asks_clock p ≡ false → asks_common p ≡ None
+    → next limit (passed n v p r) ≡ passed (suc n) v (step (r.system.clock + n) Done p) r
+passed_next limit n l w v p r who quiet is mine left loaded can ends asks makes =
     passed_attends limit n l w v p r quiet is mine
     ∙ attended_steps (later n v) (passed n v p r) who.some (must_passed n v p r who loaded) (ap can_step (passed_user n v p r who) ∙ can)
-    ∙ passed_steps n l w v p r who is mine left ends asks
+    ∙ passed_steps n l w v p r who is mine left ends asks makes
 
 -- none
 pub passed_none : (v : Service) (p : User) (r : Run) → r.system.service ≡ Some v → p ≡ user_at v.user r.system.users → passed 0 v p r ≡ r
@@ -155,7 +158,7 @@ passes limit (suc n) l w v p c d s r who serves is first mine left up quiet load
       (λ j. due_of (passed_events n v x r j) (passed_clock n v x r j)) ∙ quiet_until r.system.events limit r.system.clock (suc n) n quiet (omega arith),
       sym (
           passed_next limit n l w v x r who (quiet_until r.system.events limit r.system.clock (suc n) n quiet (omega arith)) first mine (left some) loaded
-          (work_can (gone n b.regs p) b.words d s at b.goes) (work_ends (r.system.clock + n) (gone n b.regs p) b.words d s at b.goes) (work_asks (gone n b.regs p) b.words d s at b.goes)
+          (work_can (gone n b.regs p) b.words d s at b.goes) (work_ends (r.system.clock + n) (gone n b.regs p) b.words d s at b.goes) (work_asks (gone n b.regs p) b.words d s at b.goes) (work_makes (gone n b.regs p) b.words d s at b.goes)
           ∙ ap (λ (y : User). passed (suc n) v y r) (gone_more n (r.system.clock + n) p b.words d b.regs s (work some) b.goes)
           ),
       ap length (passed_entries (suc n) v (in_core d (gone (suc n) s p)) r ∙ sym (passed_entries n v x r)),

@@ -27,28 +27,28 @@ none_below (suc n) test h = rw (h n (omega arith), none_below n test (λ b k. h 
 load_is_done : (q : Plan) (u n : ℕ) → must_load (with_load q u n) u n ≡ false
 load_is_done q u n = ap (λ (k : ℕ). not (nat_eq k 0)) (none_below n _ (λ b h. ap (λ (v : ℕ). not (nat_eq v u)) (own_front n b u (drop n q.places.owners) h) ∙ ap not (eq-eqb u u refl)))
 
-pub ends : (swap : ℕ) (accounts : List Account) → whole.Ends (round swap accounts)
-ends swap accounts = record { loaded = λ q u p now. load_is_done q u (blocks_of p.inner); same_choice = λ q u p now. refl }
+pub ends : (swap common : ℕ) (accounts : List Account) → whole.Ends (round swap common accounts)
+ends swap common accounts = record { loaded = λ q u p now. load_is_done q u (blocks_of p.inner); same_choice = λ q u p now. refl }
 
 before : Run → ℕ → State → Rattle.std.specs.Prelude.Bool
-before r limit s = whole.before (machine user_rows) (round r.swap r.accounts) limit s
+before r limit s = whole.before (machine user_rows) (round r.swap r.common r.accounts) limit s
 
 pub measure_next : (limit : ℕ) (r : Run) → r.system.clock < limit → measure limit (next limit r) < measure limit r
 unfolding next measure
-measure_next limit r h = ending.falls (machine user_rows) (round r.swap r.accounts) (ends r.swap r.accounts) limit r.system (lt-ltb r.system.clock limit h)
+measure_next limit r h = ending.falls (machine user_rows) (round r.swap r.common r.accounts) (ends r.swap r.common r.accounts) limit r.system (lt-ltb r.system.clock limit h)
 
 pub run_to_next : (limit : ℕ) (r : Run) → r.system.clock < limit → run_to limit (next limit r) ≡ run_to limit r
 unfolding next run_to measure
 run_to_next limit r h = λ i. record r {
   system =
-      laws.whole-step (whole.before (machine user_rows) (round r.swap r.accounts) limit) (theory.next (machine user_rows) (round r.swap r.accounts) limit) (whole.measure (machine user_rows) (round r.swap r.accounts) limit) (ending.falls (machine user_rows) (round r.swap r.accounts) (ends r.swap r.accounts) limit) r.system (lt-ltb r.system.clock limit h) i;
+      laws.whole-step (whole.before (machine user_rows) (round r.swap r.common r.accounts) limit) (theory.next (machine user_rows) (round r.swap r.common r.accounts) limit) (whole.measure (machine user_rows) (round r.swap r.common r.accounts) limit) (ending.falls (machine user_rows) (round r.swap r.common r.accounts) (ends r.swap r.common r.accounts) limit) r.system (lt-ltb r.system.clock limit h) i;
 }
 
 pub run_to_done : (limit : ℕ) (r : Run) → limit ≤ r.system.clock → run_to limit r ≡ r
 unfolding run_to measure
 run_to_done limit r h = λ i. record r {
   system =
-      laws.whole-done (whole.before (machine user_rows) (round r.swap r.accounts) limit) (theory.next (machine user_rows) (round r.swap r.accounts) limit) (whole.measure (machine user_rows) (round r.swap r.accounts) limit) (ending.falls (machine user_rows) (round r.swap r.accounts) (ends r.swap r.accounts) limit) r.system (le-ltb r.system.clock limit h) i;
+      laws.whole-done (whole.before (machine user_rows) (round r.swap r.common r.accounts) limit) (theory.next (machine user_rows) (round r.swap r.common r.accounts) limit) (whole.measure (machine user_rows) (round r.swap r.common r.accounts) limit) (ending.falls (machine user_rows) (round r.swap r.common r.accounts) (ends r.swap r.common r.accounts) limit) r.system (le-ltb r.system.clock limit h) i;
 }
 
 pub after_next : (limit : ℕ) (old r : Run) → AfterSteps limit old r → r.system.clock < limit → AfterSteps limit old (next limit r)
@@ -56,8 +56,8 @@ unfolding next AfterSteps
 after_next limit old r h up = (
   suc h.0,
   ap (next limit) h.1 ∙ (λ i. record old {
-    system = sym (laws.repeat-last (whole.before (machine user_rows) (round old.swap old.accounts) limit) (theory.next (machine user_rows) (round old.swap old.accounts) limit) (whole.measure (machine user_rows) (round old.swap old.accounts) limit) (ending.falls (machine user_rows) (round old.swap old.accounts) (ends old.swap old.accounts) limit) h.0 old.system
-        (ap (λ (q : Run). whole.before (machine user_rows) (round old.swap old.accounts) limit q.system) (sym h.1) ∙ lt-ltb r.system.clock limit up)) i;
+    system = sym (laws.repeat-last (whole.before (machine user_rows) (round old.swap old.common old.accounts) limit) (theory.next (machine user_rows) (round old.swap old.common old.accounts) limit) (whole.measure (machine user_rows) (round old.swap old.common old.accounts) limit) (ending.falls (machine user_rows) (round old.swap old.common old.accounts) (ends old.swap old.common old.accounts) limit) h.0 old.system
+        (ap (λ (q : Run). whole.before (machine user_rows) (round old.swap old.common old.accounts) limit q.system) (sym h.1) ∙ lt-ltb r.system.clock limit up)) i;
   }),
 )
 

@@ -13,13 +13,13 @@ use Rattle.time_sharing.specs.Rows.{machine, some_line}
 use Rattle.user_model.specs.Inner.{blocks_of}
 use Rattle.time_sharing.specs.System as theory
 use Rattle.user_model.specs.Session.{user_rows, nobody}
-use Rattle.user_model.specs.User.{User, typed, opened, cut, can_step, step, ending, asks_clock}
+use Rattle.user_model.specs.User.{User, typed, opened, cut, can_step, step, ending, asks_clock, asks_common}
 use Rattle.system_model.specs.Round.{round, asked, check, account_in, account_with, password_by}
 use Rattle.ctss_types.specs.Words.{words_of}
 use Rattle.ctss_types.specs.declared.script.Account.{Account}
 use Rattle.system_model.proofs.CaseLaws.{next_due, taken_at, off_dials, off_types, off_quits, off_hangs, on_dials, on_no_name, on_name, on_quits, on_hangs, asked_dials, wrong_word, already_on, logs_in, asked_quits, asked_hangs, in_dials, in_types, in_spends, in_quits, in_hangs, idles, preempts_none, begins, goes_on, preempts, attended_loads, attended_steps, attended_waits}
 use Rattle.plan_model.specs.Plan.{must_load}
-use Rattle.system_model.specs.Cases.{brought, levels_after, user_at, heard, line_taken, quit_taken, hang_taken, spent_taken, cut_taken, login_taken, dial_taken, idled, served, stepped, waited, not_served}
+use Rattle.system_model.specs.Cases.{brought, reply_for, levels_after, user_at, heard, line_taken, quit_taken, hang_taken, spent_taken, cut_taken, login_taken, dial_taken, idled, served, stepped, waited, not_served}
 use Rattle.system_model.specs.Sound.{Sound, IsUser, HasSeat}
 
 first_holds : (rows : List (List Waiting)) (l m : ℕ) (x : Waiting) → first_of l rows ≡ Some (m, x) → is_in x.user rows ≡ true
@@ -326,7 +326,7 @@ sound_stepped v r sound who ran =
     sound_by r (stepped v r) (record { users = length-set _ _ _; accounts = refl; consoles = as_many _ v.user r.system.consoles }) sound sound.seats
     (λ k u h. left_seats r _ v.user k u sound h)
     (λ w h. let e = behind_service v _ w h in (subst (λ (u : ℕ). IsUser u r) e.0 who, (let f = e.1 in omega (arith, f, ran))))
-    (λ u h. elim (left_user (theory.cause_of (ending r.system.clock (user_at v.user r.system.users)) (has_time r.system.plan.levels)) v.user (step r.system.clock (user_at v.user r.system.users)) (charged v.user r.system.plan.levels) u h)
+    (λ u h. elim (left_user (theory.cause_of (ending r.system.clock (reply_for r (asks_common (user_at v.user r.system.users))) (user_at v.user r.system.users)) (has_time r.system.plan.levels)) v.user (step r.system.clock (reply_for r (asks_common (user_at v.user r.system.users))) (user_at v.user r.system.users)) (charged v.user r.system.plan.levels) u h)
     [ inl e ↦ subst (λ (w : ℕ). IsUser w r) e who | inr k ↦ queued_charged v r u sound who k ])
     (put_own r v.user (suc r.system.clock) _ (let h = sound.owns (v.user - 1) in omega (arith, h)) (λ k. let h = sound.owns k in omega (arith, h)))
 

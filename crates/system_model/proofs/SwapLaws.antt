@@ -1,7 +1,7 @@
 -- What each case of a step adds to the blocks that the schedule's loads moved.
 use Rattle.std.proofs.Common.{◌≡◌, ℕ, ◌+◌, ◌-◌, Bool, true, false, nat_eq, cond, List, [], ◌∷◌, ◌++◌, Option, Some, None, refl, ◌∙◌, arith}
-use Rattle.time_sharing.specs.Machine.{Ending, CutKind, Quit, Hang, Spent}
-use Rattle.time_sharing.specs.System.{Timed, Service, Console, Off, On, Entry, Taken, Login, Refused, Idle, Swap, Serve, Clock, Common, EventKind, LineTaken, kind_of, Cause, Stop, Wait, cause_of, service_entry, clock_entry, without}
+use Rattle.time_sharing.specs.Machine.{Ending, CutKind, Quit, Hang, Spent, CommonOp, Reply}
+use Rattle.time_sharing.specs.System.{Timed, Service, Console, Off, On, Entry, Taken, Login, Refused, Idle, Swap, Serve, Clock, Common, EventKind, LineTaken, kind_of, Cause, Stop, Wait, cause_of, service_entry, clock_entry, common_entry, without}
 use Rattle.user_model.specs.User.{User}
 use Rattle.plan_model.specs.Levels.{has_time}
 use Rattle.system_model.specs.Run.{Run, taken}
@@ -64,6 +64,10 @@ clock_quiet : (asked : Bool) (t u : ℕ) → Quiet (clock_entry asked t u)
 clock_quiet true t u more = (refl, refl)
 clock_quiet false t u more = (refl, refl)
 
+common_quiet : (made : Option CommonOp) (u : ℕ) (r : Reply) → Quiet (common_entry made u r)
+common_quiet None u r more = (refl, refl)
+common_quiet (Some op) u r more = (refl, refl)
+
 service_none : (v : Service) (cause : Option Cause) → (dumped_in (service_entry v cause) ≡ 0) × (read_in (service_entry v cause) ≡ 0)
 service_none v None = (refl, refl)
 service_none v (Some cause) = (refl, refl)
@@ -115,13 +119,16 @@ pub waited_moves : (v : Service) (r : Run) → Moves r.system.entries (waited v 
 unfolding waited
 waited_moves v r = adds r.system.entries _ 0 0 refl refl
 
-pub counted_moves : (v : Service) (t : Ending) (asked : Bool) (r : Run) → Moves r.system.entries (counted v t asked r).system.entries 0 0
+pub counted_moves : (v : Service) (t : Ending) (asked : Bool) (made : Option CommonOp) (reply : Reply) (r : Run) →
+    Moves r.system.entries (counted v t asked (common_entry made v.user reply) r).system.entries 0 0
 unfolding counted
-counted_moves v t asked r =
+counted_moves v t asked made reply r =
     let cause = cause_of t (has_time r.system.plan.levels) in
-    let q = clock_quiet asked r.system.clock v.user (service_entry v cause) in
+    let more = common_entry made v.user reply ++ service_entry v cause in
+    let q = clock_quiet asked r.system.clock v.user more in
+    let m = common_quiet made v.user reply (service_entry v cause) in
     let n = service_none v cause in
-    adds r.system.entries (clock_entry asked r.system.clock v.user ++ service_entry v cause) 0 0 (q.0 ∙ n.0) (q.1 ∙ n.1)
+    adds r.system.entries (clock_entry asked r.system.clock v.user ++ more) 0 0 (q.0 ∙ m.0 ∙ n.0) (q.1 ∙ m.1 ∙ n.1)
 
 -- a load
 pub moved_moves : (u dumped read fresh : ℕ) (r : Run) → Moves r.system.entries (moved u dumped read fresh r).system.entries dumped read

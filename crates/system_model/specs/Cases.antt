@@ -1,15 +1,16 @@
 -- claim: each case of a step, field by field.
 use Rattle.std.specs.Prelude.{ℕ, suc, ◌+◌, ◌-◌, Bool, true, false, if◌then◌else◌, nat_eq, List, [], ◌∷◌, ◌++◌, Option, Some, None, drop, set, get_or}
-use Rattle.time_sharing.specs.Machine.{Line, CutKind, Quit, Hang, Spent, Ending}
+use Rattle.time_sharing.specs.Machine.{Line, CutKind, Quit, Hang, Spent, Ending, CommonOp, Reply}
 use Rattle.time_sharing.specs.Rows.{machine}
-use Rattle.time_sharing.specs.System.{SystemState, Timed, Service, Console, Session, Entry, Taken, Login, Idle, Swap, Serve, EventKind, LineTaken, DialTaken, kind_of, Cause, Stop, Wait, AtEnd, without, Off, consoles_after, cause_of, service_after, service_entry, clock_entry, next_tick}
+use Rattle.time_sharing.specs.System.{SystemState, Timed, Service, Console, Session, Entry, Taken, Login, Idle, Swap, Serve, EventKind, LineTaken, DialTaken, kind_of, Cause, Stop, Wait, AtEnd, without, Off, consoles_after, cause_of, service_after, service_entry, clock_entry, common_entry, next_tick}
 use Rattle.user_model.specs.Session.{user_rows, nobody}
 use Rattle.user_model.specs.Inner.{blocks_of}
-use Rattle.user_model.specs.User.{User, typed, opened, cut, can_step, step, ending, asks_clock}
+use Rattle.user_model.specs.User.{User, typed, opened, cut, can_step, step, ending, asks_clock, asks_common}
 use Rattle.plan_model.specs.Levels.{Levels, chosen, has_time, charged, dropped, woken}
 use Rattle.plan_model.specs.Plan.{with_load, move_of, places_after, places_cut}
 use Rattle.time_sharing.specs.System as theory
-use Rattle.system_model.specs.Round.{leaves, line_blocks}
+use Rattle.ctss_types.specs.declared.file.FileBody.{FileBody}
+use Rattle.system_model.specs.Round.{round, leaves, line_blocks}
 use Rattle.system_model.specs.Run.{Run, State}
 
 abbrev pub user_at : ℕ → List User → User
@@ -134,26 +135,37 @@ brought u r =
       };
     }
 
+-- what the common files reply to an operation, if one is made, and what they are behind it
+abbrev pub reply_for : Run → Option CommonOp → Reply
+reply_for r made = theory.reply_for (machine user_rows) (round r.swap r.common r.accounts) r.system.files made
+
+abbrev pub commons_for : Run → Option CommonOp → List FileBody
+commons_for r made = theory.files_for (machine user_rows) (round r.swap r.common r.accounts) r.system.files made
+
 -- a user step that ends a service by this cause, if any
 abbrev pub stepped_by : Option Cause → Service → Run → Run
 stepped_by cause v r =
     let p = user_at v.user r.system.users in
+    let q = step r.system.clock (reply_for r (asks_common p)) p in
     record r {
       system = record r.system {
-        users = with_user v.user (step r.system.clock p) r.system.users;
+        users = with_user v.user q r.system.users;
+        files = commons_for r (asks_common p);
         plan = record {
-          levels = levels_after cause v.user (step r.system.clock p) (charged v.user r.system.plan.levels);
-          places = places_after (ending r.system.clock p) v.user (blocks_of (step r.system.clock p).inner) r.system.plan.places;
+          levels = levels_after cause v.user q (charged v.user r.system.plan.levels);
+          places = places_after (ending r.system.clock (reply_for r (asks_common p)) p) v.user (blocks_of q.inner) r.system.plan.places;
         };
-        consoles = consoles_after (ending r.system.clock p) v.user r.system.consoles;
+        consoles = consoles_after (ending r.system.clock (reply_for r (asks_common p)) p) v.user r.system.consoles;
         clock = suc r.system.clock;
         service = service_after v cause;
-        entries = r.system.entries ++ (clock_entry (asks_clock p) r.system.clock v.user ++ service_entry v cause);
+        entries = r.system.entries ++ (clock_entry (asks_clock p) r.system.clock v.user ++ (common_entry (asks_common p) v.user (reply_for r (asks_common p)) ++ service_entry v cause));
       };
     }
 
 unfoldable pub stepped : Service → Run → Run
-stepped v r = stepped_by (cause_of (ending r.system.clock (user_at v.user r.system.users)) (has_time r.system.plan.levels)) v r
+stepped v r =
+    let p = user_at v.user r.system.users in
+    stepped_by (cause_of (ending r.system.clock (reply_for r (asks_common p)) p) (has_time r.system.plan.levels)) v r
 
 -- a chosen user that can't step
 unfoldable pub waited : Service → Run → Run

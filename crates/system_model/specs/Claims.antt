@@ -11,11 +11,15 @@ use Rattle.time_sharing.specs.Feeds.{feed_of, seen, ran_of}
 use Rattle.time_sharing.specs.Record.{AreLate}
 use Rattle.user_model.specs.Session.{user_rows, nobody}
 use Rattle.system_model.specs.Run.{Run, AfterSteps, next, run_to, measure, given_all}
-use Rattle.system_model.specs.Record.{start_of, record_of, first_of_user, EachIsAlone}
+use Rattle.system_model.specs.Record.{start_of, record_of, first_of_user, EachIsAlone, IsOneList}
 
 -- in the record of every script each user is alone
 abbrev pub UsersAreAlone : Type 0
 UsersAreAlone = (script : Script) → EachIsAlone script (record_of script)
+
+-- in the record of every script the common files are one list
+abbrev pub CommonsAreOne : Type 0
+CommonsAreOne = (script : Script) → IsOneList script (record_of script)
 
 -- at each moment of a script's run the feed so far, cut after the user's own steps, leads the user's machine alone just to
 -- the user's state: each login and cut is reached after just its number of own steps, and each answer is taken

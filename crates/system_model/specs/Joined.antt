@@ -1,14 +1,14 @@
 -- proof: the words of users' programs apart from the rest of the users, and both joined.
-use Rattle.std.specs.Prelude.{ℕ, suc, ◌+◌, ◌*◌, Bool, if◌then◌else◌, nat_eq, nat_lt, List, [], ◌∷◌, ◌++◌}
-use Rattle.time_sharing.specs.Machine.{Line, Ending}
-use Rattle.time_sharing.specs.System.{Service, Console, Off, On, Password, Session, Event, Dials, Types, Quits, Hangs, Swap, Cause, max_lines, cause_of, consoles_after, service_after, service_entry, clock_entry}
+use Rattle.std.specs.Prelude.{ℕ, suc, ◌+◌, ◌*◌, Bool, if◌then◌else◌, nat_eq, nat_lt, List, [], ◌∷◌, ◌++◌, Option}
+use Rattle.time_sharing.specs.Machine.{Line, Ending, CommonOp}
+use Rattle.time_sharing.specs.System.{Service, Console, Off, On, Password, Session, Event, Entry, Dials, Types, Quits, Hangs, Swap, Cause, max_lines, cause_of, consoles_after, service_after, service_entry, clock_entry, common_entry}
 use Rattle.user_model.specs.Inner.{blocks_of}
 use Rattle.user_model.specs.User.{User, in_core}
 use Rattle.plan_model.specs.Levels.{charged, has_time}
 use Rattle.plan_model.specs.Plan.{places_after}
 use Rattle.plan_model.specs.Loads.{Places}
 use Rattle.system_model.specs.Run.{Run}
-use Rattle.system_model.specs.Cases.{user_at, with_user, levels_after}
+use Rattle.system_model.specs.Cases.{user_at, with_user, levels_after, reply_for, commons_for}
 
 -- users from number k on, each with its words
 abbrev pub with_cores : ℕ → (ℕ → List ℕ) → List User → List User
@@ -33,13 +33,14 @@ cut_user Off e users = 0
 cut_user On e users = 0
 cut_user (Password name) e users = 0
 
--- a step of a service's user that leaves this state, ends so, and took the clock or not
-unfoldable pub stepped_to : Service → User → Ending → Bool → Run → Run
-stepped_to v p t asked r =
+-- a step of a service's user that leaves this state, ends so, took the clock or not, and made this common operation or none
+unfoldable pub stepped_to : Service → User → Ending → Bool → Option CommonOp → Run → Run
+stepped_to v p t asked made r =
     let cause = cause_of t (has_time r.system.plan.levels) in
     record r {
       system = record r.system {
         users = with_user v.user p r.system.users;
+        files = commons_for r made;
         plan = record {
           levels = levels_after cause v.user p (charged v.user r.system.plan.levels);
           places = places_after t v.user (blocks_of p.inner) r.system.plan.places;
@@ -47,14 +48,14 @@ stepped_to v p t asked r =
         consoles = consoles_after t v.user r.system.consoles;
         clock = suc r.system.clock;
         service = service_after v cause;
-        entries = r.system.entries ++ (clock_entry asked r.system.clock v.user ++ service_entry v cause);
+        entries = r.system.entries ++ (clock_entry asked r.system.clock v.user ++ (common_entry made v.user (reply_for r made) ++ service_entry v cause));
       };
     }
 
--- what a step of a service's user does besides: to the queues, the consoles, the clock and the service; the user has
--- stepped already, and its blocks lie as before
-unfoldable pub counted : Service → Ending → Bool → Run → Run
-counted v t asked r =
+-- what a step of a service's user does besides: to the queues, the consoles, the clock and the service; the user has stepped
+-- already, the common files are as it left them, its blocks lie as before, and these are the notes of its common operation
+unfoldable pub counted : Service → Ending → Bool → List Entry → Run → Run
+counted v t asked notes r =
     let cause = cause_of t (has_time r.system.plan.levels) in
     record r {
       system = record r.system {
@@ -62,7 +63,7 @@ counted v t asked r =
         consoles = consoles_after t v.user r.system.consoles;
         clock = suc r.system.clock;
         service = service_after v cause;
-        entries = r.system.entries ++ (clock_entry asked r.system.clock v.user ++ service_entry v cause);
+        entries = r.system.entries ++ (clock_entry asked r.system.clock v.user ++ (notes ++ service_entry v cause));
       };
     }
 

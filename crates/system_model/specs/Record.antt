@@ -7,6 +7,7 @@ use Rattle.ctss_types.specs.declared.file.OwnedFile.{OwnedFile}
 use Rattle.ctss_types.specs.declared.history.Record.{Record}
 use Rattle.time_sharing.specs.Private.{Alone, alone}
 use Rattle.time_sharing.specs.Feeds.{feed_of}
+use Rattle.time_sharing.specs.Commons.{operations_of, replies_of, common_run, files_left}
 use Rattle.time_sharing.specs.Rows.{machine}
 use Rattle.time_sharing.specs.Record as whole
 use Rattle.user_model.specs.Session.{user_rows, first_state, no_account}
@@ -29,8 +30,9 @@ unfoldable pub start_of : Script → Run
 start_of script =
     record {
       swap = script.params.swap;
+      common = script.params.common;
       accounts = script.accounts;
-      system = whole.start (machine user_rows) (round script.params.swap script.accounts) (users_from 1 script.accounts script.files) [] (first_plan script.params.wq script.params.quantum) consoles script.events;
+      system = whole.start (machine user_rows) (round script.params.swap script.params.common script.accounts) (users_from 1 script.accounts script.files) [] (first_plan script.params.wq script.params.quantum) consoles script.events;
     }
 
 -- what a run leaves
@@ -65,3 +67,9 @@ pub record IsAloneIn (script : Script) (rec : Record) (u : ℕ) : Type 0 where
 -- so it is for each account
 abbrev pub EachIsAlone : Script → Record → Type 0
 EachIsAlone script rec = (u : ℕ) → 0 < u → u ≤ length script.accounts → IsAloneIn script rec u
+
+-- the replies in a record are those of one list of files, empty at first, to its operations in order; and its common files are
+-- what that list is then
+pub record IsOneList (script : Script) (rec : Record) : Type 0 where
+  pub replies : replies_of rec.entries ≡ common_run (round script.params.swap script.params.common script.accounts) [] (operations_of rec.entries)
+  pub files : rec.common ≡ files_left (round script.params.swap script.params.common script.accounts) [] (operations_of rec.entries)

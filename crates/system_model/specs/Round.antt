@@ -3,9 +3,10 @@ use Rattle.std.specs.Prelude.{ℕ, suc, Bool, true, false, if◌then◌else◌, 
 use Rattle.ctss_types.specs.declared.script.Account.{Account}
 use Rattle.ctss_types.specs.declared.file.FileBody.{FileBody}
 use Rattle.ctss_types.specs.Words.{words_of}
-use Rattle.time_sharing.specs.Machine.{Line, CutKind, Done}
+use Rattle.time_sharing.specs.Machine.{Line, CutKind}
 use Rattle.time_sharing.specs.Rows.{some_line}
 use Rattle.time_sharing.specs.System.{World, Cause, Time, Wait, Stop, Size, Preempt, AtEnd}
+use Rattle.file_model.specs.Commons.{reply_to, files_after}
 use Rattle.user_model.specs.Inner.{Inner, blocks_of}
 use Rattle.user_model.specs.Session.{nobody, works_in}
 use Rattle.user_model.specs.Requests.{word_name}
@@ -55,10 +56,10 @@ password_by (w ∷ x ∷ ws) = None
 unfoldable pub check : List Account → ℕ → Line → Option ℕ
 check accounts name l = account_with accounts name (password_by (words_of l))
 
--- the queues, the blocks in core and on the drum, a move of which costs so many ticks a block, and the accounts; no step makes
--- a common operation yet
-abbrev pub round : ℕ → List Account → World User Plan (List FileBody)
-round swap accounts =
+-- the queues, the blocks in core and on the drum, a move of which costs so many ticks a block, the common files, which take at most
+-- so many tracks, and the accounts
+abbrev pub round : (swap common : ℕ) → List Account → World User Plan (List FileBody)
+round swap common accounts =
     record {
       choose = λ q. user_of (chosen q.levels);
       level = λ q u. level_in (chosen q.levels);
@@ -72,8 +73,8 @@ round swap accounts =
       gave_up = λ q u p ending now. record q { places = places_after ending u (blocks_of p.inner) q.places };
       line_came = λ q u was p now. record q { levels = woken (line_blocks was) u q.levels };
       cut_came = λ q u kind p now. record q { levels = dropped u q.levels; places = places_cut kind u q.places };
-      files_after = λ f op. f;
-      reply_to = λ f op. Done;
+      files_after = λ f op. files_after common f op;
+      reply_to = λ f op. reply_to common f op;
       asked = asked;
       check = check accounts;
       nobody = nobody;

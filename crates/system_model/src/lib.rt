@@ -5,13 +5,19 @@
 //! a script, and each user alone), `Rows` (worked rows). The functions here do nothing: each carries a law.
 #![tactic(auto)]
 
-ghost use Rattle.system_model.specs.Claims.{UsersAreAlone, EachMomentIsAlone, FeedsDecide, StepsEnd, RunsInParts, LateEventsWait};
+ghost use Rattle.system_model.specs.Claims.{UsersAreAlone, CommonsAreOne, EachMomentIsAlone, FeedsDecide, StepsEnd, RunsInParts, LateEventsWait};
 ghost use Rattle.system_model.specs.Rows.{RowOfNobody, RowOfOneUser, RowOfLateUser};
 
 /// In the record of every script each user's transcript and files are those of the user's machine alone.
 #[tactic(auto, using(crate::proofs::AloneLaws::users_are_alone))]
 pub fn users_are_alone()
     ensures { UsersAreAlone }
+{}
+
+/// In the record of every script the replies of the common files are those of one list of files, in the record's order.
+#[tactic(auto, using(crate::proofs::AloneLaws::commons_are_one))]
+pub fn commons_are_one()
+    ensures { CommonsAreOne }
 {}
 
 /// At each moment of a script's run each user's state is that of the user's machine alone, over the feed so far.

@@ -2,7 +2,7 @@
 use Rattle.std.specs.Prelude.{◌≡◌, ℕ, ◌+◌, ◌≤◌, true}
 use Rattle.ctss_types.specs.Names.{NamePair}
 use Rattle.program_model.specs.declared.Call.{Call}
-use Rattle.program_model.specs.declared.Call.TheVariants.{ReadLine, WriteLine, GetTime, GetMemory, SetMemory, FileStat, ReadFile, WriteFile, DeleteFile, RenameFile, ChangeMode, Dead, Dormant}
+use Rattle.program_model.specs.declared.Call.TheVariants.{ReadLine, WriteLine, GetTime, GetMemory, SetMemory, FileStat, ReadFile, WriteFile, DeleteFile, RenameFile, ChangeMode, CommonStat, CommonRead, CommonWrite, CommonDelete, Dead, Dormant}
 use Rattle.program_model.specs.Calls.{is_line_count}
 use Rattle.tia_entry.specs.declared.call.LineEntry.{LineEntry}
 use Rattle.tia_entry.specs.declared.call.LineEntry.TheVariants.{Read, Write}
@@ -22,6 +22,10 @@ HasBuffer words (FileStat name) = Unit {0}
 HasBuffer words (DeleteFile name) = Unit {0}
 HasBuffer words (RenameFile name to) = Unit {0}
 HasBuffer words (ChangeMode name mode) = Unit {0}
+HasBuffer words (CommonRead name at count place) = at + count ≤ words
+HasBuffer words (CommonWrite name at count place) = at + count ≤ words
+HasBuffer words (CommonStat name) = Unit {0}
+HasBuffer words (CommonDelete name) = Unit {0}
 HasBuffer words Dead = Unit {0}
 HasBuffer words Dormant = Unit {0}
 
@@ -34,3 +38,5 @@ call_with Write at count = WriteLine at count
 abbrev pub transfer_with : TransferEntry → NamePair → (at count place : ℕ) → Call
 transfer_with transfer.Read name at count place = ReadFile name at count place
 transfer_with transfer.Write name at count place = WriteFile name at count place
+transfer_with transfer.CommonRead name at count place = CommonRead name at count place
+transfer_with transfer.CommonWrite name at count place = CommonWrite name at count place

@@ -20,6 +20,24 @@ pub fn store_words<M: MemoryPort>(core: &mut M, at: u16, words: &[Word])
     }
 }
 
+/// Stores words from an address on. What lies outside is passed over.
+#[tactic(auto, using(crate::proofs::Fitting::fitting))]
+pub fn store_fitting<M: MemoryPort>(core: &mut M, at: u16, words: &[Word])
+    ensures words { M.words core.new ≡ with_words (M.words core.old) at words.now }
+    ensures keeps { M.Keeps core.old core.new }
+{
+    let size = 256 * usize::from(core.size());
+    let start = usize::from(at);
+    if start > size {
+        return;
+    }
+    if words.len() > size - start {
+        store_words(core, at, &words[..size - start]);
+    } else {
+        store_words(core, at, words);
+    }
+}
+
 /// So many words from an address on.
 #[tactic(auto, using(crate::proofs::Parts::words_more))]
 pub fn words_in<M: MemoryPort>(

@@ -1,6 +1,6 @@
 //! The calls that ask for something of a file.
 ghost use Rattle.std.specs.Prelude.{◌≡◌, ◌<◌, ◌^◌, length, IfOk};
-ghost use Rattle.program_model.specs.Calls.{transfer_call, rename_call, mode_call, call_of_file};
+ghost use Rattle.program_model.specs.Calls.{transfer_call, rename_call, mode_call, call_of_file, call_of_common};
 ghost use Rattle.tia_entry.specs.Buffers.{HasBuffer, transfer_with};
 ghost use Rattle.tia_entry.specs.Looks.{file_at, named_file};
 
@@ -30,11 +30,25 @@ const RENAME_FILE: u64 = 0o512545214425;
 /// CHMODE.
 const CHANGE_MODE: u64 = 0o233044462425;
 
-/// The two entries that have a buffer of a file's words.
+/// CFSTAT.
+const COMMON_STAT: u64 = 0o232662632163;
+
+/// CRDFIL.
+const COMMON_READ: u64 = 0o235124263143;
+
+/// CWRFIL.
+const COMMON_WRITE: u64 = 0o236651263143;
+
+/// CDELET.
+const COMMON_DELETE: u64 = 0o232425432563;
+
+/// The entries that have a buffer of a file's words.
 #[derive(Clone, Copy, Debug, PartialEq, Eq)]
 enum TransferEntry {
     Read,
     Write,
+    CommonRead,
+    CommonWrite,
 }
 
 /// The call of an entry with a buffer of a file's words.
@@ -49,6 +63,18 @@ fn transfer_with(entry: TransferEntry, name: FileName, at: u16, count: u16, plac
             place,
         },
         TransferEntry::Write => Call::WriteFile {
+            name,
+            at,
+            count,
+            place,
+        },
+        TransferEntry::CommonRead => Call::CommonRead {
+            name,
+            at,
+            count,
+            place,
+        },
+        TransferEntry::CommonWrite => Call::CommonWrite {
             name,
             at,
             count,
@@ -141,6 +167,25 @@ pub(crate) fn call_of_file<M: MemoryPort>(
         }),
         RENAME_FILE => rename_call(regs, core),
         CHANGE_MODE => mode_call(regs, core),
+        _ => call_of_common(regs, core, name),
+    }
+}
+
+/// The calls that ask for something of a common file.
+#[tactic(auto, unfolding(ctss_types::specs::Words::name_of))]
+fn call_of_common<M: MemoryPort>(regs: &Regs, core: &M, name: Word) -> Result<Call, EntryFault>
+    ensures value { result ≡ call_of_common regs.now (M.words core.now) name }
+    ensures within { IfOk result (HasBuffer (length (M.words core.now))) }
+{
+    match name.bits() {
+        COMMON_STAT => Ok(Call::CommonStat {
+            name: named_file(regs, core)?,
+        }),
+        COMMON_READ => transfer_call(regs, core, TransferEntry::CommonRead),
+        COMMON_WRITE => transfer_call(regs, core, TransferEntry::CommonWrite),
+        COMMON_DELETE => Ok(Call::CommonDelete {
+            name: named_file(regs, core)?,
+        }),
         _ => Err(EntryFault::NoSuchEntry),
     }
 }

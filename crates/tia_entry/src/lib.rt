@@ -7,6 +7,6 @@ mod call;
 mod file_call;
 mod line;
 
-pub use buffer::{store_words, words_in};
+pub use buffer::{store_fitting, store_words, words_in};
 pub use call::{answer, is_line_count, read_call};
 pub use line::{line_in, store_line};

@@ -4,12 +4,13 @@ ghost use Rattle.drum_slots.specs.Keys.{quota_of};
 ghost use Rattle.plan_model.specs.Loads.{is_loaded};
 ghost use Rattle.user_model.specs.Inner.{blocks_of};
 ghost use Rattle.user_model.specs.Runs.{HaveGone};
-ghost use Rattle.user_session.specs.Turns.{IsTurn};
+ghost use Rattle.user_session.specs.Turns.{Asked, IsReplied, IsTurn};
+ghost use Rattle.file_model.specs.Commons.{ReplyFits};
 ghost use Rattle.user_cores.specs.Cores.{CoresState, size, Loads, Resizes, Replaces, WorksIn};
 
-use ctss_types::{NoMemory, UserNo};
+use ctss_types::{NoMemory, Reply, UserNo};
 use image_map::{DrumFault, Plan};
-use user_session::{Session, Turn};
+use user_session::{Session, Step, Turn};
 
 /// The cores of up to 30 users' programs. Users count from 1.
 ///
@@ -63,6 +64,30 @@ pub trait Cores {
         requires fits { session.old.own < 2 ^ 64 - 1 }
         requires time { now < 2 ^ 35 }
         ensures turn { IfOk result (λ turn. IsTurn turn now session.old session.new
+            ((state self.old).window user) ((state self.new).window user)) }
+        ensures account { session.new.inner.account ≡ session.old.inner.account }
+        ensures err { OnErr result (session.new ≡ session.old) }
+        ensures err_words { OnErr result ((state self.new).window user ≡ (state self.old).window user) }
+        ensures works { Works self.new }
+        ensures keeps { Keeps self.old self.new }
+        ensures worked { WorksIn user (state self.old) (state self.new) };
+
+    /// A step of the session of a user whose blocks are all in core, which made a common operation, goes on with its reply.
+    fn take_reply(
+        &mut self,
+        user: UserNo,
+        session: &mut Session,
+        reply: &Reply,
+        now: u64,
+    ) -> Result<Step, NoMemory>
+        requires works { Works self.old }
+        requires user { user < length (state self.old).memory.sizes }
+        requires loaded { is_loaded (state self.old).memory.places user (size (state self.old) user) ≡ true }
+        requires size { size (state self.old) user ≡ blocks_of session.old.inner }
+        requires asks { Asked session.old ((state self.old).window user) }
+        requires told { ReplyFits reply.now }
+        requires fits { session.old.own < 2 ^ 64 - 1 }
+        ensures step { IfOk result (λ s. IsReplied s reply.now now session.old session.new
             ((state self.old).window user) ((state self.new).window user)) }
         ensures account { session.new.inner.account ≡ session.old.inner.account }
         ensures err { OnErr result (session.new ≡ session.old) }

@@ -10,4 +10,4 @@ mod turn;
 pub use cores::Cores;
 pub use first::first_cores;
 pub use image_map::{DrumFault, Plan};
-pub use turn::{advance_in, turn_in};
+pub use turn::{advance_in, reply_in, turn_in};

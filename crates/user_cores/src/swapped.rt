@@ -1,10 +1,10 @@
 //! Users' cores that are swapped with a drum.
 use crate::cores::Cores;
-use crate::turn::{advance_in, turn_in};
-use ctss_types::{NoMemory, UserNo};
+use crate::turn::{advance_in, reply_in, turn_in};
+use ctss_types::{NoMemory, Reply, UserNo};
 use image_map::{DrumFault, Image, Plan};
 use medium::Medium;
-use user_session::{Session, Turn};
+use user_session::{Session, Step, Turn};
 
 impl<D: Medium> Cores for Image<'_, D> {
     ghost use Rattle.std.specs.Prelude.{◌≡◌, refl};
@@ -46,6 +46,18 @@ impl<D: Medium> Cores for Image<'_, D> {
     fn turn(&mut self, user: UserNo, session: &mut Session, now: u64) -> Result<Turn, NoMemory> {
         let blocks = self.size(user);
         turn_in(self.bank_mut(), blocks, session, now)
+    }
+
+    #[tactic(auto, using(crate::proofs::Images::whole_turned, crate::proofs::Images::words_resident, crate::proofs::Images::words_stay))]
+    fn take_reply(
+        &mut self,
+        user: UserNo,
+        session: &mut Session,
+        reply: &Reply,
+        now: u64,
+    ) -> Result<Step, NoMemory> {
+        let blocks = self.size(user);
+        reply_in(self.bank_mut(), blocks, session, reply, now)
     }
 
     #[tactic(auto, using(crate::proofs::Images::whole_turned, crate::proofs::Images::words_resident, crate::proofs::Images::words_stay))]

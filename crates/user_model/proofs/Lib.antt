@@ -4,3 +4,4 @@ pub mod WentLaws
 pub mod RunLaws
 pub mod RowTurns
 pub mod RowsComputed
+pub mod AskedLaws

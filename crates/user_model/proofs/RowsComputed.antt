@@ -5,7 +5,7 @@ use Rattle.ctss_types.specs.Words.{name_of}
 use Rattle.fap_model.specs.Decks.{assembled}
 use Rattle.user_model.specs.Requests.{command_of}
 use Rattle.user_model.specs.Texts.{time_text, ready_text, fault_text}
-use Rattle.user_model.specs.Rows.{RowOfRequests, RowOfInput, RowOfAssembly}
+use Rattle.user_model.specs.Rows.{RowOfRequests, RowOfInput, RowOfAssembly, RowOfCopies}
 
 pub row_of_requests : RowOfRequests
 unfolding command_of name_of
@@ -18,3 +18,7 @@ row_of_input = record { begun = refl; there = refl; no_track = refl; typed = ref
 pub row_of_assembly : RowOfAssembly
 unfolding command_of name_of digits time_text ready_text fault_text assembled
 row_of_assembly = record { asked = refl; names = refl; made = refl; no_room = refl; faults = refl; absent = refl }
+
+pub row_of_copies : RowOfCopies
+unfolding command_of name_of digits time_text ready_text
+row_of_copies = record { to = refl; from = refl; neither = refl; alone = refl; put = refl; got = refl; none = refl; absent = refl; done = refl; refused = refl; copied = refl; full = refl }

@@ -2,17 +2,18 @@
 use Rattle.std.proofs.Common.{◌≡◌, ℕ, suc, ◌-◌, Bool, true, false, ◌||◌, List, [], Option, Some, None, Ok, Err, refl}
 use Rattle.std.specs.Prelude.{if◌then◌else◌, nat_eq, nat_lt, length}
 use Rattle.std.specs.declared.result.Result.{Result}
-use Rattle.time_sharing.specs.Machine.{Line, Went}
+use Rattle.time_sharing.specs.Machine.{Line, Went, CommonOp, Reply}
 use Rattle.time_sharing.specs.Rows.{Outcome, line_of, before_of}
 use Rattle.ctss_types.specs.Names.{NamePair}
 use Rattle.ctss_types.specs.declared.file.FileBody.{FileBody}
 use Rattle.ctss_types.specs.declared.file.Refusal.{Refusal}
+use Rattle.ctss_types.specs.declared.file.Reply.TheVariants as reply
 use Rattle.file_model.specs.declared.Stat.{Stat}
 use Rattle.file_model.specs.Files.{file_named, stat, read, got, written, put, appended, renamed, deleted, moded}
 use Rattle.machine_model.specs.Step.{Step, went, halt, entry, illegal, outside}
 use Rattle.machine_model.specs.Machine.{table}
 use Rattle.program_model.specs.declared.Call.{Call}
-use Rattle.program_model.specs.declared.Call.TheVariants.{ReadLine, WriteLine, GetTime, GetMemory, SetMemory, FileStat, ReadFile, WriteFile, DeleteFile, RenameFile, ChangeMode as ChangesMode, Dead as EndsDead, Dormant as EndsDormant}
+use Rattle.program_model.specs.declared.Call.TheVariants.{ReadLine, WriteLine, GetTime, GetMemory, SetMemory, FileStat, ReadFile, WriteFile, DeleteFile, RenameFile, ChangeMode as ChangesMode, CommonStat, CommonRead, CommonWrite, CommonDelete, Dead as EndsDead, Dormant as EndsDormant}
 use Rattle.program_model.specs.declared.EntryFault.{EntryFault}
 use Rattle.program_model.specs.declared.EntryFault.TheVariants.{NoSuchEntry, Outside}
 use Rattle.program_model.specs.declared.LoadFault.{LoadFault}
@@ -28,11 +29,11 @@ use Rattle.fap_model.specs.Cards.{cards_of}
 use Rattle.fap_model.specs.Decks.{Assembled, deck, faulty, assembled}
 use Rattle.user_model.specs.Inner.{Inner, blocks_of}
 use Rattle.user_model.specs.declared.Command.{Command}
-use Rattle.user_model.specs.declared.Command.TheVariants.{Empty, Logout, LoadGo, List as Lists, Print, Rename, Delete, ChangeMode, Input, Assemble, Start, Save, Resume, Registers, WordAt, BadArguments, Unknown}
+use Rattle.user_model.specs.declared.Command.TheVariants.{Empty, Logout, LoadGo, List as Lists, Print, Rename, Delete, ChangeMode, Input, CopyTo, CopyFrom, Assemble, Start, Save, Resume, Registers, WordAt, BadArguments, Unknown}
 use Rattle.user_model.specs.Requests.{command_of}
-use Rattle.user_model.specs.Commands.{command_row, prepared, resumed, is_dormant, if_dormant, cards_name, assembly_put, cards_assembled, changed, input_made, input_begun, input_row, line_entered}
-use Rattle.user_model.specs.Programs.{step_row, entry_row, call_row, file_told, file_read, files_changed, program_row}
-use Rattle.user_model.specs.Session.{user_rows, act_in, line_row}
+use Rattle.user_model.specs.Commands.{command_row, command_replied, copy_target, words_copied, prepared, resumed, is_dormant, if_dormant, cards_name, assembly_put, cards_assembled, changed, input_made, input_begun, input_row, line_entered}
+use Rattle.user_model.specs.Programs.{step_row, step_replied, entry_row, entry_replied, call_row, call_replied, reply_taken, file_told, file_read, files_changed, program_row, program_replied}
+use Rattle.user_model.specs.Session.{user_rows, act_in, act_by, asks_common_in, replied_in, line_replied, line_row}
 use Rattle.user_model.specs.User.{User, step, ending}
 
 -- where an outcome goes on, the size is as it was
@@ -68,6 +69,10 @@ call_stays (WriteFile name at count place) i l n t = files_stay i 3 (written nam
 call_stays (DeleteFile name) i l n t = files_stay i 1 (deleted name i.files)
 call_stays (RenameFile name to) i l n t = files_stay i 2 (renamed name to i.files)
 call_stays (ChangesMode name mode) i l n t = files_stay i 2 (moded name mode i.files)
+call_stays (CommonStat name) i l n t = λ e. refl
+call_stays (CommonRead name at count place) i l n t = λ e. refl
+call_stays (CommonWrite name at count place) i l n t = λ e. refl
+call_stays (CommonDelete name) i l n t = λ e. refl
 call_stays EndsDead i l n t = λ e. cc
 call_stays EndsDormant i l n t = λ e. cc
 
@@ -135,6 +140,8 @@ command_stays (Rename name to) i n t = change_stays (renamed name to i.files) i 
 command_stays (Delete name) i n t = change_stays (deleted name i.files) i n t
 command_stays (ChangeMode name mode) i n t = change_stays (moded name mode i.files) i n t
 command_stays (Input name) i n t = begun_stays name (file_named name i.files) i n t
+command_stays (CopyTo name) i n t = λ e. cc
+command_stays (CopyFrom name) i n t = λ e. cc
 command_stays (Assemble name) i n t = cards_stay name (got (cards_name name) i.files) i n t
 command_stays Start i n t = dormant_stays _ i n t (λ e. cc)
 command_stays (Save name) i n t = dormant_stays _ i n t (change_stays (put (saved_name name) (saved i.blocks i.regs i.core) i.account.tracks i.files) i n t)
@@ -155,6 +162,69 @@ act_stays Dormant i None n t = λ e. refl
 act_stays Dormant i (Some l) n t = line_stays i.input l i n t
 act_stays Working i l n t = program_stays i.fill i l n t
 
-pub went_stays : (t : ℕ) (p : User) → ending t p ≡ Went → blocks_of (step t p).inner ≡ blocks_of p.inner
+reply_stays : (i : Inner) (arguments at : ℕ) (r : Reply) → SizeStays i (reply_taken i arguments at r)
+reply_stays i arguments at reply.Done = λ e. refl
+reply_stays i arguments at (reply.Size n) = λ e. refl
+reply_stays i arguments at (reply.Words words) = λ e. refl
+reply_stays i arguments at (reply.Refused r) = λ e. refl
+
+call_replied_stays : (c : Call) (i : Inner) (r : Reply) → SizeStays i (call_replied c i r)
+call_replied_stays (ReadLine at count) i r = λ e. refl
+call_replied_stays (WriteLine at count) i r = λ e. refl
+call_replied_stays GetTime i r = λ e. refl
+call_replied_stays GetMemory i r = λ e. refl
+call_replied_stays (SetMemory blocks) i r = λ e. refl
+call_replied_stays (FileStat name) i r = λ e. refl
+call_replied_stays (ReadFile name at count place) i r = λ e. refl
+call_replied_stays (WriteFile name at count place) i r = λ e. refl
+call_replied_stays (DeleteFile name) i r = λ e. refl
+call_replied_stays (RenameFile name to) i r = λ e. refl
+call_replied_stays (ChangesMode name mode) i r = λ e. refl
+call_replied_stays (CommonStat name) i r = reply_stays i 1 0 r
+call_replied_stays (CommonRead name at count place) i r = reply_stays i 3 at r
+call_replied_stays (CommonWrite name at count place) i r = reply_stays i 3 at r
+call_replied_stays (CommonDelete name) i r = reply_stays i 1 0 r
+call_replied_stays EndsDead i r = λ e. refl
+call_replied_stays EndsDormant i r = λ e. refl
+
+entry_replied_stays : (call : Result Call EntryFault) (i : Inner) (r : Reply) → SizeStays i (entry_replied call i r)
+entry_replied_stays (Ok call) i r = call_replied_stays call i r
+entry_replied_stays (Err fault) i r = λ e. refl
+
+step_replied_stays : (s : Step) (i : Inner) (r : Reply) → SizeStays i (step_replied s i r)
+step_replied_stays (went regs core) i r = λ e. refl
+step_replied_stays (halt regs core) i r = λ e. refl
+step_replied_stays (entry w) i r = entry_replied_stays (call_of i.regs i.core w) i r
+step_replied_stays illegal i r = λ e. refl
+step_replied_stays (outside a) i r = λ e. refl
+
+program_replied_stays : (f : Option Fill) (i : Inner) (r : Reply) → SizeStays i (program_replied f i r)
+program_replied_stays (Some f) i r = λ e. refl
+program_replied_stays None i r = step_replied_stays (table i.regs i.core) i r
+
+copied_stays : (name : Option NamePair) (words : List ℕ) (i : Inner) (n t : ℕ) → SizeStays i (words_copied name words i n t)
+copied_stays (Some name) words i n t = change_stays (put name words i.account.tracks i.files) i n t
+copied_stays None words i n t = λ e. cc
+
+command_replied_stays : (c : Command) (i : Inner) (n t : ℕ) (r : Reply) → SizeStays i (command_replied c i n t r)
+command_replied_stays c i n t reply.Done = λ e. cc
+command_replied_stays c i n t (reply.Size k) = λ e. cc
+command_replied_stays c i n t (reply.Words words) = copied_stays (copy_target c) words i n t
+command_replied_stays c i n t (reply.Refused r) = λ e. cc
+
+line_replied_stays : (i : Inner) (l : Option Line) (n t : ℕ) (r : Reply) → SizeStays i (line_replied i l n t r)
+line_replied_stays i None n t r = λ e. refl
+line_replied_stays i (Some l) n t r = command_replied_stays (command_of l) i n t r
+
+replied_stays : (s : ProgramState) (i : Inner) (l : Option Line) (n t : ℕ) (r : Reply) → SizeStays i (replied_in s i l n t r)
+replied_stays Dead i l n t r = line_replied_stays i l n t r
+replied_stays Dormant i l n t r = line_replied_stays i l n t r
+replied_stays Working i l n t r = program_replied_stays i.fill i r
+
+either_stays : (made : Option CommonOp) (i : Inner) (l : Option Line) (n t : ℕ) (r : Reply) → SizeStays i (act_by made i l n t r)
+either_stays None i l n t r = act_stays i.state i l n t
+either_stays (Some op) i l n t r = replied_stays i.state i l n t r
+
+pub went_stays : (t : ℕ) (r : Reply) (p : User) → ending t r p ≡ Went → blocks_of (step t r p).inner ≡ blocks_of p.inner
 unfolding ending step
-went_stays t p e = act_stays p.inner.state p.inner (line_of user_rows p) (suc p.own - before_of user_rows p) _ e
+went_stays t r p e = either_stays (asks_common_in p.inner.state p.inner (line_of user_rows p)) p.inner (line_of user_rows p) (suc p.own - before_of user_rows p) _ r e

@@ -1,7 +1,7 @@
 -- proof: what a row says of a user whose words lie apart: one statement for every supervisor entry and every command.
-use Rattle.std.specs.Prelude.{◌≡◌, ℕ, suc, ◌-◌, Bool, true, false, not, ◌||◌, if◌then◌else◌, List, [], ◌∷◌, ◌++◌, drop, Option, Some, None}
+use Rattle.std.specs.Prelude.{◌≡◌, ℕ, suc, ◌-◌, Bool, true, false, not, ◌&&◌, ◌||◌, if◌then◌else◌, List, [], ◌∷◌, ◌++◌, drop, Option, Some, None}
 use Rattle.std.specs.declared.result.Result.{Result}
-use Rattle.time_sharing.specs.Machine.{Line, Item, Ending}
+use Rattle.time_sharing.specs.Machine.{Line, Item, Ending, CommonOp, Reply}
 use Rattle.time_sharing.specs.Rows.{Outcome, some_line, is_logout, in_line, out_all, first_line}
 use Rattle.ctss_types.specs.Names.{NamePair}
 use Rattle.program_model.specs.declared.Call.{Call}
@@ -9,9 +9,10 @@ use Rattle.program_model.specs.declared.EntryFault.{EntryFault}
 use Rattle.user_model.specs.Inner.{Inner}
 use Rattle.machine_model.specs.Step.{Step}
 use Rattle.program_model.specs.declared.Fill.{Fill}
-use Rattle.user_model.specs.Programs.{step_row, reads_line, asks_time, entry_row, is_read, is_clock, goes, filled_program}
+use Rattle.user_model.specs.Programs.{step_row, reads_line, asks_time, step_asks, entry_row, entry_asks, entry_replied, is_read, is_clock, goes, filled_program}
 use Rattle.user_model.specs.declared.Command.{Command}
-use Rattle.user_model.specs.Commands.{command_row, input_row}
+use Rattle.user_model.specs.Commands.{command_row, command_asks, command_replied, input_row}
+use Rattle.user_model.specs.Session.{is_none}
 use Rattle.user_model.specs.User.{User, in_core, core_after}
 
 -- how many unread lines are taken
@@ -36,7 +37,7 @@ by_row is_command line o p =
       before = if is_command then p.own else p.before;
     }
 
--- A step could be done and did what a row says: it took this line, ended so, and took the clock or not.
+-- A step could be done, without a common operation, and did what a row says: it took this line, ended so, and took the clock or not.
 abbrev pub IsRow : (can is_command : Bool) → Option Line → Outcome Inner → (asks : Bool) → Ending → (asked : Bool) → (old new : User) → (after : List ℕ) → Type 0
 IsRow can is_command line o asks e asked old new after =
     (can ≡ true) × (new ≡ by_row is_command line o old) × (core_after e o.inner.blocks after ≡ o.inner.core) × (e ≡ o.ending) × (asked ≡ asks)
@@ -50,7 +51,7 @@ step_said s t p = step_row s p.inner (step_line s p) (suc p.own - p.before) t
 
 abbrev pub DidStep : Step → Ending → Bool → ℕ → (old new : User) → (before after : List ℕ) → Type 0
 DidStep s e asked t old new before after =
-    IsRow (not (reads_line s (in_core before old).inner) || some_line old.unread) false (step_line s (in_core before old)) (step_said s t (in_core before old))
+    IsRow (is_none (step_asks s (in_core before old).inner) && (not (reads_line s (in_core before old).inner) || some_line old.unread)) false (step_line s (in_core before old)) (step_said s t (in_core before old))
     (asks_time s (in_core before old).inner) e asked old new after
 
 -- a step that stored what was still to be stored
@@ -67,12 +68,23 @@ entry_said call t p c = entry_row call (in_core c p).inner (entry_line call p) (
 -- a step that did what the row of this entry says
 abbrev pub DidEntry : Result Call EntryFault → Ending → Bool → ℕ → (old new : User) → (before after : List ℕ) → Type 0
 DidEntry call e asked t old new before after =
-    IsRow (not (is_read call) || some_line old.unread) false (entry_line call old) (entry_said call t old before) (is_clock call) e asked old new after
+    IsRow (is_none (entry_asks call before) && (not (is_read call) || some_line old.unread)) false (entry_line call old) (entry_said call t old before) (is_clock call) e asked old new after
 
 -- a step that did what the row of this command says
 abbrev pub DidCommand : Line → Command → Ending → Bool → ℕ → (old new : User) → (before after : List ℕ) → Type 0
-DidCommand l command e asked t old new before after = IsRow true true (Some l) (command_row command (in_core before old).inner 1 t) true e asked old new after
+DidCommand l command e asked t old new before after =
+    IsRow (is_none (command_asks command (in_core before old).inner)) true (Some l) (command_row command (in_core before old).inner 1 t) true e asked old new after
 
 -- a step that did what the row of a line of INPUT says
 abbrev pub DidInput : Line → NamePair → Ending → Bool → (old new : User) → (before after : List ℕ) → Type 0
 DidInput l name e asked old new before after = IsRow true false (Some l) (input_row name l (in_core before old).inner (suc old.own - old.before)) false e asked old new after
+
+-- a step at a supervisor entry that made this common operation, with this reply
+abbrev pub EntryReplied : Result Call EntryFault → CommonOp → Reply → Ending → Bool → (old new : User) → (before after : List ℕ) → Type 0
+EntryReplied call op r e asked old new before after =
+    (entry_asks call before ≡ Some op) × IsRow true false None (entry_replied call (in_core before old).inner r) false e asked old new after
+
+-- a step of a command that made this common operation, with this reply
+abbrev pub CommandReplied : Line → Command → CommonOp → Reply → Ending → Bool → ℕ → (old new : User) → (before after : List ℕ) → Type 0
+CommandReplied l command op r e asked t old new before after =
+    (command_asks command (in_core before old).inner ≡ Some op) × IsRow true true (Some l) (command_replied command (in_core before old).inner 1 t r) true e asked old new after

@@ -4,9 +4,11 @@ use Rattle.std.specs.declared.result.Result.{Result}
 use Rattle.ctss_types.specs.Names.{NamePair}
 use Rattle.ctss_types.specs.Words.{name_of}
 use Rattle.ctss_types.specs.declared.file.FileBody.{FileBody}
+use Rattle.ctss_types.specs.declared.file.CommonOp.TheVariants as op
 use Rattle.ctss_types.specs.declared.file.Refusal.{Refusal}
+use Rattle.ctss_types.specs.declared.file.Reply.TheVariants.{Done, Size, Words, Refused}
 use Rattle.ctss_types.specs.declared.file.Refusal.TheVariants.{NameUsed}
-use Rattle.time_sharing.specs.Machine.{Line, Stopped, Resized, Replaced, LoggedOut}
+use Rattle.time_sharing.specs.Machine.{Line, Stopped, Resized, Replaced, LoggedOut, CommonOp, Reply}
 use Rattle.time_sharing.specs.Rows.{Outcome}
 use Rattle.file_model.specs.Files.{file_named, got, put, appended, renamed, deleted, moded, lasting}
 use Rattle.file_model.specs.Texts.{listing_lines, refusal_text}
@@ -23,7 +25,7 @@ use Rattle.program_model.specs.Decks.{deck_of, deck_name}
 use Rattle.program_model.specs.Saved.{saved, saved_of, saved_name, register_lines, word_line}
 use Rattle.program_model.specs.Lines.{lines_of_words, words_of_line}
 use Rattle.user_model.specs.declared.Command.{Command}
-use Rattle.user_model.specs.declared.Command.TheVariants.{Empty, Logout, LoadGo, List as Lists, Print, Rename, Delete, ChangeMode, Input, Assemble, Start, Save, Resume, Registers, WordAt, BadArguments, Unknown}
+use Rattle.user_model.specs.declared.Command.TheVariants.{Empty, Logout, LoadGo, List as Lists, Print, Rename, Delete, ChangeMode, Input, CopyTo, CopyFrom, Assemble, Start, Save, Resume, Registers, WordAt, BadArguments, Unknown}
 use Rattle.user_model.specs.Inner.{Inner, zeros, without_program}
 use Rattle.user_model.specs.Texts.{time_text, ready_text, logged_out_text, fault_text}
 
@@ -109,7 +111,12 @@ abbrev pub cards_assembled : ℕ → Result (List ℕ) Refusal → Inner → ℕ
 cards_assembled name (Ok words) i n t = assembly_put name (assembled (cards_of words)) i n t
 cards_assembled name (Err r) i n t = says (refusal_text r ∷ []) i n t
 
--- the row of a command, with n own steps since it and the clock at t
+-- why a file isn't read
+abbrev pub why_not : Result (List ℕ) Refusal → List Line
+why_not (Ok words) = []
+why_not (Err r) = refusal_text r ∷ []
+
+-- the row of a command that makes no common operation, with n own steps since it and the clock at t
 abbrev pub command_row : Command → Inner → ℕ → ℕ → Outcome Inner
 command_row Empty i n t = says [] i n t
 command_row Logout i n t =
@@ -126,6 +133,8 @@ command_row (Rename name to) i n t = changed (renamed name to i.files) i n t
 command_row (Delete name) i n t = changed (deleted name i.files) i n t
 command_row (ChangeMode name mode) i n t = changed (moded name mode i.files) i n t
 command_row (Input name) i n t = input_begun name (file_named name i.files) i n t
+command_row (CopyTo name) i n t = says (why_not (got name i.files)) i n t
+command_row (CopyFrom name) i n t = says [] i n t
 command_row (Assemble name) i n t = cards_assembled name (got (cards_name name) i.files) i n t
 command_row Start i n t = if_dormant (started i t) i n t
 command_row (Save name) i n t =
@@ -135,6 +144,33 @@ command_row Registers i n t = if_dormant (says (register_lines i.regs) i n t) i 
 command_row (WordAt place) i n t = if_dormant (says (word_line i.core place ∷ []) i n t) i n t
 command_row BadArguments i n t = says (codes "BAD ARGUMENTS" ∷ []) i n t
 command_row Unknown i n t = says (codes "NOT A COMMAND" ∷ []) i n t
+
+-- a copy goes to the common files where the user's own file is read
+abbrev pub copy_of : NamePair → Result (List ℕ) Refusal → Option CommonOp
+copy_of name (Ok words) = Some (op.Put name words)
+copy_of name (Err r) = None
+
+-- the common operation that a command makes
+abbrev pub command_asks : Command → Inner → Option CommonOp
+command_asks (CopyTo name) i = copy_of name (got name i.files)
+command_asks (CopyFrom name) i = Some (op.Get name)
+command_asks _ i = None
+
+-- the file of the user's own that words of a common file are put as
+abbrev pub copy_target : Command → Option NamePair
+copy_target (CopyFrom name) = Some name
+copy_target _ = None
+
+abbrev pub words_copied : Option NamePair → List ℕ → Inner → ℕ → ℕ → Outcome Inner
+words_copied (Some name) words i n t = changed (put name words i.account.tracks i.files) i n t
+words_copied None words i n t = says [] i n t
+
+-- the row of a command that made a common operation
+abbrev pub command_replied : Command → Inner → ℕ → ℕ → Reply → Outcome Inner
+command_replied c i n t Done = says [] i n t
+command_replied c i n t (Size k) = says [] i n t
+command_replied c i n t (Words words) = words_copied (copy_target c) words i n t
+command_replied c i n t (Refused r) = says (refusal_text r ∷ []) i n t
 
 -- INPUT is over, with this text and R n
 abbrev pub input_ends : List Line → Inner → ℕ → Outcome Inner

@@ -1,17 +1,19 @@
 -- claim: the steps of a program that works: what each end of an instruction and each supervisor entry does.
-use Rattle.std.specs.Prelude.{ℕ, ◌+◌, ◌*◌, Bool, true, false, if◌then◌else◌, ◌||◌, nat_eq, nat_lt, List, [], ◌∷◌, ◌++◌, length, codes, Option, Some, None, Ok, Err}
+use Rattle.std.specs.Prelude.{ℕ, ◌+◌, ◌*◌, Bool, true, false, if◌then◌else◌, ◌||◌, nat_eq, nat_lt, nat_le, List, [], ◌∷◌, ◌++◌, length, codes, Option, Some, None, Ok, Err}
 use Rattle.std.specs.declared.result.Result.{Result}
-use Rattle.time_sharing.specs.Machine.{Line, Went, Stopped, Resized}
+use Rattle.time_sharing.specs.Machine.{Line, Went, Stopped, Resized, CommonOp, Reply}
 use Rattle.time_sharing.specs.Rows.{Outcome}
 use Rattle.ctss_types.specs.declared.file.FileBody.{FileBody}
+use Rattle.ctss_types.specs.declared.file.CommonOp.TheVariants as op
 use Rattle.ctss_types.specs.declared.file.Refusal.{Refusal}
+use Rattle.ctss_types.specs.declared.file.Reply.TheVariants.{Done, Size, Words, Refused}
 use Rattle.file_model.specs.declared.Stat.{Stat}
 use Rattle.file_model.specs.Files.{stat, read, got, written, renamed, deleted, moded}
 use Rattle.file_model.specs.Texts.{refusal_number}
 use Rattle.machine_model.specs.Step.{Step, went, halt, entry, illegal, outside}
 use Rattle.machine_model.specs.Machine.{table}
 use Rattle.program_model.specs.declared.Call.{Call}
-use Rattle.program_model.specs.declared.Call.TheVariants.{ReadLine, WriteLine, GetTime, GetMemory, SetMemory, FileStat, ReadFile, WriteFile, DeleteFile, RenameFile, ChangeMode, Dead, Dormant}
+use Rattle.program_model.specs.declared.Call.TheVariants.{ReadLine, WriteLine, GetTime, GetMemory, SetMemory, FileStat, ReadFile, WriteFile, DeleteFile, RenameFile, ChangeMode, CommonStat, CommonRead, CommonWrite, CommonDelete, Dead, Dormant}
 use Rattle.program_model.specs.declared.EntryFault.{EntryFault}
 use Rattle.program_model.specs.declared.EntryFault.TheVariants.{NoSuchEntry, Outside}
 use Rattle.program_model.specs.declared.ProgramState.TheVariants as program
@@ -71,7 +73,11 @@ abbrev pub files_changed : Inner → ℕ → Result (List FileBody) Refusal → 
 files_changed i arguments (Ok files) = goes (record (replied i arguments 0 None) { files = files })
 files_changed i arguments (Err r) = refused i arguments r
 
--- the row of an entry, with the line that it takes, n own steps since the command, and the clock at t
+-- a call on a common file makes no operation where it has more than 432 words
+abbrev pub is_common_count : ℕ → Bool
+is_common_count count = nat_le count 432
+
+-- the row of an entry that makes no common operation, with the line that it takes, n own steps since the command, and the clock at t
 abbrev pub call_row : Call → Inner → Option Line → ℕ → ℕ → Outcome Inner
 call_row (ReadLine at count) i l n t = if is_line_count count then read_line i at count l else goes (replied i 1 7 None)
 call_row (WriteLine at count) i l n t = if is_line_count count then write_line i at count else goes (replied i 1 7 None)
@@ -84,13 +90,48 @@ call_row (WriteFile name at count place) i l n t = files_changed i 3 (written na
 call_row (DeleteFile name) i l n t = files_changed i 1 (deleted name i.files)
 call_row (RenameFile name to) i l n t = files_changed i 2 (renamed name to i.files)
 call_row (ChangeMode name mode) i l n t = files_changed i 2 (moded name mode i.files)
+call_row (CommonStat name) i l n t = goes (replied i 1 7 None)
+call_row (CommonRead name at count place) i l n t = goes (replied i 3 7 None)
+call_row (CommonWrite name at count place) i l n t = goes (replied i 3 7 None)
+call_row (CommonDelete name) i l n t = goes (replied i 1 7 None)
 call_row Dead i l n t = record { inner = without_program i; written = ready_text n ∷ []; front = []; ending = Stopped }
 call_row Dormant i l n t = stops [] (replied i 0 0 None) n
+
+-- the common operation that a call makes
+abbrev pub call_asks : Call → List ℕ → Option CommonOp
+call_asks (CommonStat name) core = Some (op.Stat name)
+call_asks (CommonRead name at count place) core = if is_common_count count then Some (op.Read name place count) else None
+call_asks (CommonWrite name at count place) core = if is_common_count count then Some (op.Write name place (words_at core at count)) else None
+call_asks (CommonDelete name) core = Some (op.Delete name)
+call_asks _ core = None
+
+-- a call that made a common operation, with so many arguments, takes its reply; words go to a buffer
+abbrev pub reply_taken : Inner → (arguments at : ℕ) → Reply → Outcome Inner
+reply_taken i arguments at Done = goes (replied i arguments 0 None)
+reply_taken i arguments at (Size n) = goes (replied i arguments 0 (Some n))
+reply_taken i arguments at (Words words) = goes (record (replied i arguments 0 None) { core = with_words i.core at words })
+reply_taken i arguments at (Refused r) = refused i arguments r
+
+-- the row of an entry that made a common operation
+abbrev pub call_replied : Call → Inner → Reply → Outcome Inner
+call_replied (CommonStat name) i r = reply_taken i 1 0 r
+call_replied (CommonRead name at count place) i r = reply_taken i 3 at r
+call_replied (CommonWrite name at count place) i r = reply_taken i 3 at r
+call_replied (CommonDelete name) i r = reply_taken i 1 0 r
+call_replied _ i r = goes i
 
 abbrev pub entry_row : Result Call EntryFault → Inner → Option Line → ℕ → ℕ → Outcome Inner
 entry_row (Ok call) i l n t = call_row call i l n t
 entry_row (Err NoSuchEntry) i l n t = stops (stop_text (codes "NO ENTRY") i.regs.ic ∷ []) i n
 entry_row (Err (Outside a)) i l n t = stops (stop_text (codes "PROTECTION") i.regs.ic ∷ []) i n
+
+abbrev pub entry_asks : Result Call EntryFault → List ℕ → Option CommonOp
+entry_asks (Ok call) core = call_asks call core
+entry_asks (Err fault) core = None
+
+abbrev pub entry_replied : Result Call EntryFault → Inner → Reply → Outcome Inner
+entry_replied (Ok call) i r = call_replied call i r
+entry_replied (Err fault) i r = goes i
 
 -- the row of what the machine's step gives; the place is that of the instruction
 abbrev pub step_row : Step → Inner → Option Line → ℕ → ℕ → Outcome Inner
@@ -124,6 +165,21 @@ asks_time (entry w) i = is_clock (call_of i.regs i.core w)
 asks_time illegal i = false
 asks_time (outside a) i = false
 
+-- what a step makes of the common files, and what it does with the reply
+abbrev pub step_asks : Step → Inner → Option CommonOp
+step_asks (went r core) i = None
+step_asks (halt r core) i = None
+step_asks (entry w) i = entry_asks (call_of i.regs i.core w) i.core
+step_asks illegal i = None
+step_asks (outside a) i = None
+
+abbrev pub step_replied : Step → Inner → Reply → Outcome Inner
+step_replied (went r core) i reply = goes i
+step_replied (halt r core) i reply = goes i
+step_replied (entry w) i reply = entry_replied (call_of i.regs i.core w) i reply
+step_replied illegal i reply = goes i
+step_replied (outside a) i reply = goes i
+
 -- a program is filled with the words of its file
 abbrev pub filled_program : Fill → Inner → Inner
 filled_program f i =
@@ -142,3 +198,11 @@ program_reads None i = reads_line (table i.regs i.core) i
 abbrev pub program_asks : Option Fill → Inner → Bool
 program_asks (Some f) i = false
 program_asks None i = asks_time (table i.regs i.core) i
+
+abbrev pub program_asks_common : Option Fill → Inner → Option CommonOp
+program_asks_common (Some f) i = None
+program_asks_common None i = step_asks (table i.regs i.core) i
+
+abbrev pub program_replied : Option Fill → Inner → Reply → Outcome Inner
+program_replied (Some f) i reply = goes i
+program_replied None i reply = step_replied (table i.regs i.core) i reply

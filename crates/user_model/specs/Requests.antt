@@ -5,7 +5,7 @@ use Rattle.ctss_types.specs.Names.{NamePair}
 use Rattle.ctss_types.specs.Words.{words_of, name_of}
 use Rattle.time_sharing.specs.Machine.{Line}
 use Rattle.user_model.specs.declared.Command.{Command}
-use Rattle.user_model.specs.declared.Command.TheVariants.{Empty, Logout, LoadGo, List as Lists, Print, Rename, Delete, ChangeMode, Input, Assemble, Start, Save, Resume, Registers, WordAt, BadArguments, Unknown}
+use Rattle.user_model.specs.declared.Command.TheVariants.{Empty, Logout, LoadGo, List as Lists, Print, Rename, Delete, ChangeMode, Input, CopyTo, CopyFrom, Assemble, Start, Save, Resume, Registers, WordAt, BadArguments, Unknown}
 
 -- a word of at most six characters is a name
 abbrev pub word_name : Line → Option ℕ
@@ -72,6 +72,13 @@ post_mortem_of [] = Registers
 post_mortem_of (w ∷ []) = if_some (λ place. WordAt place) (place_in w)
 post_mortem_of _ = BadArguments
 
+-- TO or FROM, and a file
+abbrev pub copy_by : List Line → Command
+copy_by [] = BadArguments
+copy_by (w ∷ ws) =
+    if bytes_eq w (codes "TO") then with_file (λ name. CopyTo name) ws
+    else (if bytes_eq w (codes "FROM") then with_file (λ name. CopyFrom name) ws else BadArguments)
+
 -- what the words behind a command's name ask for
 abbrev pub command_by : Line → List Line → Command
 command_by w ws =
@@ -83,11 +90,12 @@ command_by w ws =
     else (if bytes_eq w (codes "DELETE") then with_file (λ name. Delete name) ws
     else (if bytes_eq w (codes "CHMODE") then chmode_of ws
     else (if bytes_eq w (codes "INPUT") then with_file (λ name. Input name) ws
+    else (if bytes_eq w (codes "COPY") then copy_by ws
     else (if bytes_eq w (codes "FAP") then with_name (λ name. Assemble name) ws
     else (if bytes_eq w (codes "START") then alone Start ws
     else (if bytes_eq w (codes "SAVE") then with_name (λ name. Save name) ws
     else (if bytes_eq w (codes "RESUME") then with_name (λ name. Resume name) ws
-    else (if bytes_eq w (codes "PM") then post_mortem_of ws else Unknown))))))))))))
+    else (if bytes_eq w (codes "PM") then post_mortem_of ws else Unknown)))))))))))))
 
 abbrev pub command_of_words : List Line → Command
 command_of_words [] = Empty

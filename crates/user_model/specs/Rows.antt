@@ -3,13 +3,16 @@ use Rattle.std.specs.Prelude.{◌≡◌, ℕ, List, [], ◌∷◌, replicate, co
 use Rattle.ctss_types.specs.Names.{NamePair}
 use Rattle.ctss_types.specs.Words.{name_of}
 use Rattle.ctss_types.specs.declared.file.FileBody.{FileBody}
+use Rattle.ctss_types.specs.declared.file.CommonOp.TheVariants.{Put, Get}
+use Rattle.ctss_types.specs.declared.file.Refusal.TheVariants.{ReadOnly}
+use Rattle.ctss_types.specs.declared.file.Reply.TheVariants.{Done, Words, Refused}
 use Rattle.time_sharing.specs.Machine.{Line, Quit, Stopped}
 use Rattle.time_sharing.specs.Rows.{Outcome}
-use Rattle.user_model.specs.declared.Command.TheVariants.{Empty, LoadGo, List as Lists, Print, Rename, Delete, ChangeMode, Input, Assemble, Start, Save, Resume, Registers, WordAt, BadArguments, Unknown}
+use Rattle.user_model.specs.declared.Command.TheVariants.{Empty, LoadGo, List as Lists, Print, Rename, Delete, ChangeMode, Input, CopyTo, CopyFrom, Assemble, Start, Save, Resume, Registers, WordAt, BadArguments, Unknown}
 use Rattle.program_model.specs.Lines.{words_of_line}
 use Rattle.user_model.specs.Inner.{Inner}
 use Rattle.user_model.specs.Requests.{command_of}
-use Rattle.user_model.specs.Commands.{command_row, input_row}
+use Rattle.user_model.specs.Commands.{command_row, command_asks, command_replied, input_row}
 use Rattle.user_model.specs.Session.{first_state, inner_cut}
 
 abbrev pub pair : Line → Line → NamePair
@@ -96,3 +99,19 @@ pub record RowOfAssembly : Type 0 where
   pub faults : command_row (Assemble greeting) (typist 2 (cards (codes "       CLX     1") ∷ []) None) 1 0
       ≡ outcome (typist 2 (cards (codes "       CLX     1") ∷ []) None) (midnight ∷ codes "CARD 1 FAULT 1" ∷ codes "CARD 2 FAULT 6" ∷ codes "R 1" ∷ [])
   pub absent : command_row (Assemble greeting) (typist 2 [] None) 1 0 ≡ outcome (typist 2 [] None) (midnight ∷ codes "FILE NOT FOUND" ∷ codes "R 1" ∷ [])
+
+pub record RowOfCopies : Type 0 where
+  pub to : command_of (codes "COPY TO NOTES TEXT") ≡ CopyTo notes
+  pub from : command_of (codes "COPY FROM NOTES TEXT") ≡ CopyFrom notes
+  pub neither : command_of (codes "COPY INTO NOTES TEXT") ≡ BadArguments
+  pub alone : command_of (codes "COPY") ≡ BadArguments
+  pub put : command_asks (CopyTo notes) (typist 1 (file words_of_hi ∷ []) None) ≡ Some (Put notes words_of_hi)
+  pub got : command_asks (CopyFrom notes) (typist 1 [] None) ≡ Some (Get notes)
+  -- no operation is made of a file that isn't there
+  pub none : command_asks (CopyTo notes) (typist 1 [] None) ≡ None
+  pub absent : command_row (CopyTo notes) (typist 1 [] None) 1 0 ≡ outcome (typist 1 [] None) (midnight ∷ codes "FILE NOT FOUND" ∷ codes "R 1" ∷ [])
+  pub done : command_replied (CopyTo notes) (typist 1 (file [] ∷ []) None) 1 0 Done ≡ outcome (typist 1 (file [] ∷ []) None) (midnight ∷ codes "R 1" ∷ [])
+  pub refused : command_replied (CopyTo notes) (typist 1 (file [] ∷ []) None) 1 0 (Refused ReadOnly)
+      ≡ outcome (typist 1 (file [] ∷ []) None) (midnight ∷ codes "READ ONLY" ∷ codes "R 1" ∷ [])
+  pub copied : command_replied (CopyFrom notes) (typist 1 [] None) 1 0 (Words words_of_hi) ≡ outcome (typist 1 (file words_of_hi ∷ []) None) (midnight ∷ codes "R 1" ∷ [])
+  pub full : command_replied (CopyFrom notes) (typist 0 [] None) 1 0 (Words words_of_hi) ≡ outcome (typist 0 [] None) (midnight ∷ codes "QUOTA EXCEEDED" ∷ codes "R 1" ∷ [])

@@ -3,7 +3,7 @@ use Rattle.std.specs.Prelude.{ℕ, Bool, true, false, not, ◌&&◌, List, [], �
 use Rattle.ctss_types.specs.Names.{NamePair}
 use Rattle.ctss_types.specs.declared.script.Account.{Account}
 use Rattle.ctss_types.specs.declared.file.FileBody.{FileBody}
-use Rattle.time_sharing.specs.Machine.{Line, CutKind, Quit, Hang, Spent, End}
+use Rattle.time_sharing.specs.Machine.{Line, CutKind, Quit, Hang, Spent, End, CommonOp, Reply}
 use Rattle.time_sharing.specs.Rows.{Rows, Outcome, Private}
 use Rattle.file_model.specs.Files.{lasting}
 use Rattle.cpu_regs.specs.Registers.{no_registers}
@@ -12,8 +12,8 @@ use Rattle.program_model.specs.declared.ProgramState.TheVariants.{Dead, Dormant,
 use Rattle.user_model.specs.Inner.{Inner, without_program}
 use Rattle.user_model.specs.Texts.{logged_in_text, ready_text}
 use Rattle.user_model.specs.Requests.{command_of}
-use Rattle.user_model.specs.Commands.{command_row, input_row}
-use Rattle.user_model.specs.Programs.{goes, program_row, program_reads, program_asks}
+use Rattle.user_model.specs.Commands.{command_row, command_asks, command_replied, input_row}
+use Rattle.user_model.specs.Programs.{goes, program_row, program_reads, program_asks, program_asks_common, program_replied}
 
 -- without a program that works each step takes a line: of INPUT, or a command
 abbrev pub line_row : Option NamePair → Line → Inner → ℕ → ℕ → Outcome Inner
@@ -59,6 +59,36 @@ asks_clock_in Dead i l = is_none i.input && some_text l
 asks_clock_in Dormant i l = is_none i.input && some_text l
 asks_clock_in Working i l = program_asks i.fill i
 
+-- a line of INPUT makes no common operation
+abbrev pub line_asks : Option NamePair → Line → Inner → Option CommonOp
+line_asks None l i = command_asks (command_of l) i
+line_asks (Some name) l i = None
+
+abbrev pub line_asks_common : Inner → Option Line → Option CommonOp
+line_asks_common i None = None
+line_asks_common i (Some l) = line_asks i.input l i
+
+-- the common operation that a step makes
+abbrev pub asks_common_in : ProgramState → Inner → Option Line → Option CommonOp
+asks_common_in Dead i l = line_asks_common i l
+asks_common_in Dormant i l = line_asks_common i l
+asks_common_in Working i l = program_asks_common i.fill i
+
+abbrev pub line_replied : Inner → Option Line → ℕ → ℕ → Reply → Outcome Inner
+line_replied i None n t r = goes i
+line_replied i (Some l) n t r = command_replied (command_of l) i n t r
+
+-- a step that made a common operation, with its reply
+abbrev pub replied_in : ProgramState → Inner → Option Line → ℕ → ℕ → Reply → Outcome Inner
+replied_in Dead i l n t r = line_replied i l n t r
+replied_in Dormant i l n t r = line_replied i l n t r
+replied_in Working i l n t r = program_replied i.fill i r
+
+-- a step, by whether it made a common operation
+abbrev pub act_by : Option CommonOp → Inner → Option Line → ℕ → ℕ → Reply → Outcome Inner
+act_by None i l n t r = act_in i.state i l n t
+act_by (Some op) i l n t r = replied_in i.state i l n t r
+
 -- a quit stops a program that works
 abbrev pub quitted : ProgramState → ProgramState
 quitted Dead = Dead
@@ -84,8 +114,8 @@ user_rows =
       takes_line = λ i. takes_line_in i.state i;
       is_command = counts_anew;
       asks_clock = λ i l. asks_clock_in i.state i l;
-      asks_common = λ i l. None;
-      act = λ i l n k t r. act_in i.state i l n t;
+      asks_common = λ i l. asks_common_in i.state i l;
+      act = λ i l n k t r. act_by (asks_common_in i.state i l) i l n t r;
       opened = λ i. i;
       opened_text = λ i. logged_in_text i.account.name ∷ [];
       cut = inner_cut;

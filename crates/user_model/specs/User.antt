@@ -1,6 +1,6 @@
 -- claim: one user's machine, closed: what contracts cite.
-use Rattle.std.specs.Prelude.{◌≡◌, ℕ, Bool, true, List}
-use Rattle.time_sharing.specs.Machine.{Line, CutKind, Ending, Went, Stopped, Resized, Replaced, LoggedOut, Done}
+use Rattle.std.specs.Prelude.{◌≡◌, ℕ, Bool, true, List, Option}
+use Rattle.time_sharing.specs.Machine.{Line, CutKind, Ending, Went, Stopped, Resized, Replaced, LoggedOut, CommonOp, Reply}
 use Rattle.time_sharing.specs.Rows.{Private, machine}
 use Rattle.time_sharing.specs.System.{clock_for}
 use Rattle.user_model.specs.Inner.{Inner, zeros, recut}
@@ -25,12 +25,15 @@ can_step p = (machine user_rows).can_step p
 unfoldable pub asks_clock : User → Bool
 asks_clock p = (machine user_rows).asks_clock p
 
--- a step with the clock at t, where one can be done
-unfoldable pub step : ℕ → User → User
-step t p = (machine user_rows).step p (clock_for ((machine user_rows).asks_clock p) t) Done
+unfoldable pub asks_common : User → Option CommonOp
+asks_common p = (machine user_rows).asks_common p
 
-unfoldable pub ending : ℕ → User → Ending
-ending t p = (machine user_rows).ending p (clock_for ((machine user_rows).asks_clock p) t) Done
+-- a step with the clock at t and this reply, where one can be done
+unfoldable pub step : ℕ → Reply → User → User
+step t r p = (machine user_rows).step p (clock_for ((machine user_rows).asks_clock p) t) r
+
+unfoldable pub ending : ℕ → Reply → User → Ending
+ending t r p = (machine user_rows).ending p (clock_for ((machine user_rows).asks_clock p) t) r
 
 -- the user with these words in core
 abbrev pub in_core : List ℕ → User → User
@@ -45,10 +48,11 @@ core_after Stopped blocks core = recut blocks core
 core_after Resized blocks core = recut blocks core
 core_after LoggedOut blocks core = recut blocks core
 
--- A step that ends so, and takes the clock or not: of a user with these words before it, which is then this user with
--- these words.
-pub record IsStep (e : Ending) (asked : Bool) (t : ℕ) (old new : User) (before after : List ℕ) : Type 0 where
+-- A step that ends so, takes the clock or not, and made this common operation or none, with this reply: of a user with these words
+-- before it, which is then this user with these words.
+pub record IsStep (e : Ending) (asked : Bool) (made : Option CommonOp) (t : ℕ) (r : Reply) (old new : User) (before after : List ℕ) : Type 0 where
   pub can : can_step (in_core before old) ≡ true
-  pub left : in_core (core_after e new.inner.blocks after) new ≡ step t (in_core before old)
-  pub ends : e ≡ ending t (in_core before old)
+  pub left : in_core (core_after e new.inner.blocks after) new ≡ step t r (in_core before old)
+  pub ends : e ≡ ending t r (in_core before old)
   pub asks : asked ≡ asks_clock (in_core before old)
+  pub makes : made ≡ asks_common (in_core before old)

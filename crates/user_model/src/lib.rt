@@ -5,7 +5,7 @@
 //! (the user's machine, closed, as contracts cite it), `Rows` (worked rows).
 #![tactic(auto)]
 
-ghost use Rattle.user_model.specs.Rows.{RowOfRequests, RowOfInput, RowOfAssembly};
+ghost use Rattle.user_model.specs.Rows.{RowOfRequests, RowOfInput, RowOfAssembly, RowOfCopies};
 
 use ctss_types::FileName;
 use word36::Word;
@@ -28,6 +28,10 @@ pub enum Command {
     ChangeMode { name: FileName, mode: u8 },
     /// INPUT: the lines that come go to a new file, up to an empty line.
     Input(FileName),
+    /// COPY TO: the file is copied to the common files.
+    CopyTo(FileName),
+    /// COPY FROM: a common file is copied to the user's.
+    CopyFrom(FileName),
     /// FAP: the cards of a file are assembled, and their deck is put under this name.
     Assemble(Word),
     /// START: the program that stopped goes on.
@@ -62,4 +66,10 @@ pub fn row_of_input()
 #[tactic(auto, using(crate::proofs::RowsComputed::row_of_assembly))]
 pub fn row_of_assembly()
     ensures { RowOfAssembly }
+{}
+
+/// A file copied to the common files, and from them.
+#[tactic(auto, using(crate::proofs::RowsComputed::row_of_copies))]
+pub fn row_of_copies()
+    ensures { RowOfCopies }
 {}

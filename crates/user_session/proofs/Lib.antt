@@ -1,4 +1,3 @@
 pub mod Enters
 pub mod Files
-pub mod Texts
 pub mod Turns

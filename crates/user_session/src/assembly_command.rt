@@ -50,7 +50,8 @@ impl Session {
         requires on { self.old.on ≡ true }
         requires size { length (M.words core.now) ≡ 256 * self.old.inner.blocks }
         requires fits { self.old.own < 2 ^ 64 - 1 }
-        ensures row { IfOk result (λ s. DidCommand line (Command.Assemble name) s.ending s.clock now self.old self.new (M.words core.now) (M.words core.now)) }
+        ensures row { IfOk result (λ s. DidCommand line (Command.Assemble name) s.ending s.clock
+            now self.old self.new (M.words core.now) (M.words core.now)) }
         ensures account { self.new.inner.account ≡ self.old.inner.account }
         ensures err { OnErr result (self.new ≡ self.old) }
     {

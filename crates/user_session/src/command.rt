@@ -13,18 +13,18 @@ ghost use Rattle.time_sharing.specs.Rows.{out_all};
 ghost use Rattle.user_model.specs.Session.{works_in};
 ghost use Rattle.user_model.specs.Texts.{time_text, ready_text, logged_out_text};
 ghost use Rattle.user_model.specs.Answers.{DidCommand};
-ghost use Rattle.user_session.specs.Turns.{IsTurn};
+ghost use Rattle.user_session.specs.Turns.{IsTurn, Obeys};
 
-use crate::file_command::{note_command, note_taken};
+use crate::file_command::{DONE, note_command, note_taken};
 use crate::session::{Session, note};
-use crate::text::{load_text, logged_out_text, time_text};
 use crate::{Step, Turn};
 use cmd_program::{PrepareFault, prepare};
 use command_table::command_of;
 use cpu_regs::{MemoryPort, Regs};
-use ctss_types::{Ending, FileName, Item, LineText, NoMemory, name_word};
+use ctss_types::{CommonOp, Ending, FileName, Item, LineText, NoMemory, name_word};
 use file_map::FilePort;
 use program_model::{Deck, Fill, LoadFault, ProgramState};
+use session_text::{load_text, logged_out_text, time_text};
 use user_model::Command;
 use word36::Word;
 
@@ -46,7 +46,8 @@ impl Session {
         requires fits { self.old.own < 2 ^ 64 - 1 }
         ensures ok { OnOk result (self.new ≡ record self.old {
           unread = drop 1 self.old.unread;
-          transcript = self.old.transcript ++ In line ∷ Out (time_text now) ∷ out_all (option_to_list text ++ ready_text 1 ∷ []);
+          transcript = self.old.transcript
+              ++ In line ∷ Out (time_text now) ∷ out_all (option_to_list text ++ ready_text 1 ∷ []);
           own = suc self.old.own;
           before = self.old.own;
         }) }
@@ -84,7 +85,8 @@ impl Session {
         now: u64,
     ) -> Result<Step, NoMemory>
         requires fits { self.old.own < 2 ^ 64 - 1 }
-        ensures row { IfOk result (λ s. DidCommand line Command.Logout s.ending s.clock now self.old self.new (M.words core.now) (M.words core.now)) }
+        ensures row { IfOk result (λ s. DidCommand line Command.Logout s.ending s.clock
+            now self.old self.new (M.words core.now) (M.words core.now)) }
         ensures account { self.new.inner.account ≡ self.old.inner.account }
         ensures err { OnErr result (self.new ≡ self.old) }
     {
@@ -113,7 +115,8 @@ impl Session {
     /// The deck of a program of this name, or why there is none.
     fn read_deck(&mut self, name: Word) -> Result<Result<Deck, LoadFault>, NoMemory>
         ensures same { self.new ≡ self.old }
-        ensures told { IfOk result (λ told. told ≡ deck_of self.old.inner.account.blocks (got (deck_name name) self.old.inner.files)) }
+        ensures told { IfOk result (λ told. told ≡ deck_of self.old.inner.account.blocks (got (deck_name name)
+            self.old.inner.files)) }
         ensures blocks { IfOk result (λ told. IfOk told (λ d. d.blocks ≤ self.old.inner.account.blocks)) }
         ensures start { IfOk result (λ told. IfOk told (λ d. d.start < 2 ^ 15)) }
     {
@@ -168,7 +171,8 @@ impl Session {
         requires on { self.old.on ≡ true }
         requires size { length (M.words core.now) ≡ 256 * self.old.inner.blocks }
         requires fits { self.old.own < 2 ^ 64 - 1 }
-        ensures row { IfOk result (λ s. DidCommand line (Command.LoadGo name) s.ending s.clock now self.old self.new (M.words core.now) (M.words core.now)) }
+        ensures row { IfOk result (λ s. DidCommand line (Command.LoadGo name) s.ending s.clock
+            now self.old self.new (M.words core.now) (M.words core.now)) }
         ensures account { self.new.inner.account ≡ self.old.inner.account }
         ensures err { OnErr result (self.new ≡ self.old) }
     {
@@ -194,7 +198,7 @@ impl Session {
         }
     }
 
-    /// A command is done.
+    /// A command is done, or is to make a common operation first.
     #[tactic(auto, using(user_model::proofs::CoreLaws::recut_same, user_model::proofs::CoreLaws::recut_none))]
     fn obey<M: MemoryPort>(
         &mut self,
@@ -202,49 +206,84 @@ impl Session {
         line: LineText,
         command: Command,
         now: u64,
-    ) -> Result<Step, NoMemory>
+    ) -> Result<Turn, NoMemory>
         requires on { self.old.on ≡ true }
         requires size { length (M.words core.now) ≡ 256 * self.old.inner.blocks }
         requires fits { self.old.own < 2 ^ 64 - 1 }
-        ensures row { IfOk result (λ s. DidCommand line command s.ending s.clock now self.old self.new (M.words core.now) (M.words core.now)) }
+        ensures row { IfOk result (λ turn. Obeys line command turn now self.old self.new (M.words core.now)) }
         ensures account { self.new.inner.account ≡ self.old.inner.account }
         ensures err { OnErr result (self.new ≡ self.old) }
     {
         match command {
             Command::Empty => {
                 self.say(line, None, now)?;
-                Ok(Step {
-                    ending: Ending::Stopped,
-                    clock: true,
-                })
+                Ok(Turn::Done(DONE))
             }
-            Command::Logout => self.log_out(core, line, now),
-            Command::LoadGo(name) => self.load(core, line, name, now),
-            Command::List => self.list_files(core, line, now),
-            Command::Print(name) => self.print_file(core, line, name, now),
-            Command::Rename { name, to } => self.rename(core, line, name, to, now),
-            Command::Delete(name) => self.delete(core, line, name, now),
-            Command::ChangeMode { name, mode } => self.chmode(core, line, name, mode, now),
-            Command::Input(name) => self.begin_input(core, line, name, now),
-            Command::Assemble(name) => self.assemble(core, line, name, now),
-            Command::Start => self.start(core, line, now),
-            Command::Save(name) => self.save(core, line, name, now),
-            Command::Resume(name) => self.resume(core, line, name, now),
-            Command::Registers => self.tell_registers(core, line, now),
-            Command::WordAt { place } => self.tell_word(core, line, place, now),
+            Command::Logout => {
+                let out = self.log_out(core, line, now)?;
+                Ok(Turn::Done(out))
+            }
+            Command::LoadGo(name) => {
+                let done = self.load(core, line, name, now)?;
+                Ok(Turn::Done(done))
+            }
+            Command::List => {
+                let done = self.list_files(core, line, now)?;
+                Ok(Turn::Done(done))
+            }
+            Command::Print(name) => {
+                let done = self.print_file(core, line, name, now)?;
+                Ok(Turn::Done(done))
+            }
+            Command::Rename { name, to } => {
+                let done = self.rename(core, line, name, to, now)?;
+                Ok(Turn::Done(done))
+            }
+            Command::Delete(name) => {
+                let done = self.delete(core, line, name, now)?;
+                Ok(Turn::Done(done))
+            }
+            Command::ChangeMode { name, mode } => {
+                let done = self.chmode(core, line, name, mode, now)?;
+                Ok(Turn::Done(done))
+            }
+            Command::Input(name) => {
+                let done = self.begin_input(core, line, name, now)?;
+                Ok(Turn::Done(done))
+            }
+            Command::CopyTo(name) => self.ask_copy(core, line, name, now),
+            Command::CopyFrom(name) => Ok(Turn::Asks(CommonOp::Get(name))),
+            Command::Assemble(name) => {
+                let done = self.assemble(core, line, name, now)?;
+                Ok(Turn::Done(done))
+            }
+            Command::Start => {
+                let done = self.start(core, line, now)?;
+                Ok(Turn::Done(done))
+            }
+            Command::Save(name) => {
+                let done = self.save(core, line, name, now)?;
+                Ok(Turn::Done(done))
+            }
+            Command::Resume(name) => {
+                let done = self.resume(core, line, name, now)?;
+                Ok(Turn::Done(done))
+            }
+            Command::Registers => {
+                let done = self.tell_registers(core, line, now)?;
+                Ok(Turn::Done(done))
+            }
+            Command::WordAt { place } => {
+                let done = self.tell_word(core, line, place, now)?;
+                Ok(Turn::Done(done))
+            }
             Command::BadArguments => {
                 self.say_why(line, b"BAD ARGUMENTS", now)?;
-                Ok(Step {
-                    ending: Ending::Stopped,
-                    clock: true,
-                })
+                Ok(Turn::Done(DONE))
             }
             Command::Unknown => {
                 self.say_why(line, b"NOT A COMMAND", now)?;
-                Ok(Step {
-                    ending: Ending::Stopped,
-                    clock: true,
-                })
+                Ok(Turn::Done(DONE))
             }
         }
     }
@@ -264,10 +303,15 @@ impl Session {
         let Some(line) = self.first_line() else {
             return Ok(Turn::Waits);
         };
-        let done = match self.input {
-            Some(name) => self.type_line(core, line, name, now)?,
-            None => self.obey(core, line, command_of(&line), now)?,
-        };
-        Ok(Turn::Done(done))
+        match self.input {
+            Some(name) => {
+                let typed = self.type_line(core, line, name, now)?;
+                Ok(Turn::Done(typed))
+            }
+            None => {
+                let turn = self.obey(core, line, command_of(&line), now)?;
+                Ok(turn)
+            }
+        }
     }
 }

@@ -16,11 +16,11 @@ ghost use Rattle.user_model.specs.Texts.{ready_text, stop_text};
 ghost use Rattle.user_session.specs.Turns.{IsTurn, Enters};
 
 use crate::session::{Session, note};
-use crate::text::{ready_text, stop_text};
 use crate::{Step, Turn};
 use cpu_regs::{MemoryPort, Regs};
-use ctss_types::{Ending, Item, LineText, NoMemory};
+use ctss_types::{CommonOp, Ending, Item, LineText, NoMemory};
 use program_model::{Call, EntryFault, ProgramState};
+use session_text::{ready_text, stop_text};
 use tia_entry::{answer, is_line_count, line_in, read_call, store_line};
 use word36::Word;
 
@@ -39,7 +39,11 @@ impl Session {
     /// The program stops, and stays.
     pub(crate) fn stop(&mut self)
         requires { self.old.own < 2 ^ 64 - 1 }
-        ensures { self.new ≡ record self.old { inner = record self.old.inner { state = program.Dormant }; own = suc self.old.own } }
+        ensures { self.new ≡ record self.old {
+          inner = record self.old.inner { state = program.Dormant };
+          own = suc
+              self.old.own;
+        } }
     {
         self.own += 1;
         self.state = ProgramState::Dormant;
@@ -52,7 +56,8 @@ impl Session {
         requires fits { self.old.own < 2 ^ 64 - 1 }
         ensures ok { OnOk result (self.new ≡ record self.old {
           inner = record self.old.inner { state = program.Dormant };
-          transcript = self.old.transcript ++ Out (stop_text why.now self.old.inner.regs.ic) ∷ Out (ready_text (suc self.old.own - self.old.before)) ∷ [];
+          transcript = self.old.transcript ++ Out (stop_text why.now self.old.inner.regs.ic)
+              ∷ Out (ready_text (suc self.old.own - self.old.before)) ∷ [];
           own = suc self.old.own;
         }) }
         ensures given { self.old.given ≡ 0 }
@@ -76,7 +81,8 @@ impl Session {
         requires on { self.old.on ≡ true }
         requires size { length (M.words core.now) ≡ 256 * self.old.inner.blocks }
         requires fits { self.old.own < 2 ^ 64 - 1 }
-        ensures row { IfOk result (λ turn. Enters (Err fault) turn now self.old self.new (M.words core.now) (M.words core.now)) }
+        ensures row { IfOk result (λ turn. Enters (Err fault) turn
+            now self.old self.new (M.words core.now) (M.words core.now)) }
         ensures account { self.new.inner.account ≡ self.old.inner.account }
         ensures err { OnErr result (self.new ≡ self.old) }
     {
@@ -104,7 +110,13 @@ impl Session {
         requires reply { reply ≤ 7 }
         requires value { IfSome value (λ v. v < 2 ^ 35) }
         requires fits { self.old.own < 2 ^ 64 - 1 }
-        ensures user { self.new ≡ record self.old { inner = record self.old.inner { regs = answered self.old.inner.regs arguments reply value }; own = suc self.old.own } }
+        ensures user { self.new ≡ record self.old {
+          inner = record self.old.inner {
+            regs = answered
+                self.old.inner.regs arguments reply value;
+          };
+          own = suc self.old.own;
+        } }
         ensures given { self.old.given ≡ 0 }
     {
         answer(&mut self.regs, arguments, reply, value);
@@ -132,7 +144,8 @@ impl Session {
         requires size { length (M.words core.old) ≡ 256 * self.old.inner.blocks }
         requires fits { self.old.own < 2 ^ 64 - 1 }
         requires within { HasBuffer (length (M.words core.old)) (Call.ReadLine at count) }
-        ensures row { IfOk result (λ turn. Enters (Ok (Call.ReadLine at count)) turn now self.old self.new (M.words core.old) (M.words core.new)) }
+        ensures row { IfOk result (λ turn. Enters (Ok (Call.ReadLine at count)) turn
+            now self.old self.new (M.words core.old) (M.words core.new)) }
         ensures account { self.new.inner.account ≡ self.old.inner.account }
         ensures err { OnErr result (self.new ≡ self.old) }
         ensures err_core { OnErr result (M.words core.new ≡ M.words core.old) }
@@ -176,7 +189,8 @@ impl Session {
         requires size { length (M.words core.now) ≡ 256 * self.old.inner.blocks }
         requires fits { self.old.own < 2 ^ 64 - 1 }
         requires within { HasBuffer (length (M.words core.now)) (Call.WriteLine at count) }
-        ensures row { IfOk result (λ turn. Enters (Ok (Call.WriteLine at count)) turn now self.old self.new (M.words core.now) (M.words core.now)) }
+        ensures row { IfOk result (λ turn. Enters (Ok (Call.WriteLine at count)) turn
+            now self.old self.new (M.words core.now) (M.words core.now)) }
         ensures account { self.new.inner.account ≡ self.old.inner.account }
         ensures err { OnErr result (self.new ≡ self.old) }
     {
@@ -202,7 +216,8 @@ impl Session {
         requires on { self.old.on ≡ true }
         requires size { length (M.words core.now) ≡ 256 * self.old.inner.blocks }
         requires fits { self.old.own < 2 ^ 64 - 1 }
-        ensures row { Enters (Ok (Call.SetMemory blocks)) result now self.old self.new (M.words core.now) (M.words core.now) }
+        ensures row { Enters (Ok (Call.SetMemory blocks)) result
+            now self.old self.new (M.words core.now) (M.words core.now) }
         ensures account { self.new.inner.account ≡ self.old.inner.account }
     {
         if self.is_no_size(blocks) {
@@ -267,7 +282,8 @@ impl Session {
         requires on { self.old.on ≡ true }
         requires size { length (M.words core.now) ≡ 256 * self.old.inner.blocks }
         requires fits { self.old.own < 2 ^ 64 - 1 }
-        ensures row { IfOk result (λ turn. Enters (Ok Call.Dead) turn now self.old self.new (M.words core.now) (M.words core.now)) }
+        ensures row { IfOk result (λ turn. Enters (Ok Call.Dead) turn
+            now self.old self.new (M.words core.now) (M.words core.now)) }
         ensures account { self.new.inner.account ≡ self.old.inner.account }
         ensures err { OnErr result (self.new ≡ self.old) }
     {
@@ -291,7 +307,8 @@ impl Session {
         requires on { self.old.on ≡ true }
         requires size { length (M.words core.now) ≡ 256 * self.old.inner.blocks }
         requires fits { self.old.own < 2 ^ 64 - 1 }
-        ensures row { IfOk result (λ turn. Enters (Ok Call.Dormant) turn now self.old self.new (M.words core.now) (M.words core.now)) }
+        ensures row { IfOk result (λ turn. Enters (Ok Call.Dormant) turn
+            now self.old self.new (M.words core.now) (M.words core.now)) }
         ensures account { self.new.inner.account ≡ self.old.inner.account }
         ensures err { OnErr result (self.new ≡ self.old) }
     {
@@ -318,7 +335,8 @@ impl Session {
         requires fits { self.old.own < 2 ^ 64 - 1 }
         requires within { HasBuffer (length (M.words core.old)) call }
         requires time { now < 2 ^ 35 }
-        ensures row { IfOk result (λ turn. Enters (Ok call) turn now self.old self.new (M.words core.old) (M.words core.new)) }
+        ensures row { IfOk result (λ turn. Enters (Ok call) turn
+            now self.old self.new (M.words core.old) (M.words core.new)) }
         ensures account { self.new.inner.account ≡ self.old.inner.account }
         ensures err { OnErr result (self.new ≡ self.old) }
         ensures err_core { OnErr result (M.words core.new ≡ M.words core.old) }
@@ -346,6 +364,20 @@ impl Session {
             Call::DeleteFile { name } => self.delete_file(core, name, now),
             Call::RenameFile { name, to } => self.rename_file(core, name, to, now),
             Call::ChangeMode { name, mode } => self.change_mode(core, name, mode, now),
+            Call::CommonStat { name } => Ok(Turn::Asks(CommonOp::Stat(name))),
+            Call::CommonRead {
+                name,
+                at,
+                count,
+                place,
+            } => Ok(self.ask_read(core, name, at, count, place, now)),
+            Call::CommonWrite {
+                name,
+                at,
+                count,
+                place,
+            } => self.ask_write(core, name, at, count, place, now),
+            Call::CommonDelete { name } => Ok(Turn::Asks(CommonOp::Delete(name))),
             Call::Dead => self.end_dead(core, now),
             Call::Dormant => self.end_dormant(core, now),
         }

@@ -11,11 +11,11 @@ ghost use Rattle.user_session.specs.Changes.{change_text, DidPut};
 
 use crate::Step;
 use crate::session::{Session, note};
-use crate::text::{ready_text, time_text};
 use cmd_files::{listing, refusal_text};
 use cpu_regs::MemoryPort;
 use ctss_types::{Ending, FileName, Item, LineList, LineText, NoMemory, Refusal, Sequence};
 use file_map::{FilePort, PortFault};
+use session_text::{ready_text, time_text};
 use std::alloc::Global;
 use word36::Word;
 
@@ -49,7 +49,8 @@ pub(crate) fn note_taken(items: &mut Vec<Item>, line: LineText, now: u64)
 /// A line taken as a command: the line, the time, maybe a text, and R 1, where there is room.
 pub(crate) fn note_command(items: &mut Vec<Item>, line: LineText, text: Option<LineText>, now: u64)
     requires { vec_len items.old + 3 < vec_capacity items.old }
-    ensures { items.new.items ≡ items.old.items ++ In line ∷ Out (time_text now) ∷ out_all (option_to_list text ++ ready_text 1 ∷ []) }
+    ensures { items.new.items ≡ items.old.items ++ In line ∷ Out (time_text now) ∷ out_all (option_to_list text ++
+        ready_text 1 ∷ []) }
 {
     note(items, Item::In(line));
     note(items, Item::Out(time_text(now)));
@@ -63,7 +64,8 @@ pub(crate) fn note_command(items: &mut Vec<Item>, line: LineText, text: Option<L
 #[tactic(auto, using(crate::proofs::Files::command_lines))]
 fn note_lines(items: &mut Vec<Item>, line: LineText, lines: &[LineText], now: u64)
     requires { vec_len items.old + length lines.now + 2 < vec_capacity items.old }
-    ensures { items.new.items ≡ items.old.items ++ In line ∷ Out (time_text now) ∷ out_all (lines.now ++ ready_text 1 ∷ []) }
+    ensures { items.new.items ≡ items.old.items ++ In line ∷ Out (time_text now) ∷ out_all (lines.now ++ ready_text
+        1 ∷ []) }
 {
     note(items, Item::In(line));
     note(items, Item::Out(time_text(now)));
@@ -99,7 +101,12 @@ impl Session {
     /// The first unread line is taken as a command.
     pub(crate) fn take_command(&mut self)
         requires fits { self.old.own < 2 ^ 64 - 1 }
-        ensures user { self.new ≡ record self.old { unread = drop 1 self.old.unread; own = suc self.old.own; before = self.old.own } }
+        ensures user { self.new ≡ record self.old {
+          unread = drop 1 self.old.unread;
+          own = suc self.old.own;
+          before
+              = self.old.own;
+        } }
         ensures given { self.old.given ≡ 0 }
     {
         let _ = self.lines.take();
@@ -142,7 +149,8 @@ impl Session {
     ) -> Result<Step, NoMemory>
         requires size { length (M.words core.now) ≡ 256 * self.old.inner.blocks }
         requires fits { self.old.own < 2 ^ 64 - 1 }
-        ensures row { IfOk result (λ s. DidPut line name words.now s.ending s.clock now self.old self.new (M.words core.now)) }
+        ensures row { IfOk result (λ s. DidPut line name words.now s.ending s.clock
+            now self.old self.new (M.words core.now)) }
         ensures account { self.new.inner.account ≡ self.old.inner.account }
         ensures err { OnErr result (self.new ≡ self.old) }
     {
@@ -165,7 +173,8 @@ impl Session {
         requires on { self.old.on ≡ true }
         requires size { length (M.words core.now) ≡ 256 * self.old.inner.blocks }
         requires fits { self.old.own < 2 ^ 64 - 1 }
-        ensures row { IfOk result (λ s. DidCommand line Command.List s.ending s.clock now self.old self.new (M.words core.now) (M.words core.now)) }
+        ensures row { IfOk result (λ s. DidCommand line Command.List s.ending s.clock
+            now self.old self.new (M.words core.now) (M.words core.now)) }
         ensures account { self.new.inner.account ≡ self.old.inner.account }
         ensures err { OnErr result (self.new ≡ self.old) }
     {
@@ -200,7 +209,8 @@ impl Session {
         requires on { self.old.on ≡ true }
         requires size { length (M.words core.now) ≡ 256 * self.old.inner.blocks }
         requires fits { self.old.own < 2 ^ 64 - 1 }
-        ensures row { IfOk result (λ s. DidCommand line (Command.Print name) s.ending s.clock now self.old self.new (M.words core.now) (M.words core.now)) }
+        ensures row { IfOk result (λ s. DidCommand line (Command.Print name) s.ending s.clock
+            now self.old self.new (M.words core.now) (M.words core.now)) }
         ensures account { self.new.inner.account ≡ self.old.inner.account }
         ensures err { OnErr result (self.new ≡ self.old) }
     {
@@ -222,7 +232,8 @@ impl Session {
         requires on { self.old.on ≡ true }
         requires size { length (M.words core.now) ≡ 256 * self.old.inner.blocks }
         requires fits { self.old.own < 2 ^ 64 - 1 }
-        ensures row { IfOk result (λ s. DidCommand line (Command.Rename name to) s.ending s.clock now self.old self.new (M.words core.now) (M.words core.now)) }
+        ensures row { IfOk result (λ s. DidCommand line (Command.Rename name to) s.ending s.clock
+            now self.old self.new (M.words core.now) (M.words core.now)) }
         ensures account { self.new.inner.account ≡ self.old.inner.account }
         ensures err { OnErr result (self.new ≡ self.old) }
     {
@@ -246,7 +257,8 @@ impl Session {
         requires on { self.old.on ≡ true }
         requires size { length (M.words core.now) ≡ 256 * self.old.inner.blocks }
         requires fits { self.old.own < 2 ^ 64 - 1 }
-        ensures row { IfOk result (λ s. DidCommand line (Command.Delete name) s.ending s.clock now self.old self.new (M.words core.now) (M.words core.now)) }
+        ensures row { IfOk result (λ s. DidCommand line (Command.Delete name) s.ending s.clock
+            now self.old self.new (M.words core.now) (M.words core.now)) }
         ensures account { self.new.inner.account ≡ self.old.inner.account }
         ensures err { OnErr result (self.new ≡ self.old) }
     {
@@ -271,7 +283,8 @@ impl Session {
         requires on { self.old.on ≡ true }
         requires size { length (M.words core.now) ≡ 256 * self.old.inner.blocks }
         requires fits { self.old.own < 2 ^ 64 - 1 }
-        ensures row { IfOk result (λ s. DidCommand line (Command.ChangeMode name mode) s.ending s.clock now self.old self.new (M.words core.now) (M.words core.now)) }
+        ensures row { IfOk result (λ s. DidCommand line (Command.ChangeMode name mode) s.ending s.clock
+            now self.old self.new (M.words core.now) (M.words core.now)) }
         ensures account { self.new.inner.account ≡ self.old.inner.account }
         ensures err { OnErr result (self.new ≡ self.old) }
     {

@@ -18,10 +18,10 @@ use program_model::Call;
 use tia_entry::{store_words, words_in};
 
 /// A step of a program that goes on behind a call.
-const WENT: Turn = Turn::Done(Step {
+pub(crate) const WENT: Step = Step {
     ending: Ending::Went,
     clock: false,
-});
+};
 
 impl Session {
     /// Answers a call with so many arguments that changes the directory: done, or the number of the refusal.
@@ -54,15 +54,21 @@ impl Session {
         requires on { self.old.on ≡ true }
         requires size { length (M.words core.now) ≡ 256 * self.old.inner.blocks }
         requires fits { self.old.own < 2 ^ 64 - 1 }
-        ensures row { Enters (Ok (Call.FileStat name)) result now self.old self.new (M.words core.now) (M.words core.now) }
+        ensures row { Enters (Ok (Call.FileStat name)) result
+            now self.old self.new (M.words core.now) (M.words core.now) }
         ensures account { self.new.inner.account ≡ self.old.inner.account }
     {
         match self.files.stat(name) {
-            Ok(stat) => self.reply(1, 0, Some(4 * stat.words + u64::from(stat.mode))),
-            Err(PortFault::Refused(refusal)) => self.reply(1, refusal_number(refusal), None),
+            Ok(stat) => {
+                self.reply(1, 0, Some(4 * stat.words + u64::from(stat.mode)));
+                Turn::Done(WENT)
+            }
+            Err(PortFault::Refused(refusal)) => {
+                self.reply(1, refusal_number(refusal), None);
+                Turn::Done(WENT)
+            }
             Err(PortFault::Disk | PortFault::NoMemory) => unreachable!(),
         }
-        WENT
     }
 
     /// RDFILE: words of a file go to a buffer.
@@ -91,12 +97,15 @@ impl Session {
             Ok(words) => {
                 store_words(core, at, words.as_slice());
                 self.reply(3, 0, None);
+                Ok(Turn::Done(WENT))
             }
-            Err(PortFault::Refused(refusal)) => self.reply(3, refusal_number(refusal), None),
+            Err(PortFault::Refused(refusal)) => {
+                self.reply(3, refusal_number(refusal), None);
+                Ok(Turn::Done(WENT))
+            }
             Err(PortFault::Disk) => unreachable!(),
-            Err(PortFault::NoMemory) => return Err(NoMemory),
+            Err(PortFault::NoMemory) => Err(NoMemory),
         }
-        Ok(WENT)
     }
 
     /// WRFILE: a buffer goes to a file.
@@ -122,7 +131,7 @@ impl Session {
         let words = words_in(*self.items.allocator(), core, at, count)?;
         let done = self.files.write(name, place, &words);
         self.answer_change(3, done)?;
-        Ok(WENT)
+        Ok(Turn::Done(WENT))
     }
 
     /// DELETE: a file goes.
@@ -136,13 +145,14 @@ impl Session {
         requires on { self.old.on ≡ true }
         requires size { length (M.words core.now) ≡ 256 * self.old.inner.blocks }
         requires fits { self.old.own < 2 ^ 64 - 1 }
-        ensures row { IfOk result (λ turn. Enters (Ok (Call.DeleteFile name)) turn now self.old self.new (M.words core.now) (M.words core.now)) }
+        ensures row { IfOk result (λ turn. Enters (Ok (Call.DeleteFile name)) turn
+            now self.old self.new (M.words core.now) (M.words core.now)) }
         ensures account { self.new.inner.account ≡ self.old.inner.account }
         ensures err { OnErr result (self.new ≡ self.old) }
     {
         let done = self.files.delete(name);
         self.answer_change(1, done)?;
-        Ok(WENT)
+        Ok(Turn::Done(WENT))
     }
 
     /// RENAME: a file gets another name.
@@ -157,13 +167,14 @@ impl Session {
         requires on { self.old.on ≡ true }
         requires size { length (M.words core.now) ≡ 256 * self.old.inner.blocks }
         requires fits { self.old.own < 2 ^ 64 - 1 }
-        ensures row { IfOk result (λ turn. Enters (Ok (Call.RenameFile name to)) turn now self.old self.new (M.words core.now) (M.words core.now)) }
+        ensures row { IfOk result (λ turn. Enters (Ok (Call.RenameFile name to)) turn
+            now self.old self.new (M.words core.now) (M.words core.now)) }
         ensures account { self.new.inner.account ≡ self.old.inner.account }
         ensures err { OnErr result (self.new ≡ self.old) }
     {
         let done = self.files.rename(name, to);
         self.answer_change(2, done)?;
-        Ok(WENT)
+        Ok(Turn::Done(WENT))
     }
 
     /// CHMODE: a file gets another mode.
@@ -178,12 +189,13 @@ impl Session {
         requires on { self.old.on ≡ true }
         requires size { length (M.words core.now) ≡ 256 * self.old.inner.blocks }
         requires fits { self.old.own < 2 ^ 64 - 1 }
-        ensures row { IfOk result (λ turn. Enters (Ok (Call.ChangeMode name mode)) turn now self.old self.new (M.words core.now) (M.words core.now)) }
+        ensures row { IfOk result (λ turn. Enters (Ok (Call.ChangeMode name mode)) turn
+            now self.old self.new (M.words core.now) (M.words core.now)) }
         ensures account { self.new.inner.account ≡ self.old.inner.account }
         ensures err { OnErr result (self.new ≡ self.old) }
     {
         let done = self.files.chmode(name, mode_within(mode));
         self.answer_change(2, done)?;
-        Ok(WENT)
+        Ok(Turn::Done(WENT))
     }
 }

@@ -9,11 +9,11 @@ ghost use Rattle.user_model.specs.Answers.{DidCommand, DidInput};
 use crate::Step;
 use crate::file_command::{DONE, note_command, note_taken};
 use crate::session::{Session, note};
-use crate::text::ready_text;
 use cmd_files::{line_words, refusal_text};
 use cpu_regs::MemoryPort;
 use ctss_types::{Ending, FileName, Item, LineText, NoMemory, Refusal};
 use file_map::{FilePort, PortFault};
+use session_text::ready_text;
 
 /// A line of INPUT that is done.
 const TYPED: Step = Step {
@@ -46,7 +46,8 @@ impl Session {
         requires on { self.old.on ≡ true }
         requires size { length (M.words core.now) ≡ 256 * self.old.inner.blocks }
         requires fits { self.old.own < 2 ^ 64 - 1 }
-        ensures row { IfOk result (λ s. DidCommand line (Command.Input name) s.ending s.clock now self.old self.new (M.words core.now) (M.words core.now)) }
+        ensures row { IfOk result (λ s. DidCommand line (Command.Input name) s.ending s.clock
+            now self.old self.new (M.words core.now) (M.words core.now)) }
         ensures account { self.new.inner.account ≡ self.old.inner.account }
         ensures err { OnErr result (self.new ≡ self.old) }
     {
@@ -100,7 +101,8 @@ impl Session {
         requires on { self.old.on ≡ true }
         requires size { length (M.words core.now) ≡ 256 * self.old.inner.blocks }
         requires fits { self.old.own < 2 ^ 64 - 1 }
-        ensures row { IfOk result (λ s. DidInput line name s.ending s.clock self.old self.new (M.words core.now) (M.words core.now)) }
+        ensures row { IfOk result (λ s. DidInput line name s.ending s.clock
+            self.old self.new (M.words core.now) (M.words core.now)) }
         ensures account { self.new.inner.account ≡ self.old.inner.account }
         ensures err { OnErr result (self.new ≡ self.old) }
     {

@@ -6,6 +6,8 @@
 
 mod assembly_command;
 mod command;
+mod common_command;
+mod common_entry;
 mod entry;
 mod file_command;
 mod file_entry;
@@ -13,7 +15,6 @@ mod input;
 mod program;
 mod saved_command;
 mod session;
-mod text;
 mod turn;
 
 pub use line_buffer::Put;

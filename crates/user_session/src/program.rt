@@ -6,16 +6,23 @@ ghost use Rattle.program_model.specs.Fills.{fill_name, filled_core, filled_regs,
 ghost use Rattle.program_model.specs.declared.Fill.{Fill};
 ghost use Rattle.user_model.specs.Session.{works_in};
 ghost use Rattle.user_model.specs.Runs.{HaveGone, IsAtWork};
-ghost use Rattle.user_session.specs.Turns.{IsTurn};
+ghost use Rattle.ctss_types.specs.declared.file.CommonOp.{CommonOp};
+ghost use Rattle.machine_model.specs.Machine.{table};
+ghost use Rattle.user_model.specs.Programs.{step_asks};
+ghost use Rattle.user_model.specs.User.{in_core};
+ghost use Rattle.user_session.specs.Turns.{Asked, IsReplied, IsTurn};
+ghost use Rattle.file_model.specs.Commons.{ReplyFits};
 
 use crate::entry::note_stop;
 use crate::session::{Session, works_in};
 use crate::{Step, Turn};
 use cmd_program::fill;
+use command_table::command_of;
 use cpu_regs::MemoryPort;
 use cpu_step::{Stepped, run, step};
-use ctss_types::{Ending, NoMemory};
+use ctss_types::{Ending, NoMemory, Reply};
 use program_model::Fill;
+use tia_entry::read_call;
 
 impl Session {
     /// A program is filled with the words of its file.
@@ -29,7 +36,8 @@ impl Session {
           };
           own = suc self.old.own;
         }) }
-        ensures words { OnOk result (M.words core.new ≡ filled_core with (words_got (got (fill_name with) self.old.inner.files)) (M.words core.old)) }
+        ensures words { OnOk result (M.words core.new ≡ filled_core with (words_got (got (fill_name with)
+            self.old.inner.files)) (M.words core.old)) }
         ensures given { self.old.given ≡ 0 }
         ensures err { OnErr result (self.new ≡ self.old) }
         ensures err_core { OnErr result (M.words core.new ≡ M.words core.old) }
@@ -145,6 +153,59 @@ impl Session {
         let done = run(&mut self.regs, core, most);
         self.own += done;
         done
+    }
+
+    /// A program's call that made a common operation goes on with its reply.
+    fn entry_replied<M: MemoryPort>(&mut self, core: &mut M, reply: &Reply, now: u64) -> Step
+        requires on { self.old.on ≡ true }
+        requires works { works_in self.old.inner.state ≡ true }
+        requires filled { self.old.inner.fill ≡ None }
+        requires asks { (op : CommonOp) × (step_asks (table self.old.inner.regs
+            (M.words core.old)) (in_core (M.words core.old) self.old).inner ≡ Some op) }
+        requires size { length (M.words core.old) ≡ 256 * self.old.inner.blocks }
+        requires fits { self.old.own < 2 ^ 64 - 1 }
+        requires told { ReplyFits reply.now }
+        ensures step { IsReplied result reply.now now self.old self.new (M.words core.old) (M.words core.new) }
+        ensures account { self.new.inner.account ≡ self.old.inner.account }
+        ensures keeps { M.Keeps core.old core.new }
+    {
+        // The entry is looked for anew; the step that finds it changes nothing.
+        let mut regs = self.regs;
+        let Stepped::Entry(name) = step(&mut regs, core) else {
+            unreachable!()
+        };
+        let Ok(call) = read_call(&self.regs, core, name) else {
+            unreachable!()
+        };
+        self.call_replied(core, call, reply)
+    }
+
+    /// A step that made a common operation goes on with its reply, and is done.
+    pub fn take_reply<M: MemoryPort>(
+        &mut self,
+        core: &mut M,
+        reply: &Reply,
+        now: u64,
+    ) -> Result<Step, NoMemory>
+        requires asks { Asked self.old (M.words core.old) }
+        requires size { length (M.words core.old) ≡ 256 * self.old.inner.blocks }
+        requires fits { self.old.own < 2 ^ 64 - 1 }
+        requires told { ReplyFits reply.now }
+        ensures step { IfOk result (λ s. IsReplied s reply.now
+            now self.old self.new (M.words core.old) (M.words core.new)) }
+        ensures account { self.new.inner.account ≡ self.old.inner.account }
+        ensures err { OnErr result (self.new ≡ self.old) }
+        ensures err_core { OnErr result (M.words core.new ≡ M.words core.old) }
+        ensures keeps { M.Keeps core.old core.new }
+    {
+        let _ = &self.account;
+        if self.works() {
+            return Ok(self.entry_replied(core, reply, now));
+        }
+        let Some(line) = self.first_line() else {
+            unreachable!()
+        };
+        self.copy_replied(core, line, command_of(&line), reply, now)
     }
 
     /// A step at a tick, if one can be done: the first unread line as a command or in INPUT, or the next step of a program.

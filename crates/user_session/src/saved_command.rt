@@ -9,11 +9,11 @@ ghost use Rattle.user_model.specs.declared.Command.{Command};
 use crate::Step;
 use crate::file_command::{DONE, note_taken};
 use crate::session::Session;
-use crate::text::load_text;
 use cmd_program::{PrepareFault, prepare_saved, register_lines, saved_words, word_line};
 use cpu_regs::MemoryPort;
 use ctss_types::{Ending, FileName, LineText, NoMemory, name_word};
 use program_model::{Fill, LoadFault, ProgramState};
+use session_text::load_text;
 use word36::Word;
 
 /// The file that a program of this name is saved in.
@@ -45,7 +45,8 @@ impl Session {
         requires on { self.old.on ≡ true }
         requires size { length (M.words core.now) ≡ 256 * self.old.inner.blocks }
         requires fits { self.old.own < 2 ^ 64 - 1 }
-        ensures row { IfOk result (λ s. DidCommand line Command.Start s.ending s.clock now self.old self.new (M.words core.now) (M.words core.now)) }
+        ensures row { IfOk result (λ s. DidCommand line Command.Start s.ending s.clock
+            now self.old self.new (M.words core.now) (M.words core.now)) }
         ensures account { self.new.inner.account ≡ self.old.inner.account }
         ensures err { OnErr result (self.new ≡ self.old) }
     {
@@ -75,7 +76,8 @@ impl Session {
         requires on { self.old.on ≡ true }
         requires size { length (M.words core.now) ≡ 256 * self.old.inner.blocks }
         requires fits { self.old.own < 2 ^ 64 - 1 }
-        ensures row { IfOk result (λ s. DidCommand line (Command.Save name) s.ending s.clock now self.old self.new (M.words core.now) (M.words core.now)) }
+        ensures row { IfOk result (λ s. DidCommand line (Command.Save name) s.ending s.clock
+            now self.old self.new (M.words core.now) (M.words core.now)) }
         ensures account { self.new.inner.account ≡ self.old.inner.account }
         ensures err { OnErr result (self.new ≡ self.old) }
     {
@@ -90,7 +92,8 @@ impl Session {
     /// The blocks of a saved program of this name, or why there is none.
     fn read_saved(&mut self, name: Word) -> Result<Result<u8, LoadFault>, NoMemory>
         ensures same { self.new ≡ self.old }
-        ensures told { IfOk result (λ told. told ≡ saved_of self.old.inner.account.blocks (got (saved_name name) self.old.inner.files)) }
+        ensures told { IfOk result (λ told. told ≡ saved_of self.old.inner.account.blocks (got (saved_name name)
+            self.old.inner.files)) }
         ensures blocks { IfOk result (λ told. IfOk told (λ b. b ≤ self.old.inner.account.blocks)) }
     {
         match prepare_saved(saved_name(name), self.account.blocks, &mut self.files) {
@@ -113,7 +116,8 @@ impl Session {
         requires on { self.old.on ≡ true }
         requires size { length (M.words core.now) ≡ 256 * self.old.inner.blocks }
         requires fits { self.old.own < 2 ^ 64 - 1 }
-        ensures row { IfOk result (λ s. DidCommand line (Command.Resume name) s.ending s.clock now self.old self.new (M.words core.now) (M.words core.now)) }
+        ensures row { IfOk result (λ s. DidCommand line (Command.Resume name) s.ending s.clock
+            now self.old self.new (M.words core.now) (M.words core.now)) }
         ensures account { self.new.inner.account ≡ self.old.inner.account }
         ensures err { OnErr result (self.new ≡ self.old) }
     {
@@ -146,7 +150,8 @@ impl Session {
         requires on { self.old.on ≡ true }
         requires size { length (M.words core.now) ≡ 256 * self.old.inner.blocks }
         requires fits { self.old.own < 2 ^ 64 - 1 }
-        ensures row { IfOk result (λ s. DidCommand line Command.Registers s.ending s.clock now self.old self.new (M.words core.now) (M.words core.now)) }
+        ensures row { IfOk result (λ s. DidCommand line Command.Registers s.ending s.clock
+            now self.old self.new (M.words core.now) (M.words core.now)) }
         ensures account { self.new.inner.account ≡ self.old.inner.account }
         ensures err { OnErr result (self.new ≡ self.old) }
     {
@@ -171,7 +176,8 @@ impl Session {
         requires on { self.old.on ≡ true }
         requires size { length (M.words core.now) ≡ 256 * self.old.inner.blocks }
         requires fits { self.old.own < 2 ^ 64 - 1 }
-        ensures row { IfOk result (λ s. DidCommand line (Command.WordAt place) s.ending s.clock now self.old self.new (M.words core.now) (M.words core.now)) }
+        ensures row { IfOk result (λ s. DidCommand line (Command.WordAt place) s.ending s.clock
+            now self.old self.new (M.words core.now) (M.words core.now)) }
         ensures account { self.new.inner.account ≡ self.old.inner.account }
         ensures err { OnErr result (self.new ≡ self.old) }
     {

@@ -9,7 +9,6 @@ ghost use Rattle.user_model.specs.User.{typed, opened, cut};
 ghost use Rattle.time_sharing.specs.Machine.{Quit, Hang, Spent};
 ghost use Rattle.time_sharing.specs.Rows.{some_line};
 
-use crate::text::{logged_in_text, ready_text};
 use cpu_regs::Regs;
 use ctss_types::{
     Account, FileBody, FileList, FileName, Item, Items, LineText, NoMemory, Sequence,
@@ -17,6 +16,7 @@ use ctss_types::{
 use file_map::{FilePort, Files};
 use line_buffer::{Lines, Put};
 use program_model::{Fill, ProgramState};
+use session_text::{logged_in_text, ready_text};
 use std::alloc::Global;
 use std::marker::Model;
 

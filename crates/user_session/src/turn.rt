@@ -1,4 +1,4 @@
-use ctss_types::Ending;
+use ctss_types::{CommonOp, Ending};
 
 /// What a step that was done did, and whether it took the clock.
 #[derive(Clone, Copy, Debug, PartialEq, Eq)]
@@ -7,9 +7,11 @@ pub struct Step {
     pub clock: bool,
 }
 
-/// A step, or none where a line is wanted and none is unread.
-#[derive(Clone, Copy, Debug, PartialEq, Eq)]
+/// A step; or none, where a line is wanted and none is unread; or the operation on common files that the step has to make
+/// before it is done, with whose reply it goes on.
+#[derive(Debug, PartialEq, Eq, Drop)]
 pub enum Turn {
     Waits,
     Done(Step),
+    Asks(CommonOp),
 }

@@ -35,7 +35,7 @@ returns-in-Drum-clause-served g c =
     let same =
     ap (λ (d : DrumState). d.name) c.back-drum_back.ensures.seen ∙ ap (λ i. (state i).drum.name) c.into_parts-supervisor.ensures.cores ∙ cut.core.0 ∙ ap (λ (d : DrumState). d.name) c.in_ok-run.ensures.seen in
     stopped c.args.base.now told a b c.in_ok-run.ensures.begins _ _ _ (λ calls h. h.1) (g.D.Medium.calls c.args.drum.now) _
-    (ap (λ (d : DrumState). d.calls) c.in_ok-run.ensures.seen) (search (rules, same)) c.args.turns _ _ c.in_ok-stop-in-Drum.field-0
+    (ap (λ (d : DrumState). d.calls) c.in_ok-run.ensures.seen) (search (rules, same)) c.args.turns _ _ _ _ c.in_ok-stop-in-Drum.field-0
     cut
     (c.in_ok-stop-in-Drum.ensures ∙ ap (λ (s : Bare). record_so_far (run_with no_places s)) c.into_parts-supervisor.ensures.supervisor)
     (rose_as a.cores.faults b.cores.faults _ _ (ap (λ (d : DrumState). d.faults) c.in_ok-run.ensures.seen)

@@ -25,10 +25,10 @@ returns-clause-cut g c =
     let look = g.L.Link.seen in
     let old = state c.in_ok-server.server in
     let new = state c.turns-ended.new.self in
-    talk_cut goes see look c.turns-ended.result c.args.count old new c.args.core _ _ c.in_ok-server.ensures.state
-    (subst (λ (n : ℕ). IfErr c.turns-ended.result (λ fault. TurnsAreCut goes see n empty_desk fault old new)) c.from.ensures
+    talk_cut goes see look c.turns-ended.result c.args.count old new c.args.core _ _ _ _ c.in_ok-server.ensures.state
+    (subst (λ (n : ℕ). IfErr c.turns-ended.result (λ fault. TurnsAreCut goes see look n empty_desk fault old new)) c.from.ensures
     (c.turns-ended.ensures.cut empty_desk (first_desk goes see look old c.args.core _ c.in_ok-server.ensures.state)))
-    c.finish-finished.ensures.core
+    c.finish-finished.ensures.link c.finish-finished.ensures.core (search rules)
 
 pub returns-clause-cause : goal.returns-clause-cause
 returns-clause-cause g c =

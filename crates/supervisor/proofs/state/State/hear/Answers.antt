@@ -10,12 +10,13 @@ use Rattle.supervisor.specs.Seen.{seen}
 use Rattle.supervisor.specs.Steps.{IsTied, IsResized}
 use Rattle.supervisor.proofs.Counting.{counted_same, counted_none}
 use Rattle.supervisor.proofs.Doing.{does_taken}
+use Rattle.supervisor.proofs.Sharing.{stays_same}
 use Rattle.supervisor.proofs.Tied.{tied_taken}
 use Rattle.supervisor.proofs.state.State.hear.Goals as goal
 
 pub returns-in_err-cut-clause-err : goal.returns-in_err-cut-clause-err
 returns-in_err-cut-clause-err g c =
-    on_err c.from_residual.result _ (record { run = c.in_err-cut.ensures.err (g.C.Cores.state c.args.cores.now).memory.places; words = λ t u h. refl; tells = refl })
+    on_err c.from_residual.result _ (stays_same _ _ _ _ (c.in_err-cut.ensures.err (g.C.Cores.state c.args.cores.now).memory.places) (λ t u h. refl) refl)
 
 pub returns-in_err-cut-clause-tied : goal.returns-in_err-cut-clause-tied
 returns-in_err-cut-clause-tied g c =

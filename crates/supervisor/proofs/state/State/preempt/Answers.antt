@@ -12,11 +12,12 @@ use Rattle.system_model.proofs.SwapLaws.{served_moves}
 use Rattle.supervisor.proofs.Counting.{counted_same, counted_none}
 use Rattle.supervisor.proofs.Doing.{does_apart}
 use Rattle.supervisor.proofs.Serving.{served_users}
+use Rattle.supervisor.proofs.Sharing.{stays_same}
 use Rattle.supervisor.proofs.state.State.preempt.Goals as goal
 
 pub returns-in_err-end_service-clause-err : goal.returns-in_err-end_service-clause-err
 returns-in_err-end_service-clause-err g c =
-    on_err c.from_residual.result _ (record { run = c.in_err-end_service.ensures.err (g.C.Cores.state c.args.cores.now).memory.places; words = λ t u h. refl; tells = refl })
+    on_err c.from_residual.result _ (stays_same _ _ _ _ (c.in_err-end_service.ensures.err (g.C.Cores.state c.args.cores.now).memory.places) (λ t u h. refl) refl)
 
 pub returns-in_err-end_service-clause-tied : goal.returns-in_err-end_service-clause-tied
 returns-in_err-end_service-clause-tied g c =

@@ -8,13 +8,13 @@ use Rattle.supervisor.specs.Seen.{seen}
 use Rattle.supervisor.proofs.Counting.{counted_same, counted_on}
 use Rattle.supervisor.proofs.Doing.{does_fall}
 use Rattle.supervisor.proofs.Serving.{fails_map, fails_both, fails_to}
-use Rattle.supervisor.proofs.Running.{sound_places, leads_on, part_on, part_none, run_done, held_on, part_still, stops_at_load}
+use Rattle.supervisor.proofs.Running.{sound_places, leads_on, part_on, part_none, run_done, held_on, part_shown, sound_still, stops_at_load}
 use Rattle.supervisor.specs.Steps.{IsHeld}
 use Rattle.supervisor.specs.Shows.{texts_of, rows_of}
 use Rattle.supervisor.proofs.Passing.{pass_leads, pass_part, pass_falls, pass_held, pass_told, pass_texts_lead, pass_texts_part, pass_grow}
 use Rattle.supervisor.proofs.Growing.{grow_none, grow_trans, step_grow, same_grow}
 use Rattle.supervisor.proofs.Seats.{does_seats, many_seats}
-use Rattle.supervisor.proofs.Watching.{texts_lead, texts_part, texts_none, texts_still, texts_end, texts_stop}
+use Rattle.supervisor.proofs.Watching.{texts_lead, texts_part, texts_none, texts_end, texts_stop}
 use Rattle.supervisor.proofs.watch.Watch.advance.Goals as goal
 
 pub steps-init : goal.steps-init
@@ -97,7 +97,7 @@ returns-in-Err-clause-ended g c =
     let new : Run = seen has.places c.step.new.self.state in
     let inv = c.steps.invariant in
     fails_map c.in-Err.fault _ _ _ _
-    (λ s. part_still c.args.limit start old new first had has inv.tells s inv.part)
+    (λ s. part_shown c.args.limit start old (seen no_places c.step.new.self.state) first had inv.part (ap (λ (r : Run). r.system.entries) s.run) (ap (λ (r : Run). r.system.users) s.run) (ap (λ (r : Run). r.system.clock) s.run))
     (λ f. (stops_at_load c.args.limit start old (seen no_places c.step.new.self.state) first had _ _ _ inv.part c.steps-test.true inv.held.sound inv.counted f.2 (ap (λ (r : Run). r.system.entries) f.0) (ap (λ (r : Run). r.system.users) f.0) (ap (λ (r : Run). r.system.clock) f.0), search rules))
     c.in-Err.ensures.ended
 
@@ -115,7 +115,7 @@ returns-in-Err-clause-sound g c =
     let new : Run = seen has.places c.step.new.self.state in
     let held = c.steps.invariant.held in
     fails_to c.in-Err.fault _ _ _
-    (λ s. sound_places no_places new (subst Sound (sym s.run) held.sound))
+    (λ s. sound_places no_places new (sound_still old new had has held.sound s))
     (λ f. subst Sound (sym f.0) (sound_places no_places old held.sound))
     c.in-Err.ensures.ended
 
@@ -142,7 +142,7 @@ returns-in-Err-clause-texts g c =
     let new : Run = seen has.places c.step.new.self.state in
     let inv = c.steps.invariant in
     fails_both c.in-Err.fault _ _ _ _ _ _
-    (λ s same. texts_still c.args.limit start old new first had has _ _ _ inv.tells s same inv.texts)
+    (λ s same. texts_stop c.args.limit start old (seen no_places c.step.new.self.state) first had _ _ _ inv.texts same (ap (λ (r : Run). r.system.entries) s.run) (ap (λ (r : Run). r.system.users) s.run) (ap (λ (r : Run). r.system.clock) s.run))
     (λ f same. texts_stop c.args.limit start old (seen no_places c.step.new.self.state) first had _ _ _ inv.texts same (ap (λ (r : Run). r.system.entries) f.0) (ap (λ (r : Run). r.system.users) f.0) (ap (λ (r : Run). r.system.clock) f.0))
     c.in-Err.ensures.ended c.in-Err.ensures.texts
 

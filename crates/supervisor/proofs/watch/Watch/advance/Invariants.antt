@@ -2,10 +2,10 @@ use Rattle.std.proofs.Common.{◌≡◌, ◌≤◌, length}
 use Rattle.system_model.specs.Run.{measure}
 use Rattle.supervisor.specs.Counts.{IsCounted}
 use Rattle.supervisor.specs.Seen.{seen}
-use Rattle.supervisor.specs.Steps.{IsHeld, HasRunPart}
-use Rattle.supervisor.specs.Shows.{texts_of, IsTold, TextsGrow, HasTextsPart}
-use Rattle.supervisor.proofs.Running.{Leads}
-use Rattle.supervisor.proofs.Watching.{TextsLead}
+use Rattle.supervisor.specs.Steps.{IsHeld}
+use Rattle.supervisor.specs.Shows.{texts_of, IsTold, TextsGrow}
+use Rattle.supervisor.proofs.Running.{HasRunPart, Leads}
+use Rattle.supervisor.proofs.Watching.{HasTextsPart, TextsLead}
 use Rattle.supervisor.proofs.watch.Watch.advance.Given as goal
 
 abbrev pub invariant-steps : goal.invariant-steps

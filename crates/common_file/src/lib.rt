@@ -1,0 +1,8 @@
+//! Operations on the common files: a directory that all users share.
+#![tactic(auto)]
+
+mod operation;
+mod reads;
+mod writes;
+
+pub use operation::apply;

@@ -1,0 +1,76 @@
+//! The operations that leave the files as they are.
+ghost use Rattle.std.specs.Prelude.{◌≡◌, IfOk, IsErrOf};
+ghost use Rattle.faults.specs.Faults.{Rose};
+ghost use Rattle.file_map.specs.Answers.{IsNoRefusal};
+ghost use Rattle.file_model.specs.Commons.{ReplyFits};
+ghost use Rattle.common_file.specs.Applied.{IsApplied};
+ghost use Rattle.ctss_types.specs.declared.file.CommonOp.{CommonOp};
+
+use ctss_types::{FileName, Reply};
+use file_map::{FilePort, PortFault};
+
+/// Tells a file's size.
+#[tactic(auto, using(crate::proofs::Replies::stat_told, crate::proofs::Replies::stat_refused))]
+pub(crate) fn size_of_file<F: FilePort>(name: FileName, files: &F) -> Result<Reply, PortFault>
+    requires works { F.Works files.now }
+    ensures done { IfOk result (λ reply. IsApplied (F.tells files.now) (F.quota files.now)
+        (CommonOp.Stat name) reply (F.files files.now) (F.files files.now)) }
+    ensures fits { IfOk result ReplyFits }
+    ensures fault { IsNoRefusal result }
+    ensures disk { ¬ IsErrOf result PortFault.Disk }
+{
+    match files.stat(name) {
+        Ok(stat) => Ok(Reply::Size(4 * stat.words + u64::from(stat.mode))),
+        Err(PortFault::Refused(refusal)) => Ok(Reply::Refused(refusal)),
+        Err(PortFault::Disk | PortFault::NoMemory) => unreachable!(),
+    }
+}
+
+/// Reads words of a file.
+#[tactic(auto, using(crate::proofs::Replies::read_told, crate::proofs::Replies::read_refused))]
+pub(crate) fn read_words<F: FilePort>(
+    name: FileName,
+    place: u64,
+    count: u16,
+    files: &mut F,
+) -> Result<Reply, PortFault>
+    requires works { F.Works files.old }
+    ensures done { IfOk result (λ reply. IsApplied (F.tells files.old) (F.quota files.old)
+        (CommonOp.Read name place count) reply (F.files files.old) (F.files files.new)) }
+    ensures fits { IfOk result ReplyFits }
+    ensures memory { IsErrOf result PortFault.NoMemory → F.files files.new ≡ F.files files.old }
+    ensures fault { IsNoRefusal result }
+    ensures told { ¬ IsErrOf result PortFault.Disk → F.tells files.new ≡ F.tells files.old }
+    ensures works { ¬ IsErrOf result PortFault.Disk → F.Works files.new }
+    ensures keeps { F.Keeps files.old files.new }
+    ensures cause { IsErrOf result PortFault.Disk → Rose (F.faults files.old) (F.faults files.new) }
+{
+    match files.read(name, place, count) {
+        Ok(words) => Ok(Reply::Words(words)),
+        Err(PortFault::Refused(refusal)) => Ok(Reply::Refused(refusal)),
+        Err(PortFault::Disk) => Err(PortFault::Disk),
+        Err(PortFault::NoMemory) => Err(PortFault::NoMemory),
+    }
+}
+
+/// Reads all words of a file.
+#[tactic(auto, using(crate::proofs::Replies::get_told, crate::proofs::Replies::get_refused))]
+pub(crate) fn get_words<F: FilePort>(name: FileName, files: &mut F) -> Result<Reply, PortFault>
+    requires works { F.Works files.old }
+    ensures done { IfOk result (λ reply. IsApplied (F.tells files.old) (F.quota files.old)
+        (CommonOp.Get name) reply (F.files files.old) (F.files files.new)) }
+    ensures fits { IfOk result ReplyFits }
+    ensures memory { IsErrOf result PortFault.NoMemory → F.files files.new ≡ F.files files.old }
+    ensures fault { IsNoRefusal result }
+    ensures told { ¬ IsErrOf result PortFault.Disk → F.tells files.new ≡ F.tells files.old }
+    ensures works { ¬ IsErrOf result PortFault.Disk → F.Works files.new }
+    ensures keeps { F.Keeps files.old files.new }
+    ensures cause { IsErrOf result PortFault.Disk → Rose (F.faults files.old) (F.faults files.new) }
+{
+    match files.get(name) {
+        Ok(words) => Ok(Reply::Words(words)),
+        Err(PortFault::Refused(refusal)) => Ok(Reply::Refused(refusal)),
+        Err(PortFault::Disk) => Err(PortFault::Disk),
+        Err(PortFault::NoMemory) => Err(PortFault::NoMemory),
+    }
+}

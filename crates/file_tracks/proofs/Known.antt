@@ -1,0 +1,89 @@
+-- The files that a port stands for, and those that its disk may have.
+use Rattle.std.specs.Prelude.{Bool, Option, None, Some, Ok, Err, replicate}
+use Rattle.std.specs.List.{All}
+use Rattle.std.specs.declared.result.Result.{Result}
+use Rattle.std.proofs.Common.{◌≡◌, ℕ, ◌≤◌, List, [], ◌∷◌, map, length, refl, sym, ◌∙◌, ap, subst}
+use Rattle.std.proofs.lemmas.List.Elements.{All-head, All-tail}
+use Rattle.faults.specs.Faults.{WhereTold}
+use Rattle.ctss_types.specs.declared.file.FileBody.{FileBody}
+use Rattle.ctss_types.specs.declared.file.Refusal.{Refusal}
+use Rattle.file_map.specs.declared.fault.PortFault.{PortFault}
+use Rattle.file_map.specs.declared.fault.PortFault.TheVariants.{Refused, Disk, NoMemory}
+use Rattle.file_map.specs.Answers.{Answers, Leaves}
+use Rattle.file_map.specs.Known.{blank, known, known_of, AnswersOver}
+use Rattle.file_tracks.specs.Stored.{content, files_on, HasTracks, IsWhole, IsDirectory, MayBe, LeavesAny}
+use Rattle.file_tracks.specs.Seen.{blank_of, tells_of, seen, seen_is_known}
+use Rattle.file_tracks.specs.declared.table.Filed.{Filed}
+use Rattle.file_tracks.proofs.Tables.{content-length}
+use Rattle.file_tracks.proofs.Zeros.{rows_of, may_rows, reach_rows, rows_whole, rows_seen}
+
+-- without its words a file is the same, whatever the rows are
+blanks_are : (rows : List (List ℕ)) (fs : List Filed) → All HasTracks fs → All (IsWhole rows) fs → map blank (files_on rows fs) ≡ map blank_of fs
+blanks_are rows [] tracks whole = refl
+blanks_are rows (f ∷ fs) tracks whole =
+    let here : length (content rows f) ≡ f.words = content-length rows f (All-head HasTracks f fs tracks) (All-head (IsWhole rows) f fs whole) in
+    let more = blanks_are rows fs (All-tail HasTracks f fs tracks) (All-tail (IsWhole rows) f fs whole) in
+    λ j. record { name = f.name; mode = f.mode; words = replicate (here j) 0 } ∷ more j
+
+-- files that a disk may have are known as those that the port stands for
+pub known_is : (told : Option (List (List ℕ))) (fs : List Filed) → All HasTracks fs → (rows : List (List ℕ)) → MayBe told rows → All (IsWhole rows) fs
+    → known (tells_of told) (files_on rows fs) ≡ seen told fs
+unfolding known tells_of seen
+known_is None fs tracks rows may whole = blanks_are rows fs tracks whole
+known_is (Some r) fs tracks rows may whole = ap (λ (x : List (List ℕ)). files_on x fs) (sym may)
+
+pub answers_over : {T : Type 0} (told : Option (List (List ℕ))) (fs : List Filed) → All HasTracks fs → (result : Result T PortFault) (tells : List FileBody → Result T Refusal)
+    → ((rows : List (List ℕ)) × (MayBe told rows × (All (IsWhole rows) fs × Answers result (tells (files_on rows fs)))))
+    → AnswersOver (tells_of told) (seen told fs) result tells
+answers_over told fs tracks result tells a = (files_on a.0 fs, (known_is told fs tracks a.0 a.1.0 a.1.1.0, a.1.1.1))
+
+-- what holds with all rows with which tracks are whole holds of the files that the port stands for
+pub with_seen : (P : List FileBody → Type 0) (told : Option (List (List ℕ))) (taken : List Bool) (quota used : ℕ) (fs : List Filed) → IsDirectory told taken quota used fs
+    → ((rows : List (List ℕ)) → All (IsWhole rows) fs → P (files_on rows fs)) → P (seen told fs)
+with_seen P told taken quota used fs works h = subst P (rows_seen taken quota used fs told works) (h (rows_of told (length taken)) (rows_whole taken quota used fs told works))
+
+-- a call that makes no call of the disk
+pub with_both : (P : List FileBody → List FileBody → Type 0) (told : Option (List (List ℕ))) (taken taken' : List Bool) (quota used quota' used' : ℕ) (fs fs' : List Filed)
+    → IsDirectory told taken quota used fs → IsDirectory told taken' quota' used' fs' → length taken' ≡ length taken
+    → ((rows : List (List ℕ)) → P (files_on rows fs) (files_on rows fs')) → P (seen told fs) (seen told fs')
+with_both P told taken taken' quota used quota' used' fs fs' works works' many h =
+    let one = rows_seen taken quota used fs told works in
+    let two = ap (λ (n : ℕ). files_on (rows_of told n) fs') (sym many) ∙ rows_seen taken' quota' used' fs' told works' in
+    subst (λ (xs : List FileBody). P (seen told fs) xs) two (subst (λ (xs : List FileBody). P xs (files_on (rows_of told (length taken)) fs')) one (h (rows_of told (length taken))))
+
+-- a call that writes
+module _ (told : List FileBody → Result (List FileBody) Refusal) (old new : Option (List (List ℕ))) (taken : List Bool) (quota used : ℕ) (fs fs' : List Filed)
+    (works : IsDirectory old taken quota used fs) (reaches : WhereTold old (λ rows. length taken ≤ length rows)) where
+  abbrev pub Any : Result (Unit {0}) PortFault → Type 0
+  Any result = LeavesAny result told old new (length taken) fs fs'
+
+  abbrev pub Now : Result (Unit {0}) PortFault → Type 0
+  Now result = (now : List (List ℕ)) × (MayBe new now × (All (IsWhole now) fs' × Leaves result (told (seen old fs)) (seen old fs) (files_on now fs')))
+
+  now_of : (result : Result (Unit {0}) PortFault) → Any result → Now result
+  now_of result any =
+      let a = any (rows_of old (length taken)) (may_rows old (length taken)) (reach_rows old (length taken) reaches) (rows_whole taken quota used fs old works) in
+      (a.0, (a.1.0, (a.1.1.0, subst (λ (xs : List FileBody). Leaves result (told xs) xs (files_on a.0 fs')) (rows_seen taken quota used fs old works) a.1.1.1)))
+
+  module _ (tracked : All HasTracks fs') (tells : tells_of new ≡ tells_of old) where
+    -- what is left is known as what the port stands for then
+    known_now : (now : List (List ℕ)) → MayBe new now → All (IsWhole now) fs' → known (tells_of old) (files_on now fs') ≡ seen new fs'
+    known_now now may whole = ap (λ (t : Bool). known t (files_on now fs')) (sym tells) ∙ known_is new fs' tracked now may whole
+
+    stays_seen : (now : List (List ℕ)) → MayBe new now → All (IsWhole now) fs' → files_on now fs' ≡ seen old fs → seen new fs' ≡ seen old fs
+    stays_seen now may whole e = sym (known_now now may whole) ∙ ap (known (tells_of old)) e ∙ seen_is_known old fs
+
+    left_by : (result : Result (Unit {0}) PortFault) → Now result → Leaves result (known_of (tells_of old) (told (seen old fs))) (seen old fs) (seen new fs')
+    left_by (Ok x) a = ap (known_of (tells_of old)) a.1.1.1 ∙ ap Ok (known_now a.0 a.1.0 a.1.1.0)
+    left_by (Err (Refused r)) a = (ap (known_of (tells_of old)) a.1.1.1.0, stays_seen a.0 a.1.0 a.1.1.0 a.1.1.1.1)
+    left_by (Err Disk) a = tt
+    left_by (Err NoMemory) a = stays_seen a.0 a.1.0 a.1.1.0 a.1.1.1
+
+  pub leaves_seen : (result : Result (Unit {0}) PortFault) → ((result ≡ Err Disk → ⊥) → Any result) → ((result ≡ Err Disk → ⊥) → All HasTracks fs') → ((result ≡ Err Disk → ⊥) → tells_of new ≡ tells_of old)
+      → Leaves result (known_of (tells_of old) (told (seen old fs))) (seen old fs) (seen new fs')
+  leaves_seen (Ok x) any tracked tells = left_by (tracked (λ e. cc)) (tells (λ e. cc)) (Ok x) (now_of (Ok x) (any (λ e. cc)))
+  leaves_seen (Err (Refused r)) any tracked tells =
+      left_by (tracked (λ e. cc)) (tells (λ e. cc)) (Err (Refused r)) (now_of (Err (Refused r)) (any (λ e. cc)))
+  leaves_seen (Err Disk) any tracked tells = tt
+  leaves_seen (Err NoMemory) any tracked tells =
+      left_by (tracked (λ e. cc)) (tells (λ e. cc)) (Err NoMemory) (now_of (Err NoMemory) (any (λ e. cc)))

@@ -1,0 +1,175 @@
+-- A file that is made behind the others.
+use Rattle.std.specs.Prelude.{Bool, false, Option, Some, None, Ok, Err, Vec, take}
+use Rattle.std.specs.declared.alloc.Global.{Global}
+use Rattle.std.specs.List.{All, IsDistinct, AllByRecursion}
+use Rattle.std.proofs.Common.{◌≡◌, ℕ, ◌+◌, ◌*◌, ◌<◌, ◌≤◌, List, [], ◌∷◌, ◌++◌, map, length, refl, sym, ◌∙◌, ap, subst, arith, lit≤}
+use Rattle.std.proofs.lemmas.List.Elements.{All-push}
+use Rattle.std.proofs.lemmas.Map.Keys.{IsDistinct-head, IsDistinct-tail, IsDistinct-cons}
+use Rattle.faults.specs.Faults.{WhereTold}
+use Rattle.ctss_types.specs.Names.{NamePair}
+use Rattle.ctss_types.specs.declared.file.FileBody.{FileBody}
+use Rattle.ctss_types.specs.declared.file.Refusal.TheVariants.{Quota}
+use Rattle.file_model.specs.Files.{same_name, file_named, if_they_fit, with_new, tracks_of, tracks_of_words}
+use Rattle.file_map.proofs.Names.{without_head}
+use Rattle.file_map.proofs.Operations.{fits, over}
+use Rattle.file_map.proofs.Tracks.{tracks-cons}
+use Rattle.track_store.specs.Tracks.{count_taken}
+use Rattle.track_store.proofs.Taken.{taken_below}
+use Rattle.track_store.specs.Words.{row, joined, with_words}
+use Rattle.file_tracks.specs.Places.{count_in, bit}
+use Rattle.file_tracks.specs.Stored.{body_on, files_on, occurs, used_by, HasTracks, HasMode, IsWhole, MayBe, IsDirectory, StandBeside, LeavesOthers}
+use Rattle.file_tracks.specs.declared.table.Filed.{Filed}
+use Rattle.file_tracks.proofs.Joined.{set_all, with_words_is, joined_same, other_row, whole_rows}
+use Rattle.file_tracks.proofs.Tables.{files_same, occurs_at, occurs-append, tracks_are}
+use Rattle.file_tracks.proofs.Replaced.{bit_le, bit_taken}
+use Rattle.file_tracks.proofs.Puts.{no_rows}
+
+pub used-append : (fs gs : List Filed) → used_by (fs ++ gs) ≡ used_by fs + used_by gs
+used-append [] gs = omega arith
+used-append (f ∷ fs) gs = let k = used-append fs gs in omega (arith, k)
+
+files-push : (rows : List (List ℕ)) (fs : List Filed) (g : Filed) → files_on rows (fs ++ g ∷ []) ≡ files_on rows fs ++ body_on rows g ∷ []
+files-push rows [] g = refl
+files-push rows (f ∷ fs) g = ap (λ (xs : List FileBody). body_on rows f ∷ xs) (files-push rows fs g)
+
+tracks-push : (fs : List FileBody) (b : FileBody) → tracks_of (fs ++ b ∷ []) ≡ tracks_of fs + tracks_of_words (length b.words)
+tracks-push [] b = let e = tracks-cons b [] in let z : tracks_of [] ≡ 0 = refl in omega (arith, e, z)
+tracks-push (f ∷ fs) b =
+    let k = tracks-push fs b in
+    let e = tracks-cons f (fs ++ b ∷ []) in
+    let d = tracks-cons f fs in
+    omega (arith, k, e, d)
+
+-- a name that isn't there
+all_push : (P : NamePair → Type 0) (fs : List Filed) (g : Filed) → AllByRecursion P (map (λ (f : Filed). f.name) fs) → P g.name → AllByRecursion P (map (λ (f : Filed). f.name) (fs ++ g ∷ []))
+all_push P [] g all h = (h, tt)
+all_push P (f ∷ fs) g all h = (all.0, all_push P fs g all.1 h)
+
+names_push : (fs : List Filed) (g : Filed) → IsDistinct same_name (map (λ (f : Filed). f.name) fs) → file_named g.name (files_on [] fs) ≡ None → IsDistinct same_name (map (λ (f : Filed). f.name) (fs ++ g ∷ []))
+names_push [] g differ absent = IsDistinct-cons same_name g.name [] tt differ
+names_push (f ∷ fs) g differ absent =
+    let names = map (λ (f : Filed). f.name) fs in
+    let out = without_head g.name (body_on [] f) (files_on [] fs) absent in
+    IsDistinct-cons same_name f.name (map (λ (f : Filed). f.name) (fs ++ g ∷ []))
+    (all_push (λ n. same_name f.name n ≡ false) fs g (IsDistinct-head same_name f.name names differ) out.0)
+    (names_push fs g (IsDistinct-tail same_name f.name names differ) out.1)
+
+module _ (rows : List (List ℕ)) (taken taken' : List Bool) (fs : List Filed) (g : Filed) (padded : List ℕ)
+    (once : (t : ℕ) → occurs t fs ≤ bit taken t) (bits : (t : ℕ) → count_in t g.tracks.items + bit taken t ≡ bit taken' t)
+    (reach : length taken' ≤ length rows) (long : length padded ≡ 432 * length g.tracks.items) where
+  abbrev pub after : List (List ℕ)
+  after = set_all rows g.tracks.items padded
+
+  new_once : (t : ℕ) → count_in t g.tracks.items ≤ 1
+  new_once t = let a = bits t in let b = bit_le taken' t in omega (arith, a, b)
+
+  new_within : (t : ℕ) → 1 ≤ count_in t g.tracks.items → t < length rows
+  new_within t some =
+      let a = bits t in
+      let b = taken_below taken' t (bit_taken taken' t (omega (arith, a, some))) in
+      omega (arith, b, reach)
+
+  -- a track of another file isn't among the new ones
+  not_new : (t : ℕ) → 1 ≤ occurs t fs → count_in t g.tracks.items ≡ 0
+  not_new t some = let a = bits t in let b = bit_le taken' t in let c = once t in omega (arith, a, b, c, some)
+
+  new_words : joined after g.tracks.items ≡ padded
+  new_words = joined_same rows g.tracks.items padded new_once new_within long
+
+  pub made_elsewhere : (others : ℕ → ℕ) → ((t : ℕ) → others t + occurs t fs ≡ bit taken t) → (t : ℕ) → 1 ≤ others t → row after t ≡ row rows t
+  made_elsewhere others beside t some =
+      other_row rows g.tracks.items padded t (let a = bits t in let b = bit_le taken' t in let c = beside t in omega (arith, a, b, c, some))
+
+  pub made_files : files_on after (fs ++ g ∷ []) ≡ files_on rows fs ++ record { name = g.name; mode = g.mode; words = take g.words padded } ∷ []
+  made_files =
+      files-push after fs g
+      ∙ (λ j. files_same rows after fs (λ t some. other_row rows g.tracks.items padded t (not_new t some)) j ++ record { name = g.name; mode = g.mode; words = take g.words (new_words j) } ∷ [])
+
+  pub made_whole : All (IsWhole rows) fs → All (IsWhole after) (fs ++ g ∷ [])
+  made_whole all =
+      All-push (IsWhole after) fs g
+      (λ i d low t some.
+      ap length (other_row rows g.tracks.items padded t (not_new t (let o = occurs_at t fs i d low in omega (arith, o, some)))) ∙ all i d low t some)
+      (λ t some. whole_rows rows g.tracks.items padded new_once new_within long t some)
+
+module _ (o : Option (List (List ℕ))) (taken taken' : List Bool) (quota used now n : ℕ) (fs : List Filed) (v : Vec ℕ Global) (ws padded : List ℕ) (name : NamePair)
+    (h : IsDirectory o taken quota used fs) (reaches : WhereTold o (λ rows. length taken ≤ length rows))
+    (bits : (t : ℕ) → count_in t v.items + bit taken t ≡ bit taken' t) (many : length taken' ≡ length taken)
+    (len : length v.items ≡ n) (tracks : n ≡ tracks_of_words (length ws)) (plen : length padded ≡ 432 * n) (cut : take (length ws) padded ≡ ws)
+    (sum : now ≡ used + n) (few : now ≤ quota) (counts : count_taken taken' ≡ count_taken taken + n)
+    (absent : (rows : List (List ℕ)) → file_named name (files_on rows fs) ≡ None) where
+  abbrev pub made : Filed
+  made = record { name = name; mode = 1; words = length ws; tracks = v }
+
+  reach_le : (rows : List (List ℕ)) → length taken ≤ length rows → length taken' ≤ length rows
+  reach_le rows e = omega (arith, e, many)
+
+  long : length padded ≡ 432 * length v.items
+  long = plen ∙ ap (λ (k : ℕ). 432 * k) (sym len)
+
+  whole_so : (o : Option (List (List ℕ))) → WhereTold o (λ rows. length taken ≤ length rows) → ((t : ℕ) → occurs t fs ≤ bit taken t) → WhereTold o (λ rows. All (IsWhole rows) fs)
+      → WhereTold (with_words o v.items padded) (λ rows. All (IsWhole rows) (fs ++ made ∷ []))
+  whole_so None e once all = subst (λ (p : Option (List (List ℕ))). WhereTold p (λ rows. All (IsWhole rows) (fs ++ made ∷ []))) (sym (no_rows v.items padded)) tt
+  whole_so (Some rows) e once all =
+      subst (λ (p : Option (List (List ℕ))). WhereTold p (λ rows. All (IsWhole rows) (fs ++ made ∷ []))) (sym (with_words_is rows v.items padded))
+      (made_whole rows taken taken' fs made padded once bits (reach_le rows e) long all)
+
+  pub made_works : IsDirectory (with_words o v.items padded) taken' quota now (fs ++ made ∷ [])
+  made_works = record {
+    once = λ t. (let a = h.once t in let b = bits t in let s = occurs-append t fs (made ∷ []) in omega (arith, a, b, s));
+    few = few;
+    room = (let r = h.room in omega (arith, r, counts, sum, many));
+    counted = (let a = h.counted in let s = used-append fs (made ∷ []) in omega (arith, a, s, len, sum));
+    tracked = All-push HasTracks fs made h.tracked (len ∙ tracks);
+    modes = All-push HasMode fs made h.modes (lit≤ tt);
+    differ = names_push fs made h.differ (absent []);
+    whole = whole_so o reaches h.once h.whole;
+  }
+
+  others_so : (o : Option (List (List ℕ))) → WhereTold o (λ rows. length taken ≤ length rows) → ((t : ℕ) → occurs t fs ≤ bit taken t) → (others : ℕ → ℕ) → StandBeside others taken fs
+      → WhereTold o (λ was. WhereTold (with_words o v.items padded) (λ now. (t : ℕ) → 1 ≤ others t → row now t ≡ row was t))
+  others_so None e once others beside = tt
+  others_so (Some rows) e once others beside =
+      subst (λ (p : Option (List (List ℕ))). WhereTold p (λ now. (t : ℕ) → 1 ≤ others t → row now t ≡ row rows t)) (sym (with_words_is rows v.items padded))
+      (made_elsewhere rows taken taken' fs made padded once bits (reach_le rows e) long others beside)
+
+  pub made_others : (others : ℕ → ℕ) → StandBeside others taken fs → LeavesOthers o (with_words o v.items padded) taken taken' fs (fs ++ made ∷ []) others
+  made_others others beside = record {
+    beside = λ t. (let a = beside t in let e = bits t in let s = occurs-append t fs (made ∷ []) in omega (arith, a, e, s));
+    held = others_so o reaches h.once others beside;
+  }
+
+  may_be : (o : Option (List (List ℕ))) (was : List (List ℕ)) → MayBe o was → MayBe (with_words o v.items padded) (set_all was v.items padded)
+  may_be None was m = subst (λ (p : Option (List (List ℕ))). MayBe p (set_all was v.items padded)) (sym (no_rows v.items padded)) tt
+  may_be (Some rows) was m =
+      subst (λ (p : Option (List (List ℕ))). MayBe p (set_all was v.items padded)) (sym (with_words_is rows v.items padded)) (ap (λ (x : List (List ℕ)). set_all x v.items padded) m)
+
+  -- whatever rows the disk had, it may have others now that hold the new words
+  pub made_any : (was : List (List ℕ)) → MayBe o was → length taken ≤ length was → All (IsWhole was) fs
+      → (after : List (List ℕ)) × (MayBe (with_words o v.items padded) after × (All (IsWhole after) (fs ++ made ∷ []) × (if_they_fit quota (with_new name ws (files_on was fs)) ≡ Ok (files_on after (fs ++ made ∷ [])))))
+  made_any was may reach whole =
+      let new : List (List ℕ) = set_all was v.items padded in
+      let all : All (IsWhole new) (fs ++ made ∷ []) = made_whole was taken taken' fs made padded h.once bits (reach_le was reach) long whole in
+      let is : files_on new (fs ++ made ∷ []) ≡ with_new name ws (files_on was fs) =
+      made_files was taken taken' fs made padded h.once bits (reach_le was reach) long
+      ∙ ap (λ (zs : List ℕ). with_new name zs (files_on was fs)) cut in (
+        new,
+        (
+          may_be o was may,
+          (
+            all,
+            fits quota (with_new name ws (files_on was fs)) (files_on new (fs ++ made ∷ [])) now is
+                (record { count = made_works.counted ∙ sym (tracks_are new (fs ++ made ∷ []) made_works.tracked all); most = few }),
+          ),
+        ),
+      )
+
+-- words that would pass the quota
+pub made_passes : (o : Option (List (List ℕ))) (taken : List Bool) (quota used n : ℕ) (fs : List Filed) (ws : List ℕ) (name : NamePair) → IsDirectory o taken quota used fs → n ≡ tracks_of_words (length ws) → quota < used + n
+    → (rows : List (List ℕ)) → All (IsWhole rows) fs → if_they_fit quota (with_new name ws (files_on rows fs)) ≡ Err Quota
+made_passes o taken quota used n fs ws name h tracks lt rows whole =
+    let b : FileBody = record { name = name; mode = 1; words = ws } in
+    let e = tracks-push (files_on rows fs) b in
+    let t = tracks_are rows fs h.tracked whole in
+    let c = h.counted in
+    over quota (with_new name ws (files_on rows fs)) (omega (arith, e, t, c, tracks, lt))

@@ -1,0 +1,153 @@
+-- What a call that puts words into a file may count on, and leaves.
+use Rattle.std.specs.Prelude.{Bool, false, Option, Some, None, Ok, Err, Vec, take, drop, nat_le}
+use Rattle.std.specs.declared.alloc.Global.{Global}
+use Rattle.std.specs.List.{All, IsDistinct}
+use Rattle.std.proofs.Common.{◌≡◌, ℕ, ◌+◌, ◌*◌, ◌<◌, ◌≤◌, List, [], ◌∷◌, set, length, get_or, refl, sym, ◌∙◌, ap, subst, arith}
+use Rattle.std.proofs.lemmas.Bool.Decides.{nat_tests}
+use Rattle.std.proofs.lemmas.List.Elements.{All-set, All-get_or}
+use Rattle.faults.specs.Faults.{WhereTold}
+use Rattle.ctss_types.specs.Names.{NamePair}
+use Rattle.ctss_types.specs.declared.file.FileBody.{FileBody}
+use Rattle.ctss_types.specs.declared.file.Refusal.TheVariants.{Quota}
+use Rattle.file_model.specs.Files.{same_name, file_named, put, with_change, tracks_of_words}
+use Rattle.file_map.specs.Directory.{IsCounted}
+use Rattle.file_map.proofs.Operations.{put_done, put_over}
+use Rattle.file_map.proofs.Counts.{too_many}
+use Rattle.track_store.specs.Tracks.{count_taken}
+use Rattle.track_store.specs.Words.{row, with_words}
+use Rattle.file_tracks.specs.Places.{count_in, bit}
+use Rattle.file_tracks.specs.Stored.{content, body_on, files_on, occurs, HasTracks, HasMode, IsWhole, MayBe, IsDirectory, StandBeside, LeavesOthers}
+use Rattle.file_tracks.specs.declared.table.Filed.{Filed}
+use Rattle.file_tracks.proofs.Joined.{set_all, with_words_is}
+use Rattle.file_tracks.proofs.Tables.{used_at, used-set, occurs_at, occurs-set, tracks_are, content-length, names_differ, names_set}
+use Rattle.file_tracks.proofs.Found.{is_found}
+use Rattle.file_tracks.proofs.Replaced.{Swaps, whole_still, elsewhere, replaced}
+
+module _ (rows : Option (List (List ℕ))) (taken : List Bool) (quota used : ℕ) (fs : List Filed) (h : IsDirectory rows taken quota used fs) where
+  pub within_used : (i : ℕ) (d : Filed) → i < length fs → length (get_or fs i d).tracks.items ≤ used
+  within_used i d low = let a = used_at fs i d low in let b = h.counted in omega (arith, a, b)
+
+  pub old_bits : (i : ℕ) (d : Filed) → i < length fs → (t : ℕ) → count_in t (get_or fs i d).tracks.items ≤ bit taken t
+  old_bits i d low t = let a = occurs_at t fs i d low in let b = h.once t in omega (arith, a, b)
+
+  pub room_for_more : (now before after : ℕ) → now + before ≡ used + after → now ≤ quota → count_taken taken + after ≤ length taken + before
+  room_for_more now before after e few = let a = h.room in omega (arith, a, e, few)
+
+pub no_rows : (ts ws : List ℕ) → with_words None ts ws ≡ None
+no_rows [] ws = refl
+no_rows (t ∷ ts) ws = no_rows ts (drop 432 ws)
+
+-- other words for the file at a place, in other tracks
+module _ (o : Option (List (List ℕ))) (taken taken' : List Bool) (quota used now n : ℕ) (fs : List Filed) (i : ℕ) (f : Filed) (v : Vec ℕ Global) (ws padded : List ℕ)
+    (h : IsDirectory o taken quota used fs) (low : i < length fs) (is : f ≡ get_or fs i f) (reaches : WhereTold o (λ rows. length taken ≤ length rows))
+    (swaps : (t : ℕ) → count_in t v.items + bit taken t ≡ count_in t f.tracks.items + bit taken' t) (many : length taken' ≡ length taken)
+    (len : length v.items ≡ n) (tracks : n ≡ tracks_of_words (length ws)) (plen : length padded ≡ 432 * n) (cut : take (length ws) padded ≡ ws)
+    (sum : now + length f.tracks.items ≡ used + n) (fits : now ≤ quota) (counts : count_taken taken' + length f.tracks.items ≡ count_taken taken + n) where
+  abbrev pub g : Filed
+  g = record { name = f.name; mode = f.mode; words = length ws; tracks = v }
+
+  swaps_at : Swaps taken taken' (get_or fs i f).tracks.items v.items
+  swaps_at = record { bits = λ t. swaps t ∙ ap (λ (x : Filed). count_in t x.tracks.items + bit taken' t) is }
+
+  many_le : (rows : List (List ℕ)) → length taken ≤ length rows → length taken' ≤ length rows
+  many_le rows e = omega (arith, e, many)
+
+  long : length padded ≡ 432 * length v.items
+  long = plen ∙ ap (λ (k : ℕ). 432 * k) (sym len)
+
+  whole_so : (o : Option (List (List ℕ))) → WhereTold o (λ rows. length taken ≤ length rows) → ((t : ℕ) → occurs t fs ≤ bit taken t) → WhereTold o (λ rows. All (IsWhole rows) fs) → WhereTold (with_words o v.items padded) (λ rows. All (IsWhole rows) (set fs i g))
+  whole_so None e once all = subst (λ (p : Option (List (List ℕ))). WhereTold p (λ rows. All (IsWhole rows) (set fs i g))) (sym (no_rows v.items padded)) tt
+  whole_so (Some rows) e once all =
+      subst (λ (p : Option (List (List ℕ))). WhereTold p (λ rows. All (IsWhole rows) (set fs i g))) (sym (with_words_is rows v.items padded))
+      (whole_still rows taken taken' fs i f g padded low once swaps_at (many_le rows e) long all)
+
+  pub put_works : IsDirectory (with_words o v.items padded) taken' quota now (set fs i g)
+  put_works = record {
+    once = λ t. let a = h.once t in let e = swaps_at.bits t in let s = occurs-set t fs i g f low in let p = occurs_at t fs i f low in omega (arith, a, e, s, p);
+    few = fits;
+    room = (let r = h.room in omega (arith, r, counts, sum, many));
+    counted = (let a = h.counted in let s = used-set fs i g f low in let l = ap (λ (x : Filed). length x.tracks.items) is in omega (arith, a, s, l, len, sum));
+    tracked = All-set HasTracks fs i g (len ∙ tracks) h.tracked;
+    modes = All-set HasMode fs i g (subst HasMode (sym is) (All-get_or HasMode fs i f low h.modes)) h.modes;
+    differ = subst (λ (ns : List NamePair). IsDistinct same_name ns) (sym (names_set fs i g f low (ap (λ (x : Filed). x.name) is))) h.differ;
+    whole = whole_so o reaches h.once h.whole;
+  }
+
+  others_so : (o : Option (List (List ℕ))) → WhereTold o (λ rows. length taken ≤ length rows) → ((t : ℕ) → occurs t fs ≤ bit taken t) → (others : ℕ → ℕ) → StandBeside others taken fs
+      → WhereTold o (λ was. WhereTold (with_words o v.items padded) (λ now. (t : ℕ) → 1 ≤ others t → row now t ≡ row was t))
+  others_so None e once others beside = tt
+  others_so (Some rows) e once others beside =
+      subst (λ (p : Option (List (List ℕ))). WhereTold p (λ now. (t : ℕ) → 1 ≤ others t → row now t ≡ row rows t)) (sym (with_words_is rows v.items padded))
+      (elsewhere rows taken taken' fs i f g padded low once swaps_at (many_le rows e) long others beside)
+
+  pub put_others : (others : ℕ → ℕ) → StandBeside others taken fs → LeavesOthers o (with_words o v.items padded) taken taken' fs (set fs i g) others
+  put_others others beside = record {
+    beside = λ t. let a = beside t in let e = swaps_at.bits t in let s = occurs-set t fs i g f low in omega (arith, a, e, s);
+    held = others_so o reaches h.once others beside;
+  }
+
+  module _ (name : NamePair) (found : (rows : List (List ℕ)) (d : Filed) → file_named name (files_on rows fs) ≡ Some (body_on rows (get_or fs i d))) (free : f.mode < 2) where
+    found_is : (rows : List (List ℕ)) → file_named name (files_on rows fs) ≡ Some (body_on rows f)
+    found_is rows = found rows f ∙ ap (λ (x : Filed). Some (body_on rows x)) (sym is)
+
+    not_kept : false ≡ nat_le 2 f.mode
+    not_kept = test f.mode free
+      where
+        test : (m : ℕ) → m < 2 → false ≡ nat_le 2 m
+        test m k = grind (arith, nat_tests)
+
+    done_so : (o : Option (List (List ℕ))) → WhereTold o (λ rows. length taken ≤ length rows) → IsDirectory o taken quota used fs → IsDirectory (with_words o v.items padded) taken' quota now (set fs i g)
+        → WhereTold o (λ was. WhereTold (with_words o v.items padded) (λ after. put name ws quota (files_on was fs) ≡ Ok (files_on after (set fs i g))))
+    done_so None e d w = tt
+    done_so (Some rows) e d w =
+        let rows' : List (List ℕ) = set_all rows v.items padded in
+        let whole : All (IsWhole rows') (set fs i g) = subst (λ (p : Option (List (List ℕ))). WhereTold p (λ rows. All (IsWhole rows) (set fs i g))) (with_words_is rows v.items padded) w.whole in
+        let after : files_on rows' (set fs i g) ≡ with_change name (λ (x : FileBody). record x { words = ws }) (files_on rows fs) =
+        replaced rows taken taken' fs i f g padded low d.once swaps_at (many_le rows e) long name (names_differ rows fs d.differ)
+        (is_found name (files_on rows fs) (body_on rows (get_or fs i f)) (found rows f)) (ap (λ (x : Filed). x.name) is) (ap (λ (x : Filed). x.mode) is)
+        ∙ ap (λ (zs : List ℕ). with_change name (λ (x : FileBody). record x { words = zs }) (files_on rows fs)) cut in
+        subst (λ (p : Option (List (List ℕ))). WhereTold p (λ after. put name ws quota (files_on rows fs) ≡ Ok (files_on after (set fs i g)))) (sym (with_words_is rows v.items padded))
+        (put_done name ws quota (files_on rows fs) (body_on rows f) (found_is rows) not_kept (files_on rows' (set fs i g)) now after
+        (record { count = w.counted ∙ sym (tracks_are rows' (set fs i g) w.tracked whole); most = fits }))
+
+    pub put_is_done : WhereTold o (λ was. WhereTold (with_words o v.items padded) (λ after. put name ws quota (files_on was fs) ≡ Ok (files_on after (set fs i g))))
+    put_is_done = done_so o reaches h put_works
+
+    may_be : (o : Option (List (List ℕ))) (was : List (List ℕ)) → MayBe o was → MayBe (with_words o v.items padded) (set_all was v.items padded)
+    may_be None was m = subst (λ (p : Option (List (List ℕ))). MayBe p (set_all was v.items padded)) (sym (no_rows v.items padded)) tt
+    may_be (Some rows) was m =
+        subst (λ (p : Option (List (List ℕ))). MayBe p (set_all was v.items padded)) (sym (with_words_is rows v.items padded)) (ap (λ (x : List (List ℕ)). set_all x v.items padded) m)
+
+    -- whatever rows the disk had, it may have others now that hold the new words
+    pub put_any : (was : List (List ℕ)) → MayBe o was → length taken ≤ length was → All (IsWhole was) fs
+        → (after : List (List ℕ)) × (MayBe (with_words o v.items padded) after × (All (IsWhole after) (set fs i g) × (put name ws quota (files_on was fs) ≡ Ok (files_on after (set fs i g)))))
+    put_any was may few whole =
+        let d : IsDirectory (Some was) taken quota used fs =
+        record { once = h.once; few = h.few; room = h.room; counted = h.counted; tracked = h.tracked; modes = h.modes; differ = h.differ; whole = whole } in
+        let w : IsDirectory (with_words (Some was) v.items padded) taken' quota now (set fs i g) =
+        record { once = put_works.once; few = put_works.few; room = put_works.room; counted = put_works.counted; tracked = put_works.tracked; modes = put_works.modes; differ = put_works.differ; whole = whole_so (Some was) few h.once whole } in (
+          set_all was v.items padded,
+          (
+            may_be o was may,
+            (
+              subst (λ (p : Option (List (List ℕ))). WhereTold p (λ rows. All (IsWhole rows) (set fs i g))) (with_words_is was v.items padded) w.whole,
+              subst (λ (p : Option (List (List ℕ))). WhereTold p (λ after. put name ws quota (files_on was fs) ≡ Ok (files_on after (set fs i g)))) (with_words_is was v.items padded) (done_so (Some was) few d w),
+            ),
+          ),
+        )
+
+-- words that would pass the quota
+pub put_passes : (o : Option (List (List ℕ))) (taken : List Bool) (quota used n : ℕ) (fs : List Filed) (i : ℕ) (f : Filed) (ws : List ℕ) (name : NamePair) → IsDirectory o taken quota used fs → i < length fs → f ≡ get_or fs i f
+    → ((rows : List (List ℕ)) (d : Filed) → file_named name (files_on rows fs) ≡ Some (body_on rows (get_or fs i d))) → f.mode < 2 → n ≡ tracks_of_words (length ws) → quota + length f.tracks.items < used + n
+    → (rows : List (List ℕ)) → All (IsWhole rows) fs → put name ws quota (files_on rows fs) ≡ Err Quota
+put_passes o taken quota used n fs i f ws name h low is found free tracks lt rows whole =
+    let here : file_named name (files_on rows fs) ≡ Some (body_on rows f) = found rows f ∙ ap (λ (x : Filed). Some (body_on rows x)) (sym is) in
+    let counted : IsCounted (files_on rows fs) quota used = record { count = h.counted ∙ sym (tracks_are rows fs h.tracked whole); most = h.few } in
+    let tf : HasTracks f = subst HasTracks (sym is) (All-get_or HasTracks fs i f low h.tracked) in
+    let wf : IsWhole rows f = subst (IsWhole rows) (sym is) (All-get_or (IsWhole rows) fs i f low whole) in
+    let s : length f.tracks.items ≡ tracks_of_words (length (content rows f)) = tf ∙ ap tracks_of_words (sym (content-length rows f tf wf)) in
+    put_over name ws quota (files_on rows fs) (body_on rows f) here (test f.mode free)
+    (too_many name (files_on rows fs) quota used counted (λ (x : FileBody). record x { words = ws }) (body_on rows f) (length f.tracks.items) n (names_differ rows fs h.differ) here s tracks lt)
+  where
+    test : (m : ℕ) → m < 2 → false ≡ nat_le 2 m
+    test m k = grind (arith, nat_tests)

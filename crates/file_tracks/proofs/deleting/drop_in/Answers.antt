@@ -1,0 +1,65 @@
+use Rattle.std.specs.Prelude.{filter, take, drop}
+use Rattle.std.proofs.Common.{◌≡◌, ◌+◌, ◌-◌, ◌++◌, ℕ, length, sym, ◌∙◌, ap, arith, refl}
+use Rattle.file_tracks.specs.Stored.{files_on}
+use Rattle.file_tracks.proofs.Drops.{lasts, lasting_are, drop_cases, place_inside, part_at}
+use Rattle.file_tracks.proofs.deleting.drop_in.Goals as goal
+
+pub dropping-init : goal.dropping-init
+dropping-init g c =
+    let fs = c.args.table.now.files.items in
+    record {
+      items = sym (ap (λ (n : ℕ). take n fs ++ filter lasts (drop n fs)) (let e : length fs - 0 ≡ length fs = omega arith in e) ∙ part_at fs);
+      others = λ others beside. beside;
+      works = c.requires.works;
+      quota = refl;
+      less = omega arith;
+      counts = refl;
+      many = refl;
+      same = refl;
+      now = refl;
+    }
+
+pub drop_at-requires-clause-at : goal.drop_at-requires-clause-at
+drop_at-requires-clause-at g c =
+    let fs = c.args.table.now.files.items in
+    let n = c.len-count.ensures in
+    let low = c.dropping-test.true in
+    let cur = c.dropping.table.files.items in
+    let at : c.len-count.result - 1 - c.dropping.k ≡ length fs - 1 - c.dropping.k = omega (arith, n) in
+    let is = c.dropping.invariant.items in
+    let place : length fs - c.dropping.k ≡ (c.len-count.result - 1 - c.dropping.k) + 1 = omega (arith, n, low) in
+    place_inside fs cur (c.len-count.result - 1 - c.dropping.k) (omega (arith, n, low)) (is ∙ ap (λ (m : ℕ). take m fs ++ filter lasts (drop m fs)) place)
+
+pub dropping-preserved : goal.dropping-preserved
+dropping-preserved g c =
+    let fs = c.args.table.now.files.items in
+    let n = c.len-count.ensures in
+    let low = c.dropping-test.true in
+    let k = c.dropping.k in
+    let at : ℕ = c.len-count.result - 1 - k in
+    let inv = c.dropping.invariant in
+    let e = c.drop_at.ensures in
+    let place : length fs - k ≡ at + 1 = omega (arith, n, low) in
+    let next : at ≡ length fs - (k + 1) = omega (arith, n, low) in
+    record {
+      items =
+          drop_cases fs at (omega (arith, n, low)) c.dropping.table.files.items c.drop_at.new.table.files.items
+          (inv.items ∙ ap (λ (m : ℕ). take m fs ++ filter lasts (drop m fs)) place) e.items
+          ∙ ap (λ (m : ℕ). take m fs ++ filter lasts (drop m fs)) next;
+      others = λ others beside. e.others others (inv.others others beside);
+      works = e.works;
+      quota = e.quota ∙ inv.quota;
+      less = (let a = e.less in let b = inv.less in omega (arith, a, b));
+      counts = (let a = e.counts in let b = inv.counts in omega (arith, a, b));
+      many = e.many ∙ inv.many;
+      same = e.same ∙ inv.same;
+      now = e.now ∙ inv.now;
+    }
+
+pub returns-clause-left : goal.returns-clause-left
+returns-clause-left g c = λ rows.
+    let fs = c.args.table.now.files.items in
+    let n = c.len-count.ensures in
+    let past = c.dropping-test.false in
+    let none : length fs - c.dropping.k ≡ 0 = omega (arith, n, past) in
+    ap (files_on rows) (c.dropping.invariant.items ∙ ap (λ (m : ℕ). take m fs ++ filter lasts (drop m fs)) none) ∙ lasting_are rows fs

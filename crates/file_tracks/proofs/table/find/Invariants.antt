@@ -1,0 +1,7 @@
+use Rattle.std.proofs.Common.{◌≡◌, ℕ, List, drop}
+use Rattle.file_model.specs.Files.{file_named}
+use Rattle.file_tracks.specs.Stored.{files_on}
+use Rattle.file_tracks.proofs.table.find.Given as goal
+
+abbrev pub invariant-finding : goal.invariant-finding
+invariant-finding l = (rows : List (List ℕ)) → file_named l.name (files_on rows (drop l.at l.files)) ≡ file_named l.name (files_on rows l.files)

@@ -1,0 +1,5 @@
+pub mod Places
+pub mod Stored
+pub mod Directories
+pub mod Seen
+pub mod Kept

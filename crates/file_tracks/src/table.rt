@@ -1,0 +1,75 @@
+//! A directory whose files lie on tracks.
+ghost use Rattle.std.specs.Prelude.{◌≡◌, ◌<◌, ℕ, List, [], length, is_some, slice_index_or, Some, None, MatchOption};
+ghost use Rattle.file_model.specs.Files.{file_named};
+ghost use Rattle.file_tracks.specs.Stored.{body_on, files_on};
+ghost use Rattle.file_tracks.specs.declared.table.Filed.{Filed};
+
+use ctss_types::FileName;
+use std::alloc::Global;
+
+/// A file: its names, its mode 0 to 3, how many words it has, and its tracks in order. What stands on its last track
+/// behind its words is no part of it.
+#[derive(Drop)]
+pub struct Filed {
+    pub name: FileName,
+    pub mode: u8,
+    pub words: u64,
+    pub tracks: Vec<u16>,
+}
+
+/// A directory's files in order of making, with its quota and how many tracks are in use.
+#[derive(Drop)]
+pub struct TrackTable {
+    pub files: Vec<Filed>,
+    pub quota: u16,
+    pub used: u32,
+}
+
+/// The place of the file of a name.
+#[tactic(auto, using(crate::proofs::Found::named_more, crate::proofs::Found::named_none))]
+fn find(files: &[Filed], name: FileName) -> Option<usize>
+    ensures { MatchOption result
+        ((rows : List (List ℕ)) → file_named name (files_on rows files.now) ≡ None)
+        (λ i. (i < length files.now) × ((rows : List (List ℕ)) (d : Filed)
+        → file_named name (files_on rows files.now) ≡ Some (body_on rows (slice_index_or files.now i d)))) }
+{
+    'finding: for at in 0..files.len() {
+        if files[at].name == name {
+            return Some(at);
+        }
+    }
+    None
+}
+
+impl TrackTable {
+    /// A directory without files.
+    pub fn new(alloc: Global, quota: u16) -> TrackTable
+        ensures files { result.files.items ≡ [] }
+        ensures quota { result.quota ≡ quota }
+        ensures used { result.used ≡ 0 }
+    {
+        TrackTable {
+            files: Vec::new(alloc),
+            quota,
+            used: 0,
+        }
+    }
+
+    /// The place of the file of a name.
+    pub(crate) fn place(&self, name: FileName) -> Option<usize>
+        ensures { MatchOption result
+            ((rows : List (List ℕ)) → file_named name (files_on rows self.now.files.items) ≡ None)
+            (λ i. (i < length self.now.files.items) × ((rows : List (List ℕ)) (d : Filed)
+            → file_named name (files_on rows self.now.files.items)
+            ≡ Some (body_on rows (slice_index_or self.now.files.items i d)))) }
+    {
+        find(&self.files, name)
+    }
+
+    /// Whether there is a file of a name.
+    pub(crate) fn has(&self, name: FileName) -> bool
+        ensures { (rows : List (List ℕ)) → result ≡ is_some (file_named name (files_on rows self.now.files.items)) }
+    {
+        self.place(name).is_some()
+    }
+}

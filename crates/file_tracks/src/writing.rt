@@ -1,0 +1,398 @@
+//! Calls on a directory that write words.
+ghost use Rattle.std.specs.Prelude.{◌≡◌, ◌<◌, ◌≤◌, ◌+◌, ◌++◌, ◌∷◌, [], ◌^◌, ℕ, List, length, vec_len, vec_capacity, slice_index_or, Some, None, OnOk, IsErrOf};
+ghost use Rattle.faults.specs.Faults.{Rose};
+ghost use Rattle.ctss_types.specs.declared.file.Refusal.{Refusal};
+ghost use Rattle.file_model.specs.Files.{file_named, put, written, appended, if_they_fit, with_new};
+ghost use Rattle.track_store.specs.Tracks.{count_taken, Serves};
+ghost use Rattle.file_tracks.specs.Stored.{body_on, files_on, IsDirectory, StandBeside, LeavesOthers, LeavesAny};
+ghost use Rattle.file_tracks.specs.Seen.{tells_of};
+ghost use Rattle.file_tracks.specs.declared.table.Filed.{Filed};
+
+use crate::patches::{extend_tracks, patched, swap_tracks};
+use crate::table::{Filed, TrackTable};
+use crate::words::{copied, padded, room_for_tracks, tracks_for, used_after};
+use ctss_types::{FileName, NoMemory, Refusal, StepFault};
+use file_map::PortFault;
+use medium::Medium;
+use std::alloc::Global;
+use track_store::TrackStore;
+use word36::Word;
+
+/// Other words for the file at a place, in other tracks.
+#[tactic(auto, using(crate::proofs::Puts::within_used, crate::proofs::Puts::old_bits, crate::proofs::Puts::room_for_more))]
+fn replace_in<F: Medium>(
+    alloc: Global,
+    table: &mut TrackTable,
+    store: &mut TrackStore<'_, F>,
+    name: FileName,
+    at: usize,
+    words: &[Word],
+) -> Result<(), PortFault>
+    requires works { IsDirectory (F.rows store.old.disk.now) store.old.tracks.taken.items
+        table.old.quota table.old.used table.old.files.items }
+    requires serves { Serves (F.rows store.old.disk.now) (F.record_count store.old.disk.now)
+        (F.words_each store.old.disk.now) (length store.old.tracks.taken.items) }
+    requires at { at < length table.old.files.items }
+    requires found { (rows : List (List ℕ)) (d : Filed) → file_named name (files_on rows table.old.files.items)
+        ≡ Some (body_on rows (slice_index_or table.old.files.items at d)) }
+    requires small { table.old.used < 2 ^ 32 }
+    ensures any { ¬ IsErrOf result PortFault.Disk
+        → LeavesAny result (put name words.now table.old.quota)
+        (F.rows store.old.disk.now) (F.rows store.new.disk.now) (length store.old.tracks.taken.items)
+        table.old.files.items table.new.files.items }
+    ensures others { ¬ IsErrOf result PortFault.Disk → (others : ℕ → ℕ)
+        → StandBeside others store.old.tracks.taken.items table.old.files.items
+        → LeavesOthers (F.rows store.old.disk.now) (F.rows store.new.disk.now) store.old.tracks.taken.items
+        store.new.tracks.taken.items table.old.files.items table.new.files.items others }
+    ensures works { ¬ IsErrOf result PortFault.Disk
+        → IsDirectory (F.rows store.new.disk.now) store.new.tracks.taken.items
+        table.new.quota table.new.used table.new.files.items }
+    ensures quota { table.new.quota ≡ table.old.quota }
+    ensures refused { (r : Refusal) → IsErrOf result (PortFault.Refused r)
+        → store.new.disk.now ≡ store.old.disk.now }
+    ensures told { ¬ IsErrOf result PortFault.Disk
+        → tells_of (F.rows store.new.disk.now) ≡ tells_of (F.rows store.old.disk.now) }
+    ensures counts { ¬ IsErrOf result PortFault.Disk → count_taken store.new.tracks.taken.items + table.old.used
+        ≡ count_taken store.old.tracks.taken.items + table.new.used }
+    ensures many { length store.new.tracks.taken.items ≡ length store.old.tracks.taken.items }
+    ensures same { store.new.disk.ghost_name ≡ store.old.disk.ghost_name }
+    ensures serves { Serves (F.rows store.new.disk.now) (F.record_count store.new.disk.now)
+        (F.words_each store.new.disk.now) (length store.new.tracks.taken.items) }
+    ensures kept { F.faults store.old.disk.now ≤ F.faults store.new.disk.now }
+    ensures cause { IsErrOf result PortFault.Disk
+        → Rose (F.faults store.old.disk.now) (F.faults store.new.disk.now) }
+{
+    let file = &table.files[at];
+    if file.mode >= 2 {
+        return Err(PortFault::Refused(Refusal::ReadOnly));
+    }
+    let before = file.tracks.len() as u64;
+    let after = tracks_for(words.len() as u64);
+    let Some(used) = used_after(table.used, table.quota, before, after) else {
+        return Err(PortFault::Refused(Refusal::Quota));
+    };
+    let Ok(bits) = padded(alloc, words, after as usize) else {
+        return Err(PortFault::NoMemory);
+    };
+    let Ok(fresh) = room_for_tracks(alloc, after as usize) else {
+        return Err(PortFault::NoMemory);
+    };
+    let file = &mut table.files[at];
+    let Ok(tracks) = swap_tracks(store, &file.tracks, fresh, after as usize, &bits) else {
+        return Err(PortFault::Disk);
+    };
+    file.words = words.len() as u64;
+    file.tracks = tracks;
+    table.used = used;
+    Ok(())
+}
+
+/// Words written into the file at a place, from one of its words on, or behind its end.
+fn write_at<F: Medium>(
+    alloc: Global,
+    table: &mut TrackTable,
+    store: &mut TrackStore<'_, F>,
+    name: FileName,
+    at: usize,
+    place: u64,
+    words: &[Word],
+) -> Result<(), PortFault>
+    requires works { IsDirectory (F.rows store.old.disk.now) store.old.tracks.taken.items
+        table.old.quota table.old.used table.old.files.items }
+    requires serves { Serves (F.rows store.old.disk.now) (F.record_count store.old.disk.now)
+        (F.words_each store.old.disk.now) (length store.old.tracks.taken.items) }
+    requires at { at < length table.old.files.items }
+    requires found { (rows : List (List ℕ)) (d : Filed) → file_named name (files_on rows table.old.files.items)
+        ≡ Some (body_on rows (slice_index_or table.old.files.items at d)) }
+    requires small { table.old.used < 2 ^ 32 }
+    ensures any { ¬ IsErrOf result PortFault.Disk
+        → LeavesAny result (written name place words.now table.old.quota)
+        (F.rows store.old.disk.now) (F.rows store.new.disk.now) (length store.old.tracks.taken.items)
+        table.old.files.items table.new.files.items }
+    ensures others { ¬ IsErrOf result PortFault.Disk → (others : ℕ → ℕ)
+        → StandBeside others store.old.tracks.taken.items table.old.files.items
+        → LeavesOthers (F.rows store.old.disk.now) (F.rows store.new.disk.now) store.old.tracks.taken.items
+        store.new.tracks.taken.items table.old.files.items table.new.files.items others }
+    ensures works { ¬ IsErrOf result PortFault.Disk
+        → IsDirectory (F.rows store.new.disk.now) store.new.tracks.taken.items
+        table.new.quota table.new.used table.new.files.items }
+    ensures quota { table.new.quota ≡ table.old.quota }
+    ensures refused { (r : Refusal) → IsErrOf result (PortFault.Refused r)
+        → store.new.disk.now ≡ store.old.disk.now }
+    ensures told { ¬ IsErrOf result PortFault.Disk
+        → tells_of (F.rows store.new.disk.now) ≡ tells_of (F.rows store.old.disk.now) }
+    ensures counts { ¬ IsErrOf result PortFault.Disk → count_taken store.new.tracks.taken.items + table.old.used
+        ≡ count_taken store.old.tracks.taken.items + table.new.used }
+    ensures many { length store.new.tracks.taken.items ≡ length store.old.tracks.taken.items }
+    ensures same { store.new.disk.ghost_name ≡ store.old.disk.ghost_name }
+    ensures serves { Serves (F.rows store.new.disk.now) (F.record_count store.new.disk.now)
+        (F.words_each store.new.disk.now) (length store.new.tracks.taken.items) }
+    ensures kept { F.faults store.old.disk.now ≤ F.faults store.new.disk.now }
+    ensures cause { IsErrOf result PortFault.Disk
+        → Rose (F.faults store.old.disk.now) (F.faults store.new.disk.now) }
+{
+    let file = &table.files[at];
+    if file.mode >= 2 {
+        return Err(PortFault::Refused(Refusal::ReadOnly));
+    }
+    if place > file.words {
+        return Err(PortFault::Refused(Refusal::PastEnd));
+    }
+    let before = file.tracks.len();
+    let end = place + words.len() as u64;
+    let len = file.words.max(end);
+    let after = tracks_for(len);
+    let Some(used) = used_after(table.used, table.quota, before as u64, after) else {
+        return Err(PortFault::Refused(Refusal::Quota));
+    };
+    let from = (place / 432) as usize;
+    let to = end.div_ceil(432) as usize;
+    let kept = to.min(before);
+    let fresh = after as usize - before;
+    let Ok(tracks) = copied(alloc, &file.tracks, after as usize) else {
+        return Err(PortFault::NoMemory);
+    };
+    let first = place as usize - 432 * from;
+    let part = &file.tracks[from..kept];
+    let patch = match patched(alloc, store, part, to - from, first, words) {
+        Ok(patch) => patch,
+        Err(StepFault::NoMemory) => return Err(PortFault::NoMemory),
+        Err(StepFault::Disk) => return Err(PortFault::Disk),
+    };
+    let Ok(tracks) = extend_tracks(store, tracks, fresh, from, to, &patch) else {
+        return Err(PortFault::Disk);
+    };
+    let file = &mut table.files[at];
+    file.words = len;
+    file.tracks = tracks;
+    table.used = used;
+    Ok(())
+}
+
+/// Room for a file more. The files stay, whatever the answer.
+fn room_for_file(table: &mut TrackTable) -> Result<(), NoMemory>
+    ensures files { table.new.files.items ≡ table.old.files.items }
+    ensures quota { table.new.quota ≡ table.old.quota }
+    ensures used { table.new.used ≡ table.old.used }
+    ensures room { OnOk result (vec_len table.new.files < vec_capacity table.new.files) }
+{
+    table.files.reserve(1)?;
+    Ok(())
+}
+
+/// Puts a file behind the others. There is room for it.
+fn add_file(table: &mut TrackTable, file: Filed, used: u32)
+    requires { vec_len table.old.files < vec_capacity table.old.files }
+    ensures files { table.new.files.items ≡ table.old.files.items ++ file ∷ [] }
+    ensures quota { table.new.quota ≡ table.old.quota }
+    ensures used { table.new.used ≡ used }
+{
+    let _ = table.files.push(file);
+    table.used = used;
+}
+
+/// A new file of mode 1 behind the others.
+fn make<F: Medium>(
+    alloc: Global,
+    table: &mut TrackTable,
+    store: &mut TrackStore<'_, F>,
+    name: FileName,
+    words: &[Word],
+) -> Result<(), PortFault>
+    requires works { IsDirectory (F.rows store.old.disk.now) store.old.tracks.taken.items
+        table.old.quota table.old.used table.old.files.items }
+    requires serves { Serves (F.rows store.old.disk.now) (F.record_count store.old.disk.now)
+        (F.words_each store.old.disk.now) (length store.old.tracks.taken.items) }
+    requires absent { (rows : List (List ℕ)) → file_named name (files_on rows table.old.files.items) ≡ None }
+    requires small { table.old.used < 2 ^ 32 }
+    ensures any { ¬ IsErrOf result PortFault.Disk
+        → LeavesAny result (λ files. if_they_fit table.old.quota (with_new name words.now files))
+        (F.rows store.old.disk.now) (F.rows store.new.disk.now) (length store.old.tracks.taken.items)
+        table.old.files.items table.new.files.items }
+    ensures others { ¬ IsErrOf result PortFault.Disk → (others : ℕ → ℕ)
+        → StandBeside others store.old.tracks.taken.items table.old.files.items
+        → LeavesOthers (F.rows store.old.disk.now) (F.rows store.new.disk.now) store.old.tracks.taken.items
+        store.new.tracks.taken.items table.old.files.items table.new.files.items others }
+    ensures works { ¬ IsErrOf result PortFault.Disk
+        → IsDirectory (F.rows store.new.disk.now) store.new.tracks.taken.items
+        table.new.quota table.new.used table.new.files.items }
+    ensures quota { table.new.quota ≡ table.old.quota }
+    ensures refused { (r : Refusal) → IsErrOf result (PortFault.Refused r)
+        → store.new.disk.now ≡ store.old.disk.now }
+    ensures told { ¬ IsErrOf result PortFault.Disk
+        → tells_of (F.rows store.new.disk.now) ≡ tells_of (F.rows store.old.disk.now) }
+    ensures counts { ¬ IsErrOf result PortFault.Disk → count_taken store.new.tracks.taken.items + table.old.used
+        ≡ count_taken store.old.tracks.taken.items + table.new.used }
+    ensures many { length store.new.tracks.taken.items ≡ length store.old.tracks.taken.items }
+    ensures same { store.new.disk.ghost_name ≡ store.old.disk.ghost_name }
+    ensures serves { Serves (F.rows store.new.disk.now) (F.record_count store.new.disk.now)
+        (F.words_each store.new.disk.now) (length store.new.tracks.taken.items) }
+    ensures kept { F.faults store.old.disk.now ≤ F.faults store.new.disk.now }
+    ensures cause { IsErrOf result PortFault.Disk
+        → Rose (F.faults store.old.disk.now) (F.faults store.new.disk.now) }
+{
+    let after = tracks_for(words.len() as u64);
+    let Some(used) = used_after(table.used, table.quota, 0, after) else {
+        return Err(PortFault::Refused(Refusal::Quota));
+    };
+    let Ok(bits) = padded(alloc, words, after as usize) else {
+        return Err(PortFault::NoMemory);
+    };
+    let Ok(fresh) = room_for_tracks(alloc, after as usize) else {
+        return Err(PortFault::NoMemory);
+    };
+    let Ok(()) = room_for_file(table) else {
+        return Err(PortFault::NoMemory);
+    };
+    let Ok(tracks) = swap_tracks(store, &[], fresh, after as usize, &bits) else {
+        return Err(PortFault::Disk);
+    };
+    let file = Filed {
+        name,
+        mode: 1,
+        words: words.len() as u64,
+        tracks,
+    };
+    add_file(table, file, used);
+    Ok(())
+}
+
+/// Replaces a file's content. An absent file is made.
+pub(crate) fn put_in<F: Medium>(
+    alloc: Global,
+    table: &mut TrackTable,
+    store: &mut TrackStore<'_, F>,
+    name: FileName,
+    words: &[Word],
+) -> Result<(), PortFault>
+    requires works { IsDirectory (F.rows store.old.disk.now) store.old.tracks.taken.items
+        table.old.quota table.old.used table.old.files.items }
+    requires serves { Serves (F.rows store.old.disk.now) (F.record_count store.old.disk.now)
+        (F.words_each store.old.disk.now) (length store.old.tracks.taken.items) }
+    requires small { table.old.used < 2 ^ 32 }
+    ensures any { ¬ IsErrOf result PortFault.Disk
+        → LeavesAny result (put name words.now table.old.quota)
+        (F.rows store.old.disk.now) (F.rows store.new.disk.now) (length store.old.tracks.taken.items)
+        table.old.files.items table.new.files.items }
+    ensures others { ¬ IsErrOf result PortFault.Disk → (others : ℕ → ℕ)
+        → StandBeside others store.old.tracks.taken.items table.old.files.items
+        → LeavesOthers (F.rows store.old.disk.now) (F.rows store.new.disk.now) store.old.tracks.taken.items
+        store.new.tracks.taken.items table.old.files.items table.new.files.items others }
+    ensures works { ¬ IsErrOf result PortFault.Disk
+        → IsDirectory (F.rows store.new.disk.now) store.new.tracks.taken.items
+        table.new.quota table.new.used table.new.files.items }
+    ensures quota { table.new.quota ≡ table.old.quota }
+    ensures refused { (r : Refusal) → IsErrOf result (PortFault.Refused r)
+        → store.new.disk.now ≡ store.old.disk.now }
+    ensures told { ¬ IsErrOf result PortFault.Disk
+        → tells_of (F.rows store.new.disk.now) ≡ tells_of (F.rows store.old.disk.now) }
+    ensures counts { ¬ IsErrOf result PortFault.Disk → count_taken store.new.tracks.taken.items + table.old.used
+        ≡ count_taken store.old.tracks.taken.items + table.new.used }
+    ensures many { length store.new.tracks.taken.items ≡ length store.old.tracks.taken.items }
+    ensures same { store.new.disk.ghost_name ≡ store.old.disk.ghost_name }
+    ensures serves { Serves (F.rows store.new.disk.now) (F.record_count store.new.disk.now)
+        (F.words_each store.new.disk.now) (length store.new.tracks.taken.items) }
+    ensures kept { F.faults store.old.disk.now ≤ F.faults store.new.disk.now }
+    ensures cause { IsErrOf result PortFault.Disk
+        → Rose (F.faults store.old.disk.now) (F.faults store.new.disk.now) }
+{
+    let Some(at) = table.place(name) else {
+        return make(alloc, table, store, name, words);
+    };
+    replace_in(alloc, table, store, name, at, words)
+}
+
+/// Writes words from a place on. At place 0 an absent file is made.
+pub(crate) fn write_in<F: Medium>(
+    alloc: Global,
+    table: &mut TrackTable,
+    store: &mut TrackStore<'_, F>,
+    name: FileName,
+    place: u64,
+    words: &[Word],
+) -> Result<(), PortFault>
+    requires works { IsDirectory (F.rows store.old.disk.now) store.old.tracks.taken.items
+        table.old.quota table.old.used table.old.files.items }
+    requires serves { Serves (F.rows store.old.disk.now) (F.record_count store.old.disk.now)
+        (F.words_each store.old.disk.now) (length store.old.tracks.taken.items) }
+    requires small { table.old.used < 2 ^ 32 }
+    ensures any { ¬ IsErrOf result PortFault.Disk
+        → LeavesAny result (written name place words.now table.old.quota)
+        (F.rows store.old.disk.now) (F.rows store.new.disk.now) (length store.old.tracks.taken.items)
+        table.old.files.items table.new.files.items }
+    ensures others { ¬ IsErrOf result PortFault.Disk → (others : ℕ → ℕ)
+        → StandBeside others store.old.tracks.taken.items table.old.files.items
+        → LeavesOthers (F.rows store.old.disk.now) (F.rows store.new.disk.now) store.old.tracks.taken.items
+        store.new.tracks.taken.items table.old.files.items table.new.files.items others }
+    ensures works { ¬ IsErrOf result PortFault.Disk
+        → IsDirectory (F.rows store.new.disk.now) store.new.tracks.taken.items
+        table.new.quota table.new.used table.new.files.items }
+    ensures quota { table.new.quota ≡ table.old.quota }
+    ensures refused { (r : Refusal) → IsErrOf result (PortFault.Refused r)
+        → store.new.disk.now ≡ store.old.disk.now }
+    ensures told { ¬ IsErrOf result PortFault.Disk
+        → tells_of (F.rows store.new.disk.now) ≡ tells_of (F.rows store.old.disk.now) }
+    ensures counts { ¬ IsErrOf result PortFault.Disk → count_taken store.new.tracks.taken.items + table.old.used
+        ≡ count_taken store.old.tracks.taken.items + table.new.used }
+    ensures many { length store.new.tracks.taken.items ≡ length store.old.tracks.taken.items }
+    ensures same { store.new.disk.ghost_name ≡ store.old.disk.ghost_name }
+    ensures serves { Serves (F.rows store.new.disk.now) (F.record_count store.new.disk.now)
+        (F.words_each store.new.disk.now) (length store.new.tracks.taken.items) }
+    ensures kept { F.faults store.old.disk.now ≤ F.faults store.new.disk.now }
+    ensures cause { IsErrOf result PortFault.Disk
+        → Rose (F.faults store.old.disk.now) (F.faults store.new.disk.now) }
+{
+    let Some(at) = table.place(name) else {
+        if place == 0 {
+            return make(alloc, table, store, name, words);
+        }
+        return Err(PortFault::Refused(Refusal::NoFile));
+    };
+    write_at(alloc, table, store, name, at, place, words)
+}
+
+/// Writes words behind a file's end. An absent file is made.
+pub(crate) fn append_in<F: Medium>(
+    alloc: Global,
+    table: &mut TrackTable,
+    store: &mut TrackStore<'_, F>,
+    name: FileName,
+    words: &[Word],
+) -> Result<(), PortFault>
+    requires works { IsDirectory (F.rows store.old.disk.now) store.old.tracks.taken.items
+        table.old.quota table.old.used table.old.files.items }
+    requires serves { Serves (F.rows store.old.disk.now) (F.record_count store.old.disk.now)
+        (F.words_each store.old.disk.now) (length store.old.tracks.taken.items) }
+    requires small { table.old.used < 2 ^ 32 }
+    ensures any { ¬ IsErrOf result PortFault.Disk
+        → LeavesAny result (appended name words.now table.old.quota)
+        (F.rows store.old.disk.now) (F.rows store.new.disk.now) (length store.old.tracks.taken.items)
+        table.old.files.items table.new.files.items }
+    ensures others { ¬ IsErrOf result PortFault.Disk → (others : ℕ → ℕ)
+        → StandBeside others store.old.tracks.taken.items table.old.files.items
+        → LeavesOthers (F.rows store.old.disk.now) (F.rows store.new.disk.now) store.old.tracks.taken.items
+        store.new.tracks.taken.items table.old.files.items table.new.files.items others }
+    ensures works { ¬ IsErrOf result PortFault.Disk
+        → IsDirectory (F.rows store.new.disk.now) store.new.tracks.taken.items
+        table.new.quota table.new.used table.new.files.items }
+    ensures quota { table.new.quota ≡ table.old.quota }
+    ensures refused { (r : Refusal) → IsErrOf result (PortFault.Refused r)
+        → store.new.disk.now ≡ store.old.disk.now }
+    ensures told { ¬ IsErrOf result PortFault.Disk
+        → tells_of (F.rows store.new.disk.now) ≡ tells_of (F.rows store.old.disk.now) }
+    ensures counts { ¬ IsErrOf result PortFault.Disk → count_taken store.new.tracks.taken.items + table.old.used
+        ≡ count_taken store.old.tracks.taken.items + table.new.used }
+    ensures many { length store.new.tracks.taken.items ≡ length store.old.tracks.taken.items }
+    ensures same { store.new.disk.ghost_name ≡ store.old.disk.ghost_name }
+    ensures serves { Serves (F.rows store.new.disk.now) (F.record_count store.new.disk.now)
+        (F.words_each store.new.disk.now) (length store.new.tracks.taken.items) }
+    ensures kept { F.faults store.old.disk.now ≤ F.faults store.new.disk.now }
+    ensures cause { IsErrOf result PortFault.Disk
+        → Rose (F.faults store.old.disk.now) (F.faults store.new.disk.now) }
+{
+    let Some(at) = table.place(name) else {
+        return make(alloc, table, store, name, words);
+    };
+    let end = table.files[at].words;
+    write_at(alloc, table, store, name, at, end, words)
+}

@@ -1,0 +1,153 @@
+//! Supervisor entries for common files.
+ghost use Rattle.std.specs.Prelude.{◌≡◌, ◌<◌, ◌≤◌, ◌+◌, ◌-◌, ◌*◌, ◌^◌, true, Ok, Some, length, IfOk, OnErr};
+ghost use Rattle.program_model.specs.declared.Call.{Call};
+ghost use Rattle.tia_entry.specs.Buffers.{HasBuffer};
+ghost use Rattle.user_model.specs.Programs.{is_common_count};
+ghost use Rattle.user_model.specs.Programs.{call_asks};
+ghost use Rattle.user_session.specs.Changes.{Answered, CallTook};
+ghost use Rattle.ctss_types.specs.declared.file.CommonOp.{CommonOp};
+ghost use Rattle.user_session.specs.Turns.{Enters};
+ghost use Rattle.file_model.specs.Commons.{ReplyFits};
+
+use crate::file_entry::WENT;
+use crate::session::Session;
+use crate::{Step, Turn};
+use cpu_regs::MemoryPort;
+use ctss_types::{CommonOp, FileName, NoMemory, Reply, Sequence};
+use file_model::refusal_number;
+use program_model::Call;
+use tia_entry::{store_fitting, words_in};
+
+/// Whether an operation on common files may have so many words: at most 432.
+fn is_common_count(count: u16) -> bool
+    ensures { result ≡ is_common_count count }
+{
+    count <= 432
+}
+
+impl Session {
+    /// CRDFIL: the operation that reads words, or reply 7 where there are too many.
+    #[tactic(auto, using(user_model::proofs::CoreLaws::recut_same))]
+    pub(crate) fn ask_read<M: MemoryPort>(
+        &mut self,
+        core: &M,
+        name: FileName,
+        at: u16,
+        count: u16,
+        place: u64,
+        now: u64,
+    ) -> Turn
+        requires on { self.old.on ≡ true }
+        requires size { length (M.words core.now) ≡ 256 * self.old.inner.blocks }
+        requires fits { self.old.own < 2 ^ 64 - 1 }
+        ensures row { Enters (Ok (Call.CommonRead name at count place)) result
+            now self.old self.new (M.words core.now) (M.words core.now) }
+        ensures account { self.new.inner.account ≡ self.old.inner.account }
+    {
+        if !is_common_count(count) {
+            self.reply(3, 7, None);
+            return Turn::Done(WENT);
+        }
+        Turn::Asks(CommonOp::Read { name, place, count })
+    }
+
+    /// CWRFIL: the operation that writes a buffer, or reply 7 where it has too many words.
+    #[tactic(auto, using(user_model::proofs::CoreLaws::recut_same))]
+    pub(crate) fn ask_write<M: MemoryPort>(
+        &mut self,
+        core: &M,
+        name: FileName,
+        at: u16,
+        count: u16,
+        place: u64,
+        now: u64,
+    ) -> Result<Turn, NoMemory>
+        requires on { self.old.on ≡ true }
+        requires size { length (M.words core.now) ≡ 256 * self.old.inner.blocks }
+        requires fits { self.old.own < 2 ^ 64 - 1 }
+        requires within { at + count ≤ length (M.words core.now) }
+        ensures row { IfOk result (λ turn. Enters (Ok (Call.CommonWrite name at count place)) turn
+            now self.old self.new (M.words core.now) (M.words core.now)) }
+        ensures account { self.new.inner.account ≡ self.old.inner.account }
+        ensures err { OnErr result (self.new ≡ self.old) }
+    {
+        if !is_common_count(count) {
+            self.reply(3, 7, None);
+            return Ok(Turn::Done(WENT));
+        }
+        let words = words_in(*self.items.allocator(), core, at, count)?;
+        Ok(Turn::Asks(CommonOp::Write {
+            name,
+            place,
+            words: Sequence::from_vec(words),
+        }))
+    }
+
+    /// A call that made a common operation, with so many arguments and a buffer, takes its reply.
+    #[tactic(auto, using(user_model::proofs::CoreLaws::recut_same))]
+    fn take_answer<M: MemoryPort>(
+        &mut self,
+        core: &mut M,
+        arguments: u8,
+        at: u16,
+        reply: &Reply,
+    ) -> Step
+        requires on { self.old.on ≡ true }
+        requires arguments { arguments ≤ 3 }
+        requires size { length (M.words core.old) ≡ 256 * self.old.inner.blocks }
+        requires fits { self.old.own < 2 ^ 64 - 1 }
+        requires told { ReplyFits reply.now }
+        ensures row { Answered arguments at reply.now result.ending result.clock
+            self.old self.new (M.words core.old) (M.words core.new) }
+        ensures account { self.new.inner.account ≡ self.old.inner.account }
+        ensures keeps { M.Keeps core.old core.new }
+    {
+        match reply {
+            Reply::Done => {
+                self.reply(arguments, 0, None);
+                WENT
+            }
+            Reply::Size(size) => {
+                self.reply(arguments, 0, Some(*size));
+                WENT
+            }
+            Reply::Words(words) => {
+                store_fitting(core, at, words.as_slice());
+                self.reply(arguments, 0, None);
+                WENT
+            }
+            Reply::Refused(refusal) => {
+                self.reply(arguments, refusal_number(*refusal), None);
+                WENT
+            }
+        }
+    }
+
+    /// A call that made a common operation goes on with its reply.
+    pub(crate) fn call_replied<M: MemoryPort>(
+        &mut self,
+        core: &mut M,
+        call: Call,
+        reply: &Reply,
+    ) -> Step
+        requires on { self.old.on ≡ true }
+        requires size { length (M.words core.old) ≡ 256 * self.old.inner.blocks }
+        requires fits { self.old.own < 2 ^ 64 - 1 }
+        requires told { ReplyFits reply.now }
+        requires asks { (op : CommonOp) × (call_asks call (M.words core.old) ≡ Some op) }
+        ensures row { CallTook call reply.now result.ending result.clock
+            self.old self.new (M.words core.old) (M.words core.new) }
+        ensures account { self.new.inner.account ≡ self.old.inner.account }
+        ensures keeps { M.Keeps core.old core.new }
+    {
+        match call {
+            Call::CommonStat { name: _ } | Call::CommonDelete { name: _ } => self.take_answer(
+                core, 1, 0, reply,
+            ),
+            Call::CommonRead { at, .. } | Call::CommonWrite { at, .. } => self.take_answer(
+                core, 3, at, reply,
+            ),
+            _ => unreachable!(),
+        }
+    }
+}

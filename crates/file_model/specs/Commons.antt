@@ -1,4 +1,4 @@
--- proof: the common directory: what each operation answers, and the files behind it.
+-- claim: the common directory: what each operation answers, and the files behind it.
 use Rattle.std.specs.Prelude.{ℕ, ◌<◌, ◌^◌, ◌+◌, ◌*◌, List, Ok, Err}
 use Rattle.std.specs.declared.result.Result.{Result}
 use Rattle.ctss_types.specs.declared.file.FileBody.{FileBody}

@@ -1,6 +1,6 @@
 -- What a core does behind its calls.
 use Rattle.std.proofs.Common.{◌≡◌, ℕ, true, List, [], ◌∷◌, ◌++◌, map, None, refl, sym, ap, ◌∙◌}
-use Rattle.std.proofs.lemmas.List.{append_assoc, append-nil}
+use Rattle.std.proofs.lemmas.List.{append_assoc}
 use Rattle.ctss_types.specs.declared.script.Timed.{Timed}
 use Rattle.system_model.specs.Run.{Run, run_to, given, given_all}
 use Rattle.system_model.specs.Joined.{joined}
@@ -11,7 +11,10 @@ use Rattle.supervisor.specs.Whole.{Whole, AreCounted, run_of}
 use Rattle.supervisor.proofs.Counting.{counted_same, counted_on}
 use Rattle.plan_model.specs.Loads.{no_places}
 use Rattle.live_run.specs.Calls.{Takes, Follows, run_over}
+use Rattle.console_texts.specs.Watching.{texts_to}
 use Rattle.live_laws.specs.Parts.{Part, run_in, calls_of, CallsAreRuns}
+use Rattle.live_laws.specs.Texts.{texts_in, CallsShowTexts}
+use Rattle.live_laws.proofs.InParts.{given_none}
 
 -- to give an event changes no user, so it is the same with words and without
 given_joined : (f : ℕ → List ℕ) (e : Timed) (r : Run) → joined f (given e r) ≡ given e (joined f r)
@@ -21,9 +24,6 @@ given_joined f e r = refl
 given_both : (e : Timed) (es : List Timed) (r : Run) → given_all es (given e r) ≡ given_all (e ∷ es) r
 unfolding given
 given_both e es r = λ i. record r { system = record r.system { events = append_assoc r.system.events (e ∷ []) es i } }
-
-given_none : (r : Run) → given_all [] r ≡ r
-given_none r = λ i. record r { system = record r.system { events = append-nil r.system.events i } }
 
 taken : (e : Timed) (old new : Whole) → Takes e old new → run_over new ≡ given e (run_over old)
 taken e old new t =
@@ -50,8 +50,8 @@ counted_nowhere a = counted_same a.bare.entries a.bare.entries a.cores.calls a.c
 
 -- events, and then other calls
 pub all_taken : (es : List Timed) (calls : List CoreCall) (old new : Whole) → Follows (map Took es ++ calls) old new
-    → (mid : Whole) × (run_over mid ≡ given_all es (run_over old)) × (mid.cores.memory.tells ≡ old.cores.memory.tells) × AreCounted old mid × Follows calls mid new
-all_taken [] calls old new h = (old, sym (given_none (run_over old)), refl, counted_nowhere old, h)
+    → (mid : Whole) × (run_over mid ≡ given_all es (run_over old)) × (mid.cores.memory.tells ≡ old.cores.memory.tells) × AreCounted old mid × Follows calls mid new × (mid.bare.texts ≡ old.bare.texts)
+all_taken [] calls old new h = (old, sym (given_none (run_over old)), refl, counted_nowhere old, h, refl)
 all_taken (e ∷ es) calls old new h =
     let rest = all_taken es calls h.0 new h.2 in (
       rest.0,
@@ -59,6 +59,7 @@ all_taken (e ∷ es) calls old new h =
       rest.2 ∙ ap (λ (c : CoresState). c.memory.tells) h.1.cores,
       counted_both old h.0 rest.0 (counted_taken e old h.0 h.1) rest.3,
       rest.4,
+      rest.5 ∙ h.1.texts,
     )
 
 pub calls_are_runs : CallsAreRuns
@@ -78,3 +79,15 @@ calls_are_counted (p ∷ parts) old new h =
     let given = all_taken p.events (Went p.limit None ∷ calls_of parts) old new h in
     let went = given.4 in
     counted_both old given.0 new given.3 (counted_both given.0 went.0 new went.1.counted (calls_are_counted parts went.0 new went.2))
+
+-- and behind these calls the consoles show what they show in the run in these parts
+pub calls_show_texts : CallsShowTexts
+calls_show_texts [] old new told h = ap (λ (w : Whole). w.bare.texts) h
+calls_show_texts (p ∷ parts) old new told h =
+    let given = all_taken p.events (Went p.limit None ∷ calls_of parts) old new h in
+    let went = given.4 in
+    let tells : given.0.cores.memory.tells ≡ true = given.2 ∙ told in
+    let run : run_over went.0 ≡ run_to p.limit (given_all p.events (run_over old)) = went.1.ended tells ∙ ap (run_to p.limit) given.1 in
+    let texts : went.0.bare.texts ≡ texts_to p.limit (given_all p.events (run_over old)) old.bare.texts =
+    went.1.texts tells ∙ (λ i. texts_to p.limit (given.1 i) (given.5 i)) in
+    calls_show_texts parts went.0 new (went.1.tells ∙ tells) went.2 ∙ (λ i. texts_in parts (run i) (texts i))

@@ -18,18 +18,18 @@ late_before : (low high : ℕ) (es : List Timed) → low ≤ high → AreLate hi
 late_before low high [] le h = tt
 late_before low high (e ∷ es) le h = (omega (arith, le, h.0), late_before low high es le h.1)
 
-last_is_late : (parts : List Part) (start last : ℕ) → AreInOrder start last parts → start ≤ last
+pub last_is_late : (parts : List Part) (start last : ℕ) → AreInOrder start last parts → start ≤ last
 last_is_late [] start last h = omega (arith, h)
 last_is_late (p ∷ parts) start last h = omega (arith, h.0, last_is_late parts p.limit last h.1.1)
 
-all_late : (parts : List Part) (start last : ℕ) → AreInOrder start last parts → AreLate start (all_events parts)
+pub all_late : (parts : List Part) (start last : ℕ) → AreInOrder start last parts → AreLate start (all_events parts)
 all_late [] start last h = tt
 all_late (p ∷ parts) start last h = late_more start p.events (all_events parts) h.1.0 (late_before start p.limit (all_events parts) h.0 (all_late parts p.limit last h.1.1))
 
-given_more : (es fs : List Timed) (r : Run) → given_all (es ++ fs) r ≡ given_all fs (given_all es r)
+pub given_more : (es fs : List Timed) (r : Run) → given_all (es ++ fs) r ≡ given_all fs (given_all es r)
 given_more es fs r = λ i. record r { system = record r.system { events = sym (append_assoc r.system.events es fs) i } }
 
-given_none : (r : Run) → given_all [] r ≡ r
+pub given_none : (r : Run) → given_all [] r ≡ r
 given_none r = λ i. record r { system = record r.system { events = append-nil r.system.events i } }
 
 -- to give events in parts is to give all of them before
@@ -45,7 +45,7 @@ done : (p : Part) (parts : List Part) (start last : ℕ) (r : Run) → AreInOrde
 done p [] start last r h = ap (λ (k : ℕ). run_to k (run_to p.limit (given_all p.events r))) (sym h.1.1) ∙ runs_in_parts p.limit p.limit (given_all p.events r) (omega arith)
 done p (q ∷ parts) start last r h = done q parts p.limit last (run_to p.limit (given_all p.events r)) h.1.1
 
-all_given : (base : Script) (events : List Timed) (last : ℕ) → given_all events (start_of (record base { events = [] })) ≡ start_of (live_script base events last)
+pub all_given : (base : Script) (events : List Timed) (last : ℕ) → given_all events (start_of (record base { events = [] })) ≡ start_of (live_script base events last)
 unfolding start_of
 all_given base events last = refl
 

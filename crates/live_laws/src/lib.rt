@@ -5,6 +5,7 @@
 
 ghost use Rattle.live_laws.specs.Beginnings.{StoppedRunsAreBeginnings, StoppedPartsAreBeginnings};
 ghost use Rattle.live_laws.specs.Parts.{LiveRunsAreReplays, CallsAreRuns};
+ghost use Rattle.live_laws.specs.Texts.{TextsInParts, LateEventsShowNothing, LiveTextsAreReplayed, CallsShowTexts};
 
 /// The record of a run to which events are given in parts is that of the script with all of them.
 #[tactic(auto, using(crate::proofs::InParts::live_runs_are_replays))]
@@ -28,4 +29,28 @@ pub fn stopped_runs_are_beginnings()
 #[tactic(auto, using(crate::proofs::Beginnings::stopped_parts_are_beginnings))]
 pub fn stopped_parts_are_beginnings()
     ensures { StoppedPartsAreBeginnings }
+{}
+
+/// To go on in parts, with events that come meanwhile, shows what one long run shows.
+#[tactic(auto, using(crate::proofs::TextsInParts::texts_in_parts))]
+pub fn texts_in_parts()
+    ensures { TextsInParts }
+{}
+
+/// Events that come late show nothing before.
+#[tactic(auto, using(crate::proofs::TextsInParts::late_events_show_nothing))]
+pub fn late_events_show_nothing()
+    ensures { LateEventsShowNothing }
+{}
+
+/// What people saw at their consoles is what the script of it shows.
+#[tactic(auto, using(crate::proofs::LiveTexts::live_texts_are_replayed))]
+pub fn live_texts_are_replayed()
+    ensures { LiveTextsAreReplayed }
+{}
+
+/// What a supervisor shows behind its calls is what such a run shows, over a drum that tells its records and doesn't fail.
+#[tactic(auto, using(crate::proofs::Calls::calls_show_texts))]
+pub fn calls_show_texts()
+    ensures { CallsShowTexts }
 {}

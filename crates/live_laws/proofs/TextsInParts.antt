@@ -1,0 +1,36 @@
+-- The consoles' texts along runs in parts.
+use Rattle.std.proofs.Common.{◌≡◌, ℕ, ◌≤◌, List, [], refl, sym, ap, ◌∙◌, arith}
+use Rattle.std.proofs.lemmas.Bool.Decides.{nat_tests}
+use Rattle.ctss_types.specs.declared.file.FileBody.{FileBody}
+use Rattle.ctss_types.specs.declared.script.Timed.{Timed}
+use Rattle.time_sharing.specs.Rows.{machine}
+use Rattle.time_sharing.specs.Record.{AreLate}
+use Rattle.time_sharing.specs.Texts.{Watched, watched_to}
+use Rattle.time_sharing.proofs.TextsLaws.{watched}
+use Rattle.user_model.specs.Session.{user_rows}
+use Rattle.user_model.specs.User.{User}
+use Rattle.plan_model.specs.Plan.{Plan}
+use Rattle.system_model.specs.Round.{round}
+use Rattle.system_model.specs.Run.{Run, State, run_to, given_all}
+use Rattle.system_model.proofs.RunLaws.{ends}
+use Rattle.console_texts.specs.Watching.{watch, texts_to}
+use Rattle.live_laws.specs.Texts.{TextsInParts, LateEventsShowNothing}
+use Rattle.live_laws.proofs.Shown.{shown_in_parts, shown_before, stopped}
+
+pub texts_in_parts : TextsInParts
+unfolding run_to texts_to
+texts_in_parts events j k r texts le late =
+    let M = machine user_rows in
+    let W = round r.swap r.common r.accounts in
+    ap (λ (s : State). (watched_to M W k (watch (given_all events (record r { system = s })) (watched_to M W j (watch r texts)).texts)).texts) (sym (watched M W j (watch r texts)))
+    ∙ ap (λ (y : Watched User Plan (List FileBody)). y.texts) (shown_in_parts M W events (ends r.swap r.common r.accounts) j k (watch r texts) le late)
+
+pub late_events_show_nothing : LateEventsShowNothing
+unfolding texts_to
+late_events_show_nothing events limit r texts late =
+    shown_before (machine user_rows) (round r.swap r.common r.accounts) events (ends r.swap r.common r.accounts) limit (watch r texts) late
+
+-- a run to a limit reaches it
+pub reached : (limit : ℕ) (r : Run) → limit ≤ (run_to limit r).system.clock
+unfolding run_to
+reached limit r = let down = stopped (machine user_rows) (round r.swap r.common r.accounts) (ends r.swap r.common r.accounts) limit r.system in grind (arith, nat_tests, down)

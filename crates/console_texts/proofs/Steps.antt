@@ -18,7 +18,7 @@ use Rattle.system_model.specs.Run.{Run, next, taken, otherwise, attended, by_due
 use Rattle.system_model.specs.Cases.{reply_for, user_at, with_user, idle_notes, stop_notes, heard, line_taken, quit_taken, hang_taken, spent_taken, cut_taken, login_taken, dial_taken, idled, served, brought, stepped, waited}
 use Rattle.system_model.specs.Sound.{Sound, IsUser, HasSeat}
 use Rattle.system_model.proofs.EventLaws.{by_event}
-use Rattle.system_model.proofs.SoundLaws.{first_user}
+use Rattle.system_model.proofs.SoundLaws.{same_or_not, first_chosen}
 use Rattle.system_model.proofs.CaseLaws.{next_due, attended_loads, attended_steps, attended_waits, idles, preempts_none, begins, goes_on as serves_on, preempts}
 use Rattle.console_texts.specs.Parts.{Transcripts, Extends, refusal_lines}
 use Rattle.console_texts.specs.Following.{goes_on}
@@ -343,20 +343,6 @@ attended_rests v r who = by_load (must_load r.system.plan v.user (blocks_of (use
     by_load : (b : Bool) → must_load r.system.plan v.user (blocks_of (user_at v.user r.system.users).inner) ≡ b → Rests r (attended v r)
     by_load true m = subst (Rests r) (sym (attended_loads v r who.some m)) (brought_rests v.user r)
     by_load false m = by_step (can_step (user_at v.user r.system.users)) m refl
-
-first_chosen : (r : Run) (u : ℕ) → Sound r → user_of (chosen r.system.plan.levels) ≡ Some u → IsUser u r
-first_chosen r u sound h = by_first (chosen r.system.plan.levels) refl h
-  where
-    by_first : (o : Option (ℕ × Waiting)) → chosen r.system.plan.levels ≡ o → user_of o ≡ Some u → IsUser u r
-    by_first None e h = cc
-    by_first (Some x) e h = let p : (x.1).user ≡ u = cc in subst (λ (w : ℕ). IsUser w r) p (first_user r x.0 x.1 sound e)
-
-same_or_not : (m n : ℕ) → (m ≡ n) ⊎ (m ≢ n)
-same_or_not m n = by_test (nat_eq m n) refl
-  where
-    by_test : (b : Bool) → nat_eq m n ≡ b → (m ≡ n) ⊎ (m ≢ n)
-    by_test true e = inl (grind (arith, e))
-    by_test false e = inr (λ k. grind (arith, e, k))
 
 otherwise_rests : (limit : ℕ) (r : Run) → Sound r → Rests r (otherwise limit (user_of (chosen r.system.plan.levels)) r.system.service r)
 otherwise_rests limit r sound = by_both (user_of (chosen r.system.plan.levels)) r.system.service refl refl

@@ -1,19 +1,17 @@
 -- claim: how the run of a script ends.
-use Rattle.std.specs.Prelude.{◌≡◌, ℕ, ◌<◌, List, [], ◌∷◌, map, Option}
-use Rattle.std.specs.List.{All}
+use Rattle.std.specs.Prelude.{◌≡◌, ℕ, ◌<◌, Bool, [], Option, replicate}
+use Rattle.std.specs.declared.result.Result.{Result}
+use Rattle.ctss_types.specs.declared.fault.RunFault.{RunFault}
 use Rattle.ctss_types.specs.declared.script.Script.{Script}
 use Rattle.ctss_types.specs.declared.history.Record.{Record}
-use Rattle.user_model.specs.Inner.{blocks_of}
-use Rattle.user_model.specs.User.{User}
-use Rattle.system_model.specs.Run.{Run, run_to, AfterSteps}
-use Rattle.system_model.specs.Joined.{joined}
+use Rattle.system_model.specs.Run.{Run, AfterSteps}
 use Rattle.system_model.specs.Record.{start_of, record_of}
-use Rattle.plan_model.specs.Loads.{Places, no_places}
-use Rattle.console_texts.specs.Watching.{texts_to, AfterShown}
-use Rattle.supervisor.specs.Seen.{Bare, run_with, record_so_far}
+use Rattle.supervisor.specs.Seen.{record_so_far}
 use Rattle.medium.specs.Medium.{CallList}
 use Rattle.supervisor.specs.Counts.{IsCounted, IsCountedToLoad, calls_to_load}
 use Rattle.supervisor.specs.Steps.{LoadIsNext}
+use Rattle.supervisor.specs.Whole.{Whole, Advances}
+use Rattle.live_run.specs.Calls.{run_over}
 use Rattle.ctss_top.specs.declared.record.Played.{Played}
 use Rattle.ctss_top.specs.declared.record.Played.TheVariants.{Done, Stopped}
 
@@ -41,32 +39,13 @@ abbrev pub Faulted : Played → Type 0 → Type 0
 Faulted (Done rec) P = Unit {0}
 Faulted (Stopped rec) P = P
 
--- no user has a word or a block yet, and these are the quotas of blocks, behind that of nobody
-pub record HasCores (b : Bare) (quotas : List ℕ) : Type 0 where
-  pub words : joined (λ u. []) (run_with no_places b) ≡ run_with no_places b
-  pub quotas_are : quotas ≡ 0 ∷ map (λ (p : User). p.inner.account.blocks) b.users
-  pub empty : All (λ (p : User). blocks_of p.inner ≡ 0) b.users
-
--- The run to the limit, of consoles that had shown these texts: with these words and places of users' blocks the supervisor
--- stands for it, and it has the texts that its consoles have shown.
-pub record Reaches (limit : ℕ) (start : Run) (first : List (List ℕ)) (new : Bare) : Type 0 where
-  pub words : ℕ → List ℕ
-  pub places : Places
-  pub run : joined words (run_with places new) ≡ run_to limit start
-  pub texts : new.texts ≡ texts_to limit start first
-
--- some whole steps of it have the record of this state so far, and the texts
-pub record IsPart (limit : ℕ) (start : Run) (first : List (List ℕ)) (new : Bare) : Type 0 where
-  pub at : Run
-  pub part : AfterShown limit start at first new.texts
-  pub shown : record_so_far (run_with no_places new) ≡ record_so_far at
-
--- so it is, short of the limit, and the next step brings blocks into core; that load was cut off by a call of the drum that failed
-pub record Stops (limit : ℕ) (start : Run) (first : List (List ℕ)) (new : Bare) (was now : Option CallList) : Type 0 where
-  pub at : Run
-  pub part : AfterSteps limit start at
-  pub early : at.system.clock < limit
-  pub load : LoadIsNext at
-  pub shown : record_so_far (run_with no_places new) ≡ record_so_far at
-  pub counted : IsCountedToLoad start.system.entries new.entries was now (calls_to_load load.due.user at)
-  pub texts : IsPart limit start first new
+-- The run from a script's start to its end: its consoles had shown nothing, and this is what the drum had told of itself.
+pub record IsScriptRun (script : Script) (tells : Bool) (calls : Option CallList) (faults : ℕ) (result : Result Unit RunFault) (s : Whole) : Type 0 where
+  pub start : Whole
+  pub begun : run_over start ≡ start_of script
+  pub entries : start.bare.entries ≡ []
+  pub texts : start.bare.texts ≡ replicate 32 []
+  pub tells_are : start.back.held.tells ≡ tells
+  pub calls_are : start.back.calls ≡ calls
+  pub faults_are : start.back.faults ≡ faults
+  pub ran : Advances script.end result start s

@@ -5,7 +5,8 @@ use Rattle.ctss_types.specs.declared.script.Timed.{Timed}
 use Rattle.system_model.specs.Run.{Run, run_to, given, given_all}
 use Rattle.system_model.specs.Joined.{joined}
 use Rattle.live_core.specs.Core.{CoreCall, Took, Went}
-use Rattle.user_cores.specs.Cores.{CoresState}
+use Rattle.user_model.specs.Inner.{Stored}
+use Rattle.user_cores.specs.Backing.{BackState}
 use Rattle.supervisor.specs.Seen.{run_with}
 use Rattle.supervisor.specs.Whole.{Whole, AreCounted, run_of}
 use Rattle.supervisor.proofs.Counting.{counted_same, counted_on}
@@ -17,7 +18,7 @@ use Rattle.live_laws.specs.Texts.{texts_in, CallsShowTexts}
 use Rattle.live_laws.proofs.InParts.{given_none}
 
 -- to give an event changes no user, so it is the same with words and without
-given_joined : (f : ℕ → List ℕ) (e : Timed) (r : Run) → joined f (given e r) ≡ given e (joined f r)
+given_joined : (f : ℕ → Stored) (e : Timed) (r : Run) → joined f (given e r) ≡ given e (joined f r)
 unfolding joined given
 given_joined f e r = refl
 
@@ -27,9 +28,9 @@ given_both e es r = λ i. record r { system = record r.system { events = append_
 
 taken : (e : Timed) (old new : Whole) → Takes e old new → run_over new ≡ given e (run_over old)
 taken e old new t =
-    (λ i. joined (t.cores i).memory.words (run_with (t.cores i).memory.places new.bare))
-    ∙ ap (joined old.cores.memory.words) (t.run old.cores.memory.places)
-    ∙ given_joined old.cores.memory.words e (run_of old)
+    (λ i. joined (t.back i).held.stores (run_with (t.back i).held.places new.bare))
+    ∙ ap (joined old.back.held.stores) (t.run old.back.held.places)
+    ∙ given_joined old.back.held.stores e (run_of old)
 
 -- an event that is taken adds no entry, and no call of the drum
 
@@ -39,42 +40,42 @@ given_entries e r = refl
 
 counted_taken : (e : Timed) (old new : Whole) → Takes e old new → AreCounted old new
 counted_taken e old new t =
-    counted_same old.bare.entries new.bare.entries old.cores.calls new.cores.calls
-    (ap (λ (r : Run). r.system.entries) (t.run no_places) ∙ given_entries e (run_with no_places old.bare)) (ap (λ (c : CoresState). c.calls) t.cores)
+    counted_same old.bare.entries new.bare.entries old.back.calls new.back.calls
+    (ap (λ (r : Run). r.system.entries) (t.run no_places) ∙ given_entries e (run_with no_places old.bare)) (ap (λ (b : BackState). b.calls) t.back)
 
 pub counted_both : (a b c : Whole) → AreCounted a b → AreCounted b c → AreCounted a c
-counted_both a b c one two = counted_on a.bare.entries b.bare.entries c.bare.entries a.cores.calls b.cores.calls c.cores.calls one two
+counted_both a b c one two = counted_on a.bare.entries b.bare.entries c.bare.entries a.back.calls b.back.calls c.back.calls one two
 
 counted_nowhere : (a : Whole) → AreCounted a a
-counted_nowhere a = counted_same a.bare.entries a.bare.entries a.cores.calls a.cores.calls refl refl
+counted_nowhere a = counted_same a.bare.entries a.bare.entries a.back.calls a.back.calls refl refl
 
 -- events, and then other calls
 pub all_taken : (es : List Timed) (calls : List CoreCall) (old new : Whole) → Follows (map Took es ++ calls) old new
-    → (mid : Whole) × (run_over mid ≡ given_all es (run_over old)) × (mid.cores.memory.tells ≡ old.cores.memory.tells) × AreCounted old mid × Follows calls mid new × (mid.bare.texts ≡ old.bare.texts)
+    → (mid : Whole) × (run_over mid ≡ given_all es (run_over old)) × (mid.back.held.tells ≡ old.back.held.tells) × AreCounted old mid × Follows calls mid new × (mid.bare.texts ≡ old.bare.texts)
 all_taken [] calls old new h = (old, sym (given_none (run_over old)), refl, counted_nowhere old, h, refl)
 all_taken (e ∷ es) calls old new h =
     let rest = all_taken es calls h.0 new h.2 in (
       rest.0,
       rest.1 ∙ ap (given_all es) (taken e old h.0 h.1) ∙ given_both e es (run_over old),
-      rest.2 ∙ ap (λ (c : CoresState). c.memory.tells) h.1.cores,
+      rest.2 ∙ ap (λ (b : BackState). b.held.tells) h.1.back,
       counted_both old h.0 rest.0 (counted_taken e old h.0 h.1) rest.3,
       rest.4,
       rest.5 ∙ h.1.texts,
     )
 
 pub calls_are_runs : CallsAreRuns
-calls_are_runs [] old new told h = (ap run_over h, ap (λ (w : Whole). w.cores.memory.tells) h ∙ told)
+calls_are_runs [] old new told h = (ap run_over h, ap (λ (w : Whole). w.back.held.tells) h ∙ told)
 calls_are_runs (p ∷ parts) old new told h =
     let given = all_taken p.events (Went p.limit None ∷ calls_of parts) old new h in
     let went = given.4 in
-    let tells : given.0.cores.memory.tells ≡ true = given.2 ∙ told in
+    let tells : given.0.back.held.tells ≡ true = given.2 ∙ told in
     let rest = calls_are_runs parts went.0 new (went.1.tells ∙ tells) went.2 in
     (rest.0 ∙ ap (run_in parts) (went.1.ended tells ∙ ap (run_to p.limit) given.1), rest.1)
 
 -- the calls of the drum in these parts are those of their loads
 pub calls_are_counted : (parts : List Part) (old new : Whole) → Follows (calls_of parts) old new → AreCounted old new
 calls_are_counted [] old new h =
-    counted_same old.bare.entries new.bare.entries old.cores.calls new.cores.calls (ap (λ (w : Whole). w.bare.entries) h) (ap (λ (w : Whole). w.cores.calls) h)
+    counted_same old.bare.entries new.bare.entries old.back.calls new.back.calls (ap (λ (w : Whole). w.bare.entries) h) (ap (λ (w : Whole). w.back.calls) h)
 calls_are_counted (p ∷ parts) old new h =
     let given = all_taken p.events (Went p.limit None ∷ calls_of parts) old new h in
     let went = given.4 in
@@ -86,7 +87,7 @@ calls_show_texts [] old new told h = ap (λ (w : Whole). w.bare.texts) h
 calls_show_texts (p ∷ parts) old new told h =
     let given = all_taken p.events (Went p.limit None ∷ calls_of parts) old new h in
     let went = given.4 in
-    let tells : given.0.cores.memory.tells ≡ true = given.2 ∙ told in
+    let tells : given.0.back.held.tells ≡ true = given.2 ∙ told in
     let run : run_over went.0 ≡ run_to p.limit (given_all p.events (run_over old)) = went.1.ended tells ∙ ap (run_to p.limit) given.1 in
     let texts : went.0.bare.texts ≡ texts_to p.limit (given_all p.events (run_over old)) old.bare.texts =
     went.1.texts tells ∙ (λ i. texts_to p.limit (given.1 i) (given.5 i)) in

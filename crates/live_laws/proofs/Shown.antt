@@ -11,7 +11,7 @@ use Rattle.time_sharing.specs.Texts.{Watched, asks_password, refusals, written, 
 use Rattle.time_sharing.proofs.RepeatLaws.{repeat-suc, repeat-done, whole-step, whole-done}
 use Rattle.time_sharing.proofs.Ending.{falls}
 use Rattle.time_sharing.proofs.TextsLaws.{watched}
-use Rattle.live_laws.proofs.Given.{not_due, steps_with_more}
+use Rattle.time_sharing.proofs.Given.{not_due, steps_with_more}
 
 nothing_behind : {A : Type 0} (xs : List A) → drop (length xs) xs ≡ []
 nothing_behind [] = refl

@@ -46,5 +46,5 @@ calls_of (p ∷ parts) = map Took p.events ++ Went p.limit None ∷ calls_of par
 -- Behind these calls, none of which met a fault, the supervisor's run is the run in these parts; where the drum tells its records.
 abbrev pub CallsAreRuns : Type 0
 CallsAreRuns =
-    (parts : List Part) (old new : Whole) → old.cores.memory.tells ≡ true → Follows (calls_of parts) old new →
-    (run_over new ≡ run_in parts (run_over old)) × (new.cores.memory.tells ≡ true)
+    (parts : List Part) (old new : Whole) → old.back.held.tells ≡ true → Follows (calls_of parts) old new →
+    (run_over new ≡ run_in parts (run_over old)) × (new.back.held.tells ≡ true)

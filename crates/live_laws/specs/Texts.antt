@@ -38,5 +38,5 @@ LiveTextsAreReplayed =
 -- tells its records.
 abbrev pub CallsShowTexts : Type 0
 CallsShowTexts =
-    (parts : List Part) (old new : Whole) → old.cores.memory.tells ≡ true → Follows (calls_of parts) old new →
+    (parts : List Part) (old new : Whole) → old.back.held.tells ≡ true → Follows (calls_of parts) old new →
     new.bare.texts ≡ texts_in parts (run_over old) old.bare.texts

@@ -10,7 +10,7 @@ use Rattle.file_model.specs.Files.{same_name, tracks_of}
 use Rattle.file_model.specs.Owned.{files_of}
 use Rattle.file_map.specs.Directory.{NamesDiffer}
 use Rattle.text_model.specs.Reading.{IsInRange, names_differ}
-use Rattle.supervisor.specs.Seen.{AreFit}
+use Rattle.directories.specs.Memory.{AreFit}
 
 first_false : (a b : Bool) → (not a && b) ≡ true → a ≡ false
 first_false false b h = refl
@@ -49,17 +49,16 @@ modes_by v (f ∷ fs) h =
 modes_of : (v : ℕ) (files : List OwnedFile) → All (λ (f : OwnedFile). f.body.mode ≤ 3) files → All (λ (f : FileBody). f.mode ≤ 3) (files_of v files)
 modes_of v files h = All-from_recursion (λ (f : FileBody). f.mode ≤ 3) (files_of v files) (modes_by v files (recursion_from_All (λ (f : OwnedFile). f.body.mode ≤ 3) files h))
 
-fit_from : (u : ℕ) (accounts : List Account) (files : List OwnedFile) → ((k : ℕ) (d : Account) → k < length accounts → (get_or accounts k d).blocks ≤ 128)
+fit_from : (u : ℕ) (accounts : List Account) (files : List OwnedFile)
     → ((v : ℕ) → names_differ (files_of v files) ≡ true) → ((v : ℕ) → All (λ (f : FileBody). f.mode ≤ 3) (files_of v files))
     → ((k : ℕ) (d : Account) → k < length accounts → tracks_of (files_of (u + k) files) ≤ (get_or accounts k d).tracks) → AreFit u accounts files
-fit_from u [] files blocks names modes tracks = tt
-fit_from u (a ∷ accounts) files blocks names modes tracks =
+fit_from u [] files names modes tracks = tt
+fit_from u (a ∷ accounts) files names modes tracks =
     let here : u + 0 ≡ u = omega arith in (
-      blocks 0 a (omega arith),
       differ (files_of u files) (names u),
       modes u,
       subst (λ (v : ℕ). tracks_of (files_of v files) ≤ a.tracks) here (tracks 0 a (omega arith)),
-      fit_from (suc u) accounts files (λ k d h. blocks (suc k) d (omega (arith, h))) names modes
+      fit_from (suc u) accounts files names modes
           (λ k d h. let e : u + suc k ≡ suc u + k = omega arith in subst (λ (v : ℕ). tracks_of (files_of v files) ≤ (get_or accounts k d).tracks) e (tracks (suc k) d (omega (arith, h)))),
     )
 
@@ -70,7 +69,7 @@ any_default (a ∷ accounts) (suc k) d e h = any_default accounts k d e (omega (
 
 pub fits : (script : Script) → IsInRange script → AreFit 1 script.accounts script.files
 fits script range =
-    fit_from 1 script.accounts script.files (λ k d h. range.blocks k d h) range.names (λ v. modes_of v script.files range.modes)
+    fit_from 1 script.accounts script.files range.names (λ v. modes_of v script.files range.modes)
     (λ k d h.
     let some : 1 ≤ 1 + k = omega arith in
     let within : 1 + k ≤ length script.accounts = omega (arith, h) in

@@ -1,5 +1,5 @@
 -- The start of a run: its users have no words and no blocks, and agree with cores of which no user has any.
-use Rattle.std.proofs.Common.{◌≡◌, ℕ, zero, suc, ◌-◌, ◌<◌, ◌≤◌, Bool, false, List, [], ◌∷◌, map, length, replicate, get_or, refl, sym, ap, subst, ◌∙◌, arith}
+use Rattle.std.proofs.Common.{◌≡◌, ℕ, zero, suc, ◌+◌, ◌-◌, ◌<◌, ◌≤◌, Bool, true, false, ◌&&◌, List, [], ◌∷◌, map, length, replicate, get_or, refl, sym, ap, subst, ◌∙◌, arith}
 use Rattle.std.specs.Prelude.{slice_index_or}
 use Rattle.std.specs.List.{All}
 use Rattle.std.proofs.lemmas.List.{length-map}
@@ -11,30 +11,40 @@ use Rattle.drum_slots.specs.Keys.{quota_of}
 use Rattle.image_map.specs.Images.{size_of}
 use Rattle.image_map.proofs.Moves.{none_in}
 use Rattle.file_model.specs.Owned.{files_of}
-use Rattle.user_model.specs.Session.{first_state, nobody}
-use Rattle.user_model.specs.Inner.{blocks_of}
-use Rattle.user_model.specs.User.{User}
+use Rattle.user_model.specs.Session.{first_state, nobody, no_account}
+use Rattle.user_model.specs.Inner.{Stored, blocks_of}
+use Rattle.user_model.specs.User.{User, in_store}
+use Rattle.user_session.specs.Stores.{stored}
 use Rattle.time_sharing.specs.System.{Console}
 use Rattle.plan_model.specs.Loads.{no_places}
 use Rattle.system_model.specs.Run.{Run}
-use Rattle.system_model.specs.Joined.{joined, with_cores}
+use Rattle.system_model.specs.Joined.{joined, with_stores}
+use Rattle.system_model.specs.Cases.{user_at}
 use Rattle.system_model.specs.Record.{start_of, users_from}
-use Rattle.system_model.proofs.JoinedLaws.{joined_same}
-use Rattle.user_cores.specs.Memory.{Memory}
+use Rattle.file_map.specs.Directory.{Directory}
+use Rattle.directories.specs.Directories.{DirectoriesState}
+use Rattle.directories.specs.Memory.{no_directory, directory_at, directories_from, state_of}
 use Rattle.user_cores.specs.Cores.{CoresState}
+use Rattle.user_cores.specs.Backing.{Held, BackState, back_of}
 use Rattle.supervisor.specs.Seen.{Bare, run_with}
 use Rattle.supervisor.specs.Steps.{IsTied}
 use Rattle.supervisor.specs.Whole.{whole_of}
 use Rattle.live_run.specs.Calls.{IsReady, run_over}
-use Rattle.live_run.specs.Starts.{HasFirstCores, Begins}
+use Rattle.live_run.specs.Starts.{HasFirstCores, HasFirstFiles, Begins}
 
-no_cores : (k u : ℕ) (accounts : List Account) (files : List OwnedFile) → with_cores k (λ v. []) (users_from u accounts files) ≡ users_from u accounts files
-no_cores k u [] files = refl
-no_cores k u (a ∷ accounts) files = ap (λ (ps : List User). first_state a (files_of u files) ∷ ps) (no_cores (suc k) (suc u) accounts files)
+-- users whose words and files lie elsewhere, with these
+stored_users : (k : ℕ) (accounts : List Account) (files : List OwnedFile) (stores : ℕ → Stored) → ((u : ℕ) → k ≤ u → u < k + length accounts → stores u ≡ stored [] (files_of u files))
+    → with_stores k stores (users_from k accounts []) ≡ users_from k accounts files
+stored_users k [] files stores are = refl
+stored_users k (a ∷ accounts) files stores are =
+    let more = stored_users (suc k) accounts files stores (λ u up within. are u (omega (arith, up)) (omega (arith, within))) in
+    λ j. in_store (are k (omega arith) (omega arith) j) (first_state a []) ∷ more j
 
-pub joined_start : (script : Script) → joined (λ v. []) (start_of script) ≡ start_of script
+joined_start : (script : Script) (stores : ℕ → Stored) → ((u : ℕ) → 1 ≤ u → u < 1 + length script.accounts → stores u ≡ stored [] (files_of u script.files))
+    → joined stores (start_of (record script { events = []; files = [] })) ≡ start_of (record script { events = [] })
 unfolding joined start_of
-joined_start script = ap (λ (ps : List User). record (start_of script) { system = record (start_of script).system { users = ps } }) (no_cores 1 1 script.accounts script.files)
+joined_start script stores are =
+    ap (λ (ps : List User). record (start_of (record script { events = [] })) { system = record (start_of (record script { events = [] })).system { users = ps } }) (stored_users 1 script.accounts script.files stores are)
 
 users_at_start : (script : Script) → (start_of script).system.users ≡ users_from 1 script.accounts script.files
 unfolding start_of
@@ -81,10 +91,19 @@ length-fill : (n : ℕ) → length {A = ℕ} (replicate n 0) ≡ n
 length-fill zero = refl
 length-fill (suc n) = ap suc (length-fill n)
 
--- users without blocks agree with cores without blocks
-pub tied_first : (users : List User) (m : Memory) → m.quotas ≡ 0 ∷ map (λ (p : User). p.inner.account.blocks) users → All (λ (p : User). blocks_of p.inner ≡ 0) users
-    → m.sizes ≡ replicate (length m.quotas) 0 → IsTied users m
-tied_first users m are empty sizes =
+account_at : (v : ℕ) (accounts : List Account) (files : List OwnedFile) (k : ℕ) → (get_or (users_from v accounts files) k nobody).inner.account ≡ get_or accounts k no_account
+account_at v [] files k = refl
+account_at v (a ∷ accounts) files zero = refl
+account_at v (a ∷ accounts) files (suc k) = account_at (suc v) accounts files k
+
+count_users : (v : ℕ) (accounts : List Account) (files : List OwnedFile) → length (users_from v accounts files) ≡ length accounts
+count_users v [] files = refl
+count_users v (a ∷ accounts) files = ap suc (count_users (suc v) accounts files)
+
+-- users without blocks agree with cores without blocks, and with directories that hold as many tracks as they may have
+tied_first : (users : List User) (m : Held) → m.quotas ≡ 0 ∷ map (λ (p : User). p.inner.account.blocks) users → All (λ (p : User). blocks_of p.inner ≡ 0) users
+    → m.sizes ≡ replicate (length m.quotas) 0 → ((u : ℕ) → 1 ≤ u → u ≤ length users → m.tracks u ≡ (user_at u users).inner.account.tracks) → m.users ≡ length users → IsTied users m
+tied_first users m are empty sizes tracks count =
     record {
       many = ap length sizes ∙ length-fill (length m.quotas) ∙ ap length are ∙ ap suc (length-map users (λ (p : User). p.inner.account.blocks));
       has = λ u pos within. ap (λ (s : List ℕ). size_of s u) sizes ∙ none_in (length m.quotas) u ∙ sym (empty (u - 1) nobody (omega (arith, pos, within)));
@@ -92,6 +111,8 @@ tied_first users m are empty sizes =
           ap (λ (q : List ℕ). quota_of q u) are
           ∙ quota_behind (map (λ (p : User). p.inner.account.blocks) users) u pos
           ∙ quota_at users (u - 1) nobody (omega (arith, pos, within));
+      tracks = tracks;
+      directories = count;
     }
 
 -- no entry and 32 consoles stand in the state that a script starts with
@@ -103,28 +124,75 @@ seats_at_start : (script : Script) → 32 ≤ length (start_of script).system.co
 unfolding start_of
 seats_at_start script = omega arith
 
--- a supervisor and first cores of the same accounts
-module _ (script : Script) (b : Bare) (tells : Bool) (cores : CoresState) (is : run_with no_places b ≡ start_of (record script { events = [] })) (first : HasFirstCores script.accounts tells cores) where
-  pub ready_at_first : IsReady (whole_of b cores)
+and_true : (b : Bool) → (b && true) ≡ b
+and_true true = refl
+and_true false = refl
+
+-- a supervisor, first cores and first directories of the same accounts
+module _ (script : Script) (b : Bare) (told : Bool) (cores : CoresState) (dirs : DirectoriesState) (is : run_with no_places b ≡ start_of (record script { events = []; files = [] })) (first : HasFirstCores script.accounts told cores) (files : HasFirstFiles script.accounts script.files dirs) where
+  abbrev none : Script
+  none = record script { events = []; files = [] }
+
+  abbrev pub back : BackState
+  back = back_of cores dirs
+
+  users : b.users ≡ users_from 1 script.accounts []
+  users = users_are none b is
+
+  count : length b.users ≡ length script.accounts
+  count = ap length users ∙ count_users 1 script.accounts []
+
+  pub ready_at_first : IsReady (whole_of b back)
   ready_at_first =
       record {
-        agrees = tied_first b.users cores.memory (first.quotas ∙ ap (λ (ns : List ℕ). 0 ∷ ns) (quotas_are (record script { events = [] }) b is)) (no_user_has (record script { events = [] }) b is) first.sizes;
-        seats = subst (λ (cs : List Console). 32 ≤ length cs) (sym (ap (λ (r : Run). r.system.consoles) is)) (seats_at_start (record script { events = [] }));
+        agrees = tied_first b.users back.held (first.quotas ∙ ap (λ (ns : List ℕ). 0 ∷ ns) (quotas_are none b is)) (no_user_has none b is) first.sizes
+            (λ u pos within. files.may u pos (omega (arith, within, count)) ∙ ap (λ (a : Account). a.tracks) (sym (account_at 1 script.accounts [] (u - 1))) ∙ ap (λ (ps : List User). (get_or ps (u - 1) nobody).inner.account.tracks) (sym users))
+            (files.count ∙ sym count);
+        seats = subst (λ (cs : List Console). 32 ≤ length cs) (sym (ap (λ (r : Run). r.system.consoles) is)) (seats_at_start none);
       }
 
-  run_at_first : run_over (whole_of b cores) ≡ start_of (record script { events = [] })
+  run_at_first : run_over (whole_of b back) ≡ start_of (record script { events = [] })
   run_at_first =
-      (λ i. joined cores.memory.words (run_with (first.places i) b))
-      ∙ joined_same cores.memory.words (λ u. []) (run_with no_places b) first.words
-      ∙ ap (joined (λ u. [])) is
-      ∙ joined_start (record script { events = [] })
+      (λ i. joined back.held.stores (run_with (first.places i) b))
+      ∙ ap (joined back.held.stores) is
+      ∙ joined_start script back.held.stores (λ u pos within. λ j. stored (first.words u pos j) (files.own u pos (omega (arith, within)) j))
 
-  pub begins_at_first : b.texts ≡ replicate 32 [] → b.ended ≡ false → Begins script tells (whole_of b cores)
+  pub begins_at_first : b.texts ≡ replicate 32 [] → b.ended ≡ false → Begins script told (whole_of b back)
   begins_at_first texts begun =
       record {
         run = run_at_first;
-        entries = ap (λ (r : Run). r.system.entries) is ∙ none_at_start (record script { events = [] });
+        entries = ap (λ (r : Run). r.system.entries) is ∙ none_at_start none;
         texts = texts;
         begun = begun;
-        tells = first.tells;
+        tells = (λ j. first.tells j && files.tells j) ∙ and_true told;
       }
+
+-- the first directories, in memory
+directory_from : (u k : ℕ) (accounts : List Account) (files : List OwnedFile) → k < length accounts
+    → get_or (directories_from u accounts files) k no_directory ≡ record { files = files_of (u + k) files; quota = (get_or accounts k no_account).tracks }
+directory_from u k [] files h = absurd (omega arith)
+directory_from u zero (a ∷ accounts) files h = let e : u ≡ u + 0 = omega arith in ap (λ (v : ℕ). record { files = files_of v files; quota = a.tracks }) e
+directory_from u (suc k) (a ∷ accounts) files h =
+    let e : suc u + k ≡ u + suc k = omega arith in
+    directory_from (suc u) k accounts files (omega (arith, h)) ∙ ap (λ (v : ℕ). record { files = files_of v files; quota = (get_or accounts k no_account).tracks }) e
+
+directory_is : (accounts : List Account) (files : List OwnedFile) (u : ℕ) → 1 ≤ u → u ≤ length accounts
+    → directory_at (directories_from 1 accounts files) u ≡ record { files = files_of u files; quota = (get_or accounts (u - 1) no_account).tracks }
+directory_is accounts files zero pos within = absurd (omega (arith, pos))
+directory_is accounts files (suc k) pos within =
+    let e : k ≡ suc k - 1 = omega arith in
+    let one : 1 + k ≡ suc k = omega arith in
+    directory_from 1 k accounts files (omega (arith, within)) ∙ ap (λ (v : ℕ). record { files = files_of v files; quota = (get_or accounts k no_account).tracks }) one ∙ ap (λ (i : ℕ). record { files = files_of (suc k) files; quota = (get_or accounts i no_account).tracks }) e
+
+count_directories : (u : ℕ) (accounts : List Account) (files : List OwnedFile) → length (directories_from u accounts files) ≡ length accounts
+count_directories u [] files = refl
+count_directories u (a ∷ accounts) files = ap suc (count_directories (suc u) accounts files)
+
+pub directories_first : (accounts : List Account) (files : List OwnedFile) → HasFirstFiles accounts files (state_of (directories_from 1 accounts files))
+directories_first accounts files =
+    record {
+      own = λ u pos within. ap (λ (d : Directory). d.files) (directory_is accounts files u pos within);
+      may = λ u pos within. ap (λ (d : Directory). d.quota) (directory_is accounts files u pos within);
+      count = count_directories 1 accounts files;
+      tells = refl;
+    }

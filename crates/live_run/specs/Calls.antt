@@ -1,4 +1,4 @@
--- claim: the run of a supervisor and its users' cores behind events that it took and limits that it went to.
+-- claim: the run of a supervisor and what lies behind its users' sessions, behind events that it took and limits that it went to.
 use Rattle.std.specs.Prelude.{◌≡◌, ◌≤◌, List, [], ◌∷◌, length, Option, Some, None, Ok, Err}
 use Rattle.std.specs.declared.result.Result.{Result}
 use Rattle.ctss_types.specs.declared.fault.RunFault.{RunFault}
@@ -15,7 +15,7 @@ pub record Takes (e : Timed) (old new : Whole) : Type 0 where
   pub run : (places : Places) → run_with places new.bare ≡ given e (run_with places old.bare)
   pub texts : new.bare.texts ≡ old.bare.texts
   pub ended : new.bare.ended ≡ old.bare.ended
-  pub cores : new.cores ≡ old.cores
+  pub back : new.back ≡ old.back
 
 abbrev pub result_of : Option RunFault → Result Unit RunFault
 result_of None = Ok tt
@@ -30,15 +30,15 @@ abbrev pub Follows : List CoreCall → Whole → Whole → Type 0
 Follows [] old new = new ≡ old
 Follows (call ∷ calls) old new = (mid : Whole) × Makes call old mid × Follows calls mid new
 
--- the run with its users' words
+-- the run with its users' words and files
 abbrev pub run_over : Whole → Run
-run_over s = joined s.cores.memory.words (run_of s)
+run_over s = joined s.back.held.stores (run_of s)
 
--- what is seen of it; there is no disk yet
+-- what is seen of it
 abbrev pub seen_of : Whole → CoreSeen
-seen_of s = record { is_ended = s.bare.ended; texts = s.bare.texts; drum_faults = s.cores.faults; disk_faults = 0 }
+seen_of s = record { is_ended = s.bare.ended; texts = s.bare.texts; drum_faults = s.back.faults; disk_faults = s.back.disk_faults }
 
--- users and cores agree, and there are 32 consoles
+-- users and what lies behind them agree, and there are 32 consoles
 pub record IsReady (s : Whole) : Type 0 where
   pub agrees : Agrees s
   pub seats : 32 ≤ length s.bare.consoles

@@ -1,7 +1,11 @@
 -- claim: the start of a run: the accounts and files of a script, before any event, where no user has a word or a block yet.
-use Rattle.std.specs.Prelude.{◌≡◌, ℕ, ◌≤◌, Bool, false, List, [], ◌∷◌, length, map, replicate}
+use Rattle.std.specs.Prelude.{◌≡◌, ℕ, ◌-◌, ◌≤◌, Bool, true, false, List, [], ◌∷◌, length, map, replicate, get_or}
 use Rattle.ctss_types.specs.declared.script.Script.{Script}
 use Rattle.ctss_types.specs.declared.script.Account.{Account}
+use Rattle.ctss_types.specs.declared.file.OwnedFile.{OwnedFile}
+use Rattle.file_model.specs.Owned.{files_of}
+use Rattle.user_model.specs.Session.{no_account}
+use Rattle.directories.specs.Directories.{DirectoriesState}
 use Rattle.plan_model.specs.Loads.{no_places}
 use Rattle.system_model.specs.Record.{start_of}
 use Rattle.user_cores.specs.Cores.{CoresState}
@@ -22,4 +26,11 @@ pub record Begins (script : Script) (told : Bool) (s : Whole) : Type 0 where
   pub entries : s.bare.entries ≡ []
   pub texts : s.bare.texts ≡ replicate 32 []
   pub begun : s.bare.ended ≡ false
-  pub tells : s.cores.memory.tells ≡ told
+  pub tells : s.back.held.tells ≡ told
+
+-- the directories of these accounts hold their first files
+pub record HasFirstFiles (accounts : List Account) (files : List OwnedFile) (s : DirectoriesState) : Type 0 where
+  pub own : (u : ℕ) → 1 ≤ u → u ≤ length accounts → s.own u ≡ files_of u files
+  pub may : (u : ℕ) → 1 ≤ u → u ≤ length accounts → s.may u ≡ (get_or accounts (u - 1) no_account).tracks
+  pub count : s.count ≡ length accounts
+  pub tells : s.tells ≡ true

@@ -5,9 +5,9 @@ ghost use Rattle.live_run.specs.Calls.{IsReady};
 use ctss_types::{ConsoleNo, NoMemory, RunFault, Timed};
 use live_core::LiveCore;
 use supervisor::Supervisor;
-use user_cores::Cores;
+use user_cores::Backing;
 
-/// A supervisor and the cores of its users' programs, which goes on as events come. Its events must come in the order of their
+/// A supervisor and what lies behind its users' sessions, which goes on as events come. Its events must come in the order of their
 /// ticks.
 #[derive(Drop)]
 pub struct LiveRun<C> {
@@ -15,8 +15,8 @@ pub struct LiveRun<C> {
     cores: C,
 }
 
-impl<C: Cores + Drop> LiveRun<C> {
-    /// A run of this supervisor over these cores, which are those of the same accounts.
+impl<C: Backing + Drop> LiveRun<C> {
+    /// A run of this supervisor over these cores and directories, which are those of the same accounts.
     pub fn new(supervisor: Supervisor, cores: C) -> LiveRun<C>
         ensures supervisor { result.supervisor ≡ supervisor }
         ensures cores { result.cores ≡ cores }
@@ -24,7 +24,7 @@ impl<C: Cores + Drop> LiveRun<C> {
         LiveRun { supervisor, cores }
     }
 
-    /// Ends the run, and gives back the supervisor and the cores.
+    /// Ends the run, and gives back the supervisor and what lay behind it.
     pub fn into_parts(self) -> (Supervisor, C)
         ensures supervisor { result.0 ≡ self.supervisor }
         ensures cores { result.1 ≡ self.cores }
@@ -34,7 +34,7 @@ impl<C: Cores + Drop> LiveRun<C> {
     }
 }
 
-impl<C: Cores + Drop> LiveCore for LiveRun<C> {
+impl<C: Backing + Drop> LiveCore for LiveRun<C> {
     ghost use Rattle.std.specs.Prelude.{◌≡◌, refl};
     ghost use Rattle.supervisor.specs.Whole.{whole_of};
     ghost use Rattle.live_run.specs.Calls.{IsReady, Follows, seen_of};

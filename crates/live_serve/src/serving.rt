@@ -10,7 +10,7 @@ use crate::fault::ServingFault;
 use crate::talking::{Talked, talk};
 use console_link::Link;
 use console_server::ServeFault;
-use ctss_types::{NoMemory, Script};
+use ctss_types::{NoMemory, Script, StepFault};
 use live_run::begin;
 use medium::Medium;
 use std::alloc::Global;
@@ -42,18 +42,25 @@ pub fn serve<D: Medium, L: Link>(
         events,
         ended,
     } = talked;
-    let (supervisor, cores) = core.into_parts();
-    let drum_back = cores.back();
-    let _ = drum_back;
+    let (supervisor, mut behind) = core.into_parts();
     match ended {
-        Ok(()) => Ok(Served::Done {
-            events,
-            record: supervisor.close(alloc)?,
-        }),
-        Err(fault) => match fault {
-            ServeFault::Link => Err(ServingFault::Link),
-            ServeFault::Drum => Ok(Served::Stopped(supervisor.stop(alloc)?)),
-            ServeFault::Disk | ServeFault::NoMemory => Err(ServingFault::NoMemory),
-        },
+        Ok(()) => {
+            let closed = supervisor.close(alloc, &mut behind);
+            let (cores, _) = behind.into_parts();
+            let _ = cores.back();
+            match closed {
+                Ok(record) => Ok(Served::Done { events, record }),
+                Err(StepFault::Disk | StepFault::NoMemory) => Err(ServingFault::NoMemory),
+            }
+        }
+        Err(fault) => {
+            let (cores, _) = behind.into_parts();
+            let _ = cores.back();
+            match fault {
+                ServeFault::Link => Err(ServingFault::Link),
+                ServeFault::Drum => Ok(Served::Stopped(supervisor.stop(alloc)?)),
+                ServeFault::Disk | ServeFault::NoMemory => Err(ServingFault::NoMemory),
+            }
+        }
     }
 }

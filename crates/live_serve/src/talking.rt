@@ -30,6 +30,7 @@ pub(crate) fn talk<C: LiveCore + Drop, L: Link>(
     ensures done { IfOk result (λ t. OnOk t.ended (TalkIsDone C.Goes (C.seen core).texts count t.events (L.seen link.old) (L.seen link.new) core t.core)) }
     ensures cut { IfOk result (λ t. IfErr t.ended (λ fault. TalkIsCut C.Goes (C.seen core).texts count fault
         (L.seen link.old) (L.seen link.new) core t.core)) }
+    ensures sound { IfOk result (λ t. OnOk t.ended (C.Sound t.core)) }
     ensures cause { IfOk result (λ t. IfErr t.ended (λ fault. IsCause fault (L.seen link.old) (L.seen link.new) (C.seen core) (C.seen t.core))) }
 {
     let mut server = Server::new(alloc, core, link)?;

@@ -5,6 +5,7 @@ use script_read::read_script;
 use std::alloc::Global;
 use std::process::Abort;
 use std::test::Fail;
+use supervisor::Supervisor;
 
 /// Two users, one of whom is refused twice; a quit, a hang, a logout, and a login at the other's console.
 static SCRIPT: &[u8] = b"PARAM 1024 100 10 16 20 5
@@ -36,12 +37,21 @@ static FIRST: &[u8] =
 static SECOND: &[u8] =
     b"PASSWORD\r\nLOGIN REFUSED\r\nPASSWORD\r\nBETA LOGGED IN\r\nQUIT,\r\nPASSWORD\r\nALFA LOGGED IN\r\n";
 
-/// The run of a script that is lawful.
+/// The supervisor behind the run of a script that is lawful.
 #[tactic(auto, using(text_model::proofs::InRange::scripts_are_in_range))]
-fn run_of(rt: &impl Abort, alloc: Global, text: &[u8]) -> Result<ScriptRun, Fail> {
+fn run_of(rt: &impl Abort, alloc: Global, text: &[u8]) -> Result<Supervisor, Fail> {
     let mut drum = MemoryMedium::new(alloc, 3840, 256, &[], &[], 0)?;
     match read_script(alloc, text) {
-        Ok(script) => Ok(run_script(alloc, &script, &mut drum)?),
+        Ok(script) => {
+            let run = run_script(alloc, &script, &mut drum)?;
+            let ScriptRun {
+                supervisor,
+                ended,
+                ..
+            } = run;
+            assert!(rt; ended.is_ok());
+            Ok(supervisor)
+        }
         Err(_) => panic!(rt; "the script is refused"),
     }
 }
@@ -54,11 +64,15 @@ fn console(rt: &impl Abort, number: u8) -> ConsoleNo {
 }
 
 /// Tries what a console shows from a place on, in a slice of 120 bytes.
-fn shows(rt: &impl Abort, run: &ScriptRun, number: u8, from: u64, want: &[u8]) -> Result<(), Fail> {
+fn shows(
+    rt: &impl Abort,
+    run: &Supervisor,
+    number: u8,
+    from: u64,
+    want: &[u8],
+) -> Result<(), Fail> {
     let mut into = [0u8; 120];
-    let count = run
-        .supervisor
-        .out_since(console(rt, number), from, &mut into);
+    let count = run.out_since(console(rt, number), from, &mut into);
     assert_eq!(rt; &into[..count], want);
     Ok(())
 }
@@ -66,17 +80,13 @@ fn shows(rt: &impl Abort, run: &ScriptRun, number: u8, from: u64, want: &[u8]) -
 #[test]
 fn each_console_shows_its_own(rt: HostRuntime) -> Result<(), Fail> {
     let run = run_of(&rt, rt.alloc(), SCRIPT)?;
-    assert!(rt; run.ended.is_ok());
-    assert!(rt; !run.supervisor.ended());
+    assert!(rt; !run.ended());
     shows(&rt, &run, 1, 0, FIRST)?;
     shows(&rt, &run, 2, 0, SECOND)?;
     shows(&rt, &run, 3, 0, b"")?;
-    assert_eq!(rt; run.supervisor.out_len(console(&rt, 1)), FIRST.len() as u64);
-    assert_eq!(rt;
-        run.supervisor.out_len(console(&rt, 2)),
-        SECOND.len() as u64
-    );
-    assert_eq!(rt; run.supervisor.out_len(console(&rt, 32)), 0);
+    assert_eq!(rt; run.out_len(console(&rt, 1)), FIRST.len() as u64);
+    assert_eq!(rt; run.out_len(console(&rt, 2)), SECOND.len() as u64);
+    assert_eq!(rt; run.out_len(console(&rt, 32)), 0);
     Ok(())
 }
 
@@ -89,7 +99,7 @@ fn a_console_is_read_in_parts(rt: HostRuntime) -> Result<(), Fail> {
     shows(&rt, &run, 1, FIRST.len() as u64, b"")?;
     shows(&rt, &run, 1, 10_000, b"")?;
     let mut into = [0u8; 12];
-    let count = run.supervisor.out_since(console(&rt, 2), 8, &mut into);
+    let count = run.out_since(console(&rt, 2), 8, &mut into);
     assert_eq!(rt; count, 12);
     assert_eq!(rt; &into, b"\r\nLOGIN REFU");
     Ok(())

@@ -1,4 +1,5 @@
-use ctss_types::{Account, Ending, FileBody, FileName, Item, LineText, Sequence, name_word};
+use ctss_types::{Account, Ending, FileName, Item, LineText, name_word};
+use file_map::{FilePort, Files};
 use plain_core::PlainCore;
 use std::alloc::Global;
 use std::process::Abort;
@@ -23,25 +24,26 @@ const HELLO: [u64; 10] = [
 /// A deck of one block whose first word is a transfer to itself.
 const LOOP: [u64; 10] = [1, 0o000010000000, 0o002000000000, 0, 0, 0, 0, 0, 0, 0];
 
-/// A user of eight blocks that has this deck.
-fn alfa(rt: &impl Abort, alloc: Global, name: Word, deck: &[u64; 10]) -> Result<Session, Fail> {
-    let mut words = Vec::new(alloc);
-    for bits in deck {
-        words.push(Word::from_bits(*bits)?)?;
-    }
-    assert!(rt; words.len() == 10);
-    let file = FileBody {
-        name: FileName::new(name, name_word(b"BSS")),
-        mode: 1,
-        words: Sequence::from_vec(words),
-    };
+/// A user of eight blocks and ten tracks.
+fn alfa(alloc: Global) -> Result<Session, Fail> {
     let account = Account {
         name: name_word(b"ALFA"),
         password: name_word(b"SESAME"),
         blocks: 8,
         tracks: 10,
     };
-    Ok(Session::new(alloc, &account, &[file])?)
+    Ok(Session::new(alloc, &account)?)
+}
+
+/// Its directory, which has this deck.
+fn with_deck(alloc: Global, name: Word, deck: &[u64; 10]) -> Result<Files, Fail> {
+    let mut words = Vec::new(alloc);
+    for bits in deck {
+        words.push(Word::from_bits(*bits)?)?;
+    }
+    let mut files = Files::new(alloc, 10);
+    files.put(FileName::new(name, name_word(b"BSS")), &words)?;
+    Ok(files)
 }
 
 /// Types a line.
@@ -49,18 +51,20 @@ fn types(session: &mut Session, text: &[u8]) -> Result<Put, Fail> {
     Ok(session.line(LineText::from_bytes(text)?))
 }
 
-/// A step over a core, which is made anew where the program is another one.
+/// A step over a core, which is made anew where the program is another one, and a directory.
 fn steps(
     rt: &impl Abort,
     alloc: Global,
     session: &mut Session,
     core: &mut PlainCore,
+    files: &mut Files,
     now: u64,
 ) -> Result<Turn, Fail> {
     assert!(rt; session.own() < u64::MAX);
+    assert!(rt; files.quota() == session.tracks());
     assert!(rt; core.words().len() == 256 * usize::from(session.blocks()));
     assert!(rt; now < 2u64.pow(35));
-    let turn = session.step(core, now)?;
+    let turn = session.step(core, files, now)?;
     if let Turn::Done(
         Step {
             ending: Ending::Replaced,
@@ -88,11 +92,12 @@ fn prints_time(
     alloc: Global,
     session: &mut Session,
     core: &mut PlainCore,
+    files: &mut Files,
     tick: u64,
     want: &str,
 ) -> Result<(), Fail> {
     assert!(rt; types(session, b"")? == Put::Kept);
-    assert!(rt; steps(rt, alloc, session, core, tick)? != Turn::Waits);
+    assert!(rt; steps(rt, alloc, session, core, files, tick)? != Turn::Waits);
     let [.., time, count] = session.items() else {
         panic!(rt; "not two items");
     };
@@ -103,7 +108,8 @@ fn prints_time(
 
 #[test]
 fn the_clock_is_printed(rt: HostRuntime) -> Result<(), Fail> {
-    let mut session = alfa(&rt, rt.alloc(), name_word(b"HELLO"), &HELLO)?;
+    let mut session = alfa(rt.alloc())?;
+    let mut files = with_deck(rt.alloc(), name_word(b"HELLO"), &HELLO)?;
     let mut core = PlainCore::new(rt.alloc(), 0)?;
     session.login()?;
     for (tick, want) in [
@@ -111,19 +117,30 @@ fn the_clock_is_printed(rt: HostRuntime) -> Result<(), Fail> {
         (600_000 * 13 + 10_000 * 7 + 1000 * 5, "W 1307.5"),
         (600_000 * 24 + 999, "W 0000.0"),
     ] {
-        prints_time(&rt, rt.alloc(), &mut session, &mut core, tick, want)?;
+        prints_time(
+            &rt,
+            rt.alloc(),
+            &mut session,
+            &mut core,
+            &mut files,
+            tick,
+            want,
+        )?;
     }
     Ok(())
 }
 
 #[test]
 fn a_quit_prints_the_steps_of_a_program(rt: HostRuntime) -> Result<(), Fail> {
-    let mut session = alfa(&rt, rt.alloc(), name_word(b"LOOP"), &LOOP)?;
+    let mut session = alfa(rt.alloc())?;
+    let mut files = with_deck(rt.alloc(), name_word(b"LOOP"), &LOOP)?;
     let mut core = PlainCore::new(rt.alloc(), 0)?;
     session.login()?;
     assert!(rt; types(&mut session, b"LOADGO LOOP")? == Put::Kept);
     for tick in 0..120 {
-        assert!(rt; steps(&rt, rt.alloc(), &mut session, &mut core, tick)? != Turn::Waits);
+        assert!(rt;
+            steps(&rt, rt.alloc(), &mut session, &mut core, &mut files, tick)? != Turn::Waits
+        );
     }
     session.quit()?;
     let count = session.items().last();
@@ -137,11 +154,12 @@ fn runs_hello(
     alloc: Global,
     session: &mut Session,
     core: &mut PlainCore,
+    files: &mut Files,
 ) -> Result<(), Fail> {
     session.login()?;
     assert!(rt; types(session, b"LOADGO HELLO")? == Put::Kept);
     for tick in 0..6 {
-        assert!(rt; steps(rt, alloc, session, core, tick)? != Turn::Waits);
+        assert!(rt; steps(rt, alloc, session, core, files, tick)? != Turn::Waits);
     }
     assert!(rt; session.own() == 6);
     let [_, line, time, hello, count] = session.items() else {
@@ -156,12 +174,12 @@ fn runs_hello(
 
 #[test]
 fn a_program_is_loaded_and_runs(rt: HostRuntime) -> Result<(), Fail> {
-    let mut session = alfa(&rt, rt.alloc(), name_word(b"HELLO"), &HELLO)?;
+    let mut session = alfa(rt.alloc())?;
+    let mut files = with_deck(rt.alloc(), name_word(b"HELLO"), &HELLO)?;
     let mut core = PlainCore::new(rt.alloc(), 0)?;
-    runs_hello(&rt, rt.alloc(), &mut session, &mut core)?;
-    let (items, files) = session.into_parts()?;
-    assert_eq!(rt; items.len(), 5);
-    assert_eq!(rt; files.len(), 1);
+    runs_hello(&rt, rt.alloc(), &mut session, &mut core, &mut files)?;
+    assert_eq!(rt; session.into_items().len(), 5);
+    assert_eq!(rt; files.into_list()?.len(), 1);
     Ok(())
 }
 
@@ -171,6 +189,7 @@ fn logs_out(
     alloc: Global,
     session: &mut Session,
     core: &mut PlainCore,
+    files: &mut Files,
 ) -> Result<(), Fail> {
     session.login()?;
     assert!(rt; session.is_open() && !session.works());
@@ -179,8 +198,8 @@ fn logs_out(
         ending: Ending::LoggedOut,
         clock: true,
     };
-    assert!(rt; steps(rt, alloc, session, core, 600_000)? == Turn::Done(done));
-    assert!(rt; steps(rt, alloc, session, core, 600_001)? == Turn::Waits);
+    assert!(rt; steps(rt, alloc, session, core, files, 600_000)? == Turn::Done(done));
+    assert!(rt; steps(rt, alloc, session, core, files, 600_001)? == Turn::Waits);
     let [login, line, time, logout] = session.items() else {
         panic!(rt; "not four items");
     };
@@ -193,9 +212,10 @@ fn logs_out(
 
 #[test]
 fn a_logout_ends_the_session(rt: HostRuntime) -> Result<(), Fail> {
-    let mut session = alfa(&rt, rt.alloc(), name_word(b"HELLO"), &HELLO)?;
+    let mut session = alfa(rt.alloc())?;
+    let mut files = with_deck(rt.alloc(), name_word(b"HELLO"), &HELLO)?;
     let mut core = PlainCore::new(rt.alloc(), 0)?;
-    logs_out(&rt, rt.alloc(), &mut session, &mut core)
+    logs_out(&rt, rt.alloc(), &mut session, &mut core, &mut files)
 }
 
 /// A session that is quit and hung up, and one that ends by a line too much.
@@ -221,6 +241,6 @@ fn is_cut(rt: &impl Abort, session: &mut Session) -> Result<(), Fail> {
 
 #[test]
 fn cuts_drop_the_lines(rt: HostRuntime) -> Result<(), Fail> {
-    let mut session = alfa(&rt, rt.alloc(), name_word(b"HELLO"), &HELLO)?;
+    let mut session = alfa(rt.alloc())?;
     is_cut(&rt, &mut session)
 }

@@ -1,9 +1,9 @@
--- What a step of the code does, as a step of the definitions over users joined with words.
+-- What a step of the code does, as a step of the definitions over users joined with words and files.
 use Rattle.std.proofs.Common.{◌≡◌, ◌≢◌, ℕ, ◌-◌, ◌<◌, ◌≤◌, Bool, true, false, not, nat_eq, List, [], Option, Some, None, get_or, refl, sym, ◌∙◌, ap, subst, arith, ◌⊎◌, inl, inr}
 use Rattle.time_sharing.specs.Machine.{Ending, CommonOp, Reply}
 use Rattle.time_sharing.specs.System.{Timed, Service, Off, Preempt}
-use Rattle.user_model.specs.Inner.{blocks_of}
-use Rattle.user_model.specs.User.{User, can_step, step, ending, asks_clock, asks_common, in_core, core_after, IsStep}
+use Rattle.user_model.specs.Inner.{Stored, blocks_of}
+use Rattle.user_model.specs.User.{User, can_step, step, ending, asks_clock, asks_common, in_store, store_after, IsStep}
 use Rattle.plan_model.specs.Levels.{chosen, user_of, level_in}
 use Rattle.plan_model.specs.Loads.{is_loaded}
 use Rattle.image_map.specs.Images.{size_of}
@@ -11,30 +11,30 @@ use Rattle.ctss_types.specs.declared.session.Waiting.{Waiting}
 use Rattle.plan_model.specs.Plan.{must_load}
 use Rattle.system_model.specs.Run.{Run, next, taken, otherwise, attended, by_due, due_of, measure}
 use Rattle.system_model.specs.Cases.{user_at, brought, waited, idled, served, reply_for}
-use Rattle.system_model.specs.Joined.{joined, with_core, cut_user, stepped_to}
+use Rattle.system_model.specs.Joined.{joined, with_store, hung_up, cut_user, stepped_to}
 use Rattle.system_model.specs.Sound.{Sound, IsUser, HasSeat}
 use Rattle.system_model.proofs.CaseLaws.{next_due, attended_loads, attended_steps, attended_waits, idles, preempts_none, begins, goes_on, preempts}
 use Rattle.system_model.proofs.JoinedLaws.{taken_joined, waited_joined, brought_joined, stepped_joined, must_same, serves_joined, with_own, with_other, sound_joined, sound_unjoined, measure_joined}
 use Rattle.system_model.proofs.RunLaws.{measure_next}
 use Rattle.system_model.proofs.SoundLaws.{sound_next}
 use Rattle.medium.specs.Medium.{CallList}
-use Rattle.user_cores.specs.Memory.{Memory}
+use Rattle.user_cores.specs.Backing.{Held}
 use Rattle.user_cores.specs.Swaps.{IsCutOff}
 use Rattle.supervisor.specs.Counts.{calls_to_load}
 use Rattle.supervisor.specs.Steps.{Does, IsTied, LoadFails}
 
 -- a step said in other words
-pub does_as : (f g : Run → Run) (old new : Run) (had has : Memory) → ((w : ℕ → List ℕ) → f (joined w old) ≡ g (joined w old)) → Does f old new had has → Does g old new had has
+pub does_as : (f g : Run → Run) (old new : Run) (had has : Held) → ((w : ℕ → Stored) → f (joined w old) ≡ g (joined w old)) → Does f old new had has → Does g old new had has
 does_as f g old new had has same d = record { before = d.before; after = d.after; is = d.is ∙ same d.before; was = d.was; now = d.now; tells = d.tells }
 
 -- a step that doesn't look at the words, and leaves them
-pub does_apart : (f : Run → Run) (old new : Run) (had has : Memory) → new ≡ f old → ((w : ℕ → List ℕ) → f (joined w old) ≡ joined w (f old))
-    → (had.tells ≡ true → (u : ℕ) → 1 ≤ u → has.words u ≡ had.words u) → has.tells ≡ had.tells → Does f old new had has
+pub does_apart : (f : Run → Run) (old new : Run) (had has : Held) → new ≡ f old → ((w : ℕ → Stored) → f (joined w old) ≡ joined w (f old))
+    → (had.tells ≡ true → (u : ℕ) → 1 ≤ u → has.stores u ≡ had.stores u) → has.tells ≡ had.tells → Does f old new had has
 does_apart f old new had has is apart words tells =
     record {
-      before = had.words;
-      after = had.words;
-      is = ap (joined had.words) is ∙ sym (apart had.words);
+      before = had.stores;
+      after = had.stores;
+      is = ap (joined had.stores) is ∙ sym (apart had.stores);
       was = λ t u h. refl;
       now = λ t u h. sym (words t u h);
       tells = tells;
@@ -47,86 +47,87 @@ either u v = by_test (nat_eq v u) refl
     by_test true e = inl (grind (arith, e))
     by_test false e = inr (λ k. grind (arith, e, k))
 
--- the words with others for one user, where the others are the same
-pub same_but : (k : ℕ) (c : List ℕ) (f g : ℕ → List ℕ) → g k ≡ c → ((u : ℕ) → 1 ≤ u → u ≢ k → g u ≡ f u) → (u : ℕ) → 1 ≤ u → with_core k c f u ≡ g u
+-- the stores with another for one user, where the others are the same
+pub same_but : (k : ℕ) (c : Stored) (f g : ℕ → Stored) → g k ≡ c → ((u : ℕ) → 1 ≤ u → u ≢ k → g u ≡ f u) → (u : ℕ) → 1 ≤ u → with_store k c f u ≡ g u
 same_but k c f g mine others u pos = by_case (either k u)
   where
-    by_case : (u ≡ k) ⊎ (u ≢ k) → with_core k c f u ≡ g u
-    by_case (inl e) = ap (with_core k c f) e ∙ with_own k c f ∙ sym mine ∙ ap g (sym e)
+    by_case : (u ≡ k) ⊎ (u ≢ k) → with_store k c f u ≡ g u
+    by_case (inl e) = ap (with_store k c f) e ∙ with_own k c f ∙ sym mine ∙ ap g (sym e)
     by_case (inr n) = with_other k u c f n ∙ sym (others u pos n)
 
 -- an event
-pub does_taken : (e : Timed) (old new : Run) (had has : Memory) → HasSeat e old → Sound old → new ≡ taken e old
-    → (had.tells ≡ true → (u : ℕ) → 1 ≤ u → has.words u ≡ with_core (cut_user (get_or old.system.consoles (e.console - 1) Off) e.event old.system.users) [] had.words u)
+pub does_taken : (e : Timed) (old new : Run) (had has : Held) → HasSeat e old → Sound old → new ≡ taken e old
+    → (had.tells ≡ true → (u : ℕ) → 1 ≤ u → has.stores u ≡ hung_up (cut_user (get_or old.system.consoles (e.console - 1) Off) e.event old.system.users) had.stores u)
     → has.tells ≡ had.tells → Does (taken e) old new had has
-does_taken e old new had has seat sound is words tells =
+does_taken e old new had has seat sound is stores tells =
+    let left : ℕ → Stored = hung_up (cut_user (get_or old.system.consoles (e.console - 1) Off) e.event old.system.users) had.stores in
     record {
-      before = had.words;
-      after = with_core (cut_user (get_or old.system.consoles (e.console - 1) Off) e.event old.system.users) [] had.words;
-      is = ap (joined (with_core (cut_user (get_or old.system.consoles (e.console - 1) Off) e.event old.system.users) [] had.words)) is ∙ sym (taken_joined had.words e old seat sound);
+      before = had.stores;
+      after = left;
+      is = ap (joined left) is ∙ sym (taken_joined had.stores e old seat sound);
       was = λ t u h. refl;
-      now = λ t u h. sym (words t u h);
+      now = λ t u h. sym (stores t u h);
       tells = tells;
     }
 
 -- a user's blocks are brought in
-pub does_brought : (v : Service) (old new : Run) (had has : Memory) → IsUser v.user old
+pub does_brought : (v : Service) (old new : Run) (had has : Held) → IsUser v.user old
     → must_load old.system.plan v.user (blocks_of (user_at v.user old.system.users).inner) ≡ true → new ≡ brought v.user old
-    → (had.tells ≡ true → (u : ℕ) → 1 ≤ u → has.words u ≡ had.words u) → has.tells ≡ had.tells → Does (attended v) old new had has
+    → (had.tells ≡ true → (u : ℕ) → 1 ≤ u → has.stores u ≡ had.stores u) → has.tells ≡ had.tells → Does (attended v) old new had has
 does_brought v old new had has who must is words tells =
     does_as (brought v.user) (attended v) old new had has
     (λ w. sym (attended_loads v (joined w old) who.some (must_same w v.user old who ∙ must)))
     (does_apart (brought v.user) old new had has is (λ w. brought_joined w v.user old who) words tells)
 
--- a user that can't step waits; its words in core are these
-pub does_waited : (v : Service) (old new : Run) (had has : Memory) (window : List ℕ) → IsUser v.user old
+-- a user that can't step waits; this is what it has in core and in its directory
+pub does_waited : (v : Service) (old new : Run) (had has : Held) (window : Stored) → IsUser v.user old
     → must_load old.system.plan v.user (blocks_of (user_at v.user old.system.users).inner) ≡ false
-    → can_step (in_core window (user_at v.user old.system.users)) ≡ false → new ≡ waited v old
-    → (had.tells ≡ true → had.words v.user ≡ window)
-    → (had.tells ≡ true → (u : ℕ) → 1 ≤ u → has.words u ≡ had.words u) → has.tells ≡ had.tells → Does (attended v) old new had has
+    → can_step (in_store window (user_at v.user old.system.users)) ≡ false → new ≡ waited v old
+    → (had.tells ≡ true → had.stores v.user ≡ window)
+    → (had.tells ≡ true → (u : ℕ) → 1 ≤ u → has.stores u ≡ had.stores u) → has.tells ≡ had.tells → Does (attended v) old new had has
 does_waited v old new had has window who loaded cannot is was words tells =
     record {
       before = f;
       after = f;
       is = ap (joined f) is ∙ sym (waited_joined f v old)
-          ∙ sym (attended_waits v (joined f old) who.some (must_same f v.user old who ∙ loaded) (ap can_step (serves_joined f v.user old who ∙ ap (λ (c : List ℕ). in_core c (user_at v.user old.system.users)) (with_own v.user window had.words)) ∙ cannot));
+          ∙ sym (attended_waits v (joined f old) who.some (must_same f v.user old who ∙ loaded) (ap can_step (serves_joined f v.user old who ∙ ap (λ (c : Stored). in_store c (user_at v.user old.system.users)) (with_own v.user window had.stores)) ∙ cannot));
       was = same;
       now = λ t u h. same t u h ∙ sym (words t u h);
       tells = tells;
     }
   where
-    f : ℕ → List ℕ
-    f = with_core v.user window had.words
+    f : ℕ → Stored
+    f = with_store v.user window had.stores
 
-    same : had.tells ≡ true → (u : ℕ) → 1 ≤ u → f u ≡ had.words u
-    same t u h = same_but v.user window had.words had.words (was t) (λ x p n. refl) u h
+    same : had.tells ≡ true → (u : ℕ) → 1 ≤ u → f u ≡ had.stores u
+    same t u h = same_but v.user window had.stores had.stores (was t) (λ x p n. refl) u h
 
--- a user's step, with its words in core before and after it
-pub does_stepped : (v : Service) (p : User) (t : Ending) (asked : Bool) (made : Option CommonOp) (r : Reply) (old new : Run) (had has : Memory) (window after : List ℕ) → IsUser v.user old
+-- a user's step, with what it has in core and in its directory before and after it
+pub does_stepped : (v : Service) (p : User) (t : Ending) (asked : Bool) (made : Option CommonOp) (r : Reply) (old new : Run) (had has : Held) (window after : Stored) → IsUser v.user old
     → must_load old.system.plan v.user (blocks_of (user_at v.user old.system.users).inner) ≡ false
     → IsStep t asked made old.system.clock r (user_at v.user old.system.users) p window after
     → r ≡ reply_for old made
     → new ≡ stepped_to v p t asked made old
-    → (had.tells ≡ true → had.words v.user ≡ window)
-    → (had.tells ≡ true → has.words v.user ≡ core_after t (blocks_of p.inner) after)
-    → ((u : ℕ) → 1 ≤ u → u ≢ v.user → has.words u ≡ had.words u) → has.tells ≡ had.tells → Does (attended v) old new had has
+    → (had.tells ≡ true → had.stores v.user ≡ window)
+    → (had.tells ≡ true → has.stores v.user ≡ store_after t (blocks_of p.inner) after)
+    → ((u : ℕ) → 1 ≤ u → u ≢ v.user → has.stores u ≡ had.stores u) → has.tells ≡ had.tells → Does (attended v) old new had has
 does_stepped v p t asked made r old new had has window after who loaded said answer is was mine others tells =
     record {
       before = f;
-      after = with_core v.user core f;
-      is = ap (joined (with_core v.user core f)) is
-          ∙ sym (stepped_joined f v core p t asked made old who (says.left ∙ with_words (step old.system.clock reply)) (says.ends ∙ with_words (ending old.system.clock reply)) (says.asks ∙ with_words asks_clock) (says.makes ∙ with_words asks_common))
+      after = with_store v.user left f;
+      is = ap (joined (with_store v.user left f)) is
+          ∙ sym (stepped_joined f v left p t asked made old who (says.left ∙ with_words (step old.system.clock reply)) (says.ends ∙ with_words (ending old.system.clock reply)) (says.asks ∙ with_words asks_clock) (says.makes ∙ with_words asks_common))
           ∙ sym (attended_steps v (joined f old) who.some (must_same f v.user old who ∙ loaded) (ap can_step (serves_joined f v.user old who) ∙ sym (with_words can_step) ∙ says.can));
-      was = λ told u h. same_but v.user window had.words had.words (was told) (λ x k n. refl) u h;
-      now = λ told u h. same_but v.user core f has.words (mine told) (λ x k n. others x k n ∙ sym (with_other v.user x window had.words n)) u h;
+      was = λ told u h. same_but v.user window had.stores had.stores (was told) (λ x k n. refl) u h;
+      now = λ told u h. same_but v.user left f has.stores (mine told) (λ x k n. others x k n ∙ sym (with_other v.user x window had.stores n)) u h;
       tells = tells;
     }
   where
-    f : ℕ → List ℕ
-    f = with_core v.user window had.words
+    f : ℕ → Stored
+    f = with_store v.user window had.stores
 
-    core : List ℕ
-    core = core_after t (blocks_of p.inner) after
+    left : Stored
+    left = store_after t (blocks_of p.inner) after
 
     reply : Reply
     reply = reply_for old made
@@ -134,11 +135,11 @@ does_stepped v p t asked made r old new had has window after who loaded said ans
     says : IsStep t asked made old.system.clock reply (user_at v.user old.system.users) p window after
     says = subst (λ (q : Reply). IsStep t asked made old.system.clock q (user_at v.user old.system.users) p window after) answer said
 
-    with_words : {X : Type 0} (g : User → X) → g (in_core window (user_at v.user old.system.users)) ≡ g (in_core (f v.user) (user_at v.user old.system.users))
-    with_words g = ap (λ (c : List ℕ). g (in_core c (user_at v.user old.system.users))) (sym (with_own v.user window had.words))
+    with_words : {X : Type 0} (g : User → X) → g (in_store window (user_at v.user old.system.users)) ≡ g (in_store (f v.user) (user_at v.user old.system.users))
+    with_words g = ap (λ (c : Stored). g (in_store c (user_at v.user old.system.users))) (sym (with_own v.user window had.stores))
 
 -- behind a call that left the run as it was
-pub does_from : (f : Run → Run) (old mid new : Run) (had has at : Memory) → mid ≡ old → (had.tells ≡ true → (u : ℕ) → 1 ≤ u → at.words u ≡ had.words u) → at.tells ≡ had.tells
+pub does_from : (f : Run → Run) (old mid new : Run) (had has at : Held) → mid ≡ old → (had.tells ≡ true → (u : ℕ) → 1 ≤ u → at.stores u ≡ had.stores u) → at.tells ≡ had.tells
     → Does f mid new at has → Does f old new had has
 does_from f old mid new had has at is words tells d =
     record {
@@ -155,30 +156,30 @@ does_from f old mid new had has at is words tells d =
 abbrev Chosen : Type 0
 Chosen = Option (ℕ × Waiting)
 
-abbrev GoesOn : ℕ → Chosen → Option Service → (old new : Run) → (had has : Memory) → Type 0
+abbrev GoesOn : ℕ → Chosen → Option Service → (old new : Run) → (had has : Held) → Type 0
 GoesOn limit x v old new had has = Does (otherwise limit (user_of x) v) old new had has
 
-by_both : (limit : ℕ) (x : Chosen) (v : Option Service) (old new : Run) (had has : Memory) → chosen old.system.plan.levels ≡ x → old.system.service ≡ v → GoesOn limit x v old new had has
+by_both : (limit : ℕ) (x : Chosen) (v : Option Service) (old new : Run) (had has : Held) → chosen old.system.plan.levels ≡ x → old.system.service ≡ v → GoesOn limit x v old new had has
     → Does (otherwise limit (user_of (chosen old.system.plan.levels)) old.system.service) old new had has
 by_both limit x v old new had has c s d =
     subst (λ (y : Chosen). GoesOn limit y old.system.service old new had has) (sym c) (subst (λ (w : Option Service). GoesOn limit x w old new had has) (sym s) d)
 
-pub go_idle : (limit : ℕ) (old new : Run) (had has : Memory) → chosen old.system.plan.levels ≡ None → old.system.service ≡ None → Does (idled limit) old new had has
+pub go_idle : (limit : ℕ) (old new : Run) (had has : Held) → chosen old.system.plan.levels ≡ None → old.system.service ≡ None → Does (idled limit) old new had has
     → Does (otherwise limit (user_of (chosen old.system.plan.levels)) old.system.service) old new had has
 go_idle limit old new had has c s d =
     by_both limit None None old new had has c s (does_as (idled limit) (otherwise limit None None) old new had has (λ w. sym (idles limit (joined w old))) d)
 
-pub go_end_none : (limit : ℕ) (v : Service) (old new : Run) (had has : Memory) → chosen old.system.plan.levels ≡ None → old.system.service ≡ Some v → Does (served Preempt v) old new had has
+pub go_end_none : (limit : ℕ) (v : Service) (old new : Run) (had has : Held) → chosen old.system.plan.levels ≡ None → old.system.service ≡ Some v → Does (served Preempt v) old new had has
     → Does (otherwise limit (user_of (chosen old.system.plan.levels)) old.system.service) old new had has
 go_end_none limit v old new had has c s d =
     by_both limit None (Some v) old new had has c s (does_as (served Preempt v) (otherwise limit None (Some v)) old new had has (λ w. sym (preempts_none limit v (joined w old))) d)
 
-pub go_end : (limit m : ℕ) (x : Waiting) (v : Service) (old new : Run) (had has : Memory) → chosen old.system.plan.levels ≡ Some (m, x) → old.system.service ≡ Some v → v.user ≢ x.user → Does (served Preempt v) old new had has
+pub go_end : (limit m : ℕ) (x : Waiting) (v : Service) (old new : Run) (had has : Held) → chosen old.system.plan.levels ≡ Some (m, x) → old.system.service ≡ Some v → v.user ≢ x.user → Does (served Preempt v) old new had has
     → Does (otherwise limit (user_of (chosen old.system.plan.levels)) old.system.service) old new had has
 go_end limit m x v old new had has c s other d =
     by_both limit (Some (m, x)) (Some v) old new had has c s (does_as (served Preempt v) (otherwise limit (Some x.user) (Some v)) old new had has (λ w. sym (preempts limit x.user v (joined w old) other)) d)
 
-pub go_begin : (limit m : ℕ) (x : Waiting) (v : Service) (old new : Run) (had has : Memory) → chosen old.system.plan.levels ≡ Some (m, x) → old.system.service ≡ None
+pub go_begin : (limit m : ℕ) (x : Waiting) (v : Service) (old new : Run) (had has : Held) → chosen old.system.plan.levels ≡ Some (m, x) → old.system.service ≡ None
     → v ≡ record { tick = old.system.clock; user = x.user; level = m; ran = 0 } → Does (attended v) old new had has
     → Does (otherwise limit (user_of (chosen old.system.plan.levels)) old.system.service) old new had has
 unfolding joined
@@ -190,13 +191,13 @@ go_begin limit m x v old new had has c s is d =
     begun : ℕ → Service
     begun l = record { tick = old.system.clock; user = x.user; level = l; ran = 0 }
 
-pub go_same : (limit m : ℕ) (x : Waiting) (v : Service) (old new : Run) (had has : Memory) → chosen old.system.plan.levels ≡ Some (m, x) → old.system.service ≡ Some v → v.user ≡ x.user → Does (attended v) old new had has
+pub go_same : (limit m : ℕ) (x : Waiting) (v : Service) (old new : Run) (had has : Held) → chosen old.system.plan.levels ≡ Some (m, x) → old.system.service ≡ Some v → v.user ≡ x.user → Does (attended v) old new had has
     → Does (otherwise limit (user_of (chosen old.system.plan.levels)) old.system.service) old new had has
 go_same limit m x v old new had has c s is d =
     by_both limit (Some (m, x)) (Some v) old new had has c s (does_as (attended v) (otherwise limit (Some x.user) (Some v)) old new had has (λ w. sym (goes_on limit x.user v (joined w old) is)) d)
 
 -- the user that is served has blocks that are not in core, and their load was cut off
-pub load_fails : (m : ℕ) (x : Waiting) (old : Run) (m' : Memory) (was now : Option CallList) → chosen old.system.plan.levels ≡ Some (m, x) → ((v : Service) → old.system.service ≡ Some v → v.user ≡ x.user)
+pub load_fails : (m : ℕ) (x : Waiting) (old : Run) (m' : Held) (was now : Option CallList) → chosen old.system.plan.levels ≡ Some (m, x) → ((v : Service) → old.system.service ≡ Some v → v.user ≡ x.user)
     → IsTied old.system.users m' → IsUser x.user old → is_loaded old.system.plan.places x.user (size_of m'.sizes x.user) ≡ false → IsCutOff was now (calls_to_load x.user old) → LoadFails old was now
 load_fails m x old m' was now c served tied who absent cut =
     record {
@@ -211,25 +212,25 @@ load_fails m x old m' was now c served tied who absent cut =
 
 -- one step
 
-pub does_event : (limit : ℕ) (e : Timed) (old new : Run) (had has : Memory) → due_of old.system.events old.system.clock ≡ Some e → Does (taken e) old new had has → Does (next limit) old new had has
+pub does_event : (limit : ℕ) (e : Timed) (old new : Run) (had has : Held) → due_of old.system.events old.system.clock ≡ Some e → Does (taken e) old new had has → Does (next limit) old new had has
 unfolding joined
 does_event limit e old new had has is d =
     does_as (taken e) (next limit) old new had has
     (λ w. sym (next_due limit (joined w old) ∙ ap (λ (o : Option Timed). by_due limit o (joined w old)) is)) d
 
-pub does_none : (limit : ℕ) (old new : Run) (had has : Memory) → due_of old.system.events old.system.clock ≡ None
+pub does_none : (limit : ℕ) (old new : Run) (had has : Held) → due_of old.system.events old.system.clock ≡ None
     → Does (otherwise limit (user_of (chosen old.system.plan.levels)) old.system.service) old new had has → Does (next limit) old new had has
 unfolding joined
 does_none limit old new had has is d =
     does_as (otherwise limit (user_of (chosen old.system.plan.levels)) old.system.service) (next limit) old new had has
     (λ w. sym (next_due limit (joined w old) ∙ ap (λ (o : Option Timed). by_due limit o (joined w old)) is)) d
 
-pub does_sound : (limit : ℕ) (old new : Run) (had has : Memory) → old.system.clock < limit → Sound old → Does (next limit) old new had has → Sound new
+pub does_sound : (limit : ℕ) (old new : Run) (had has : Held) → old.system.clock < limit → Sound old → Does (next limit) old new had has → Sound new
 unfolding joined
 does_sound limit old new had has up sound d =
     sound_unjoined d.after new (subst Sound (sym d.is) (sound_next limit (joined d.before old) up (sound_joined d.before old sound)))
 
-pub does_fall : (limit : ℕ) (old new : Run) (had has : Memory) → old.system.clock < limit → Does (next limit) old new had has → measure limit new < measure limit old
+pub does_fall : (limit : ℕ) (old new : Run) (had has : Held) → old.system.clock < limit → Does (next limit) old new had has → measure limit new < measure limit old
 unfolding joined
 does_fall limit old new had has up d =
     let falls = measure_next limit (joined d.before old) up in

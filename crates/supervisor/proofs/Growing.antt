@@ -11,7 +11,7 @@ use Rattle.system_model.specs.Round.{round}
 use Rattle.system_model.specs.Run.{Run, next}
 use Rattle.system_model.specs.Joined.{joined}
 use Rattle.console_texts.specs.Watching.{texts_next}
-use Rattle.user_cores.specs.Memory.{Memory}
+use Rattle.user_cores.specs.Backing.{Held}
 use Rattle.supervisor.specs.Shows.{GoesOn, TextsGrow}
 use Rattle.supervisor.specs.Steps.{Does, Fails}
 use Rattle.supervisor.proofs.Serving.{fails_to}
@@ -41,9 +41,11 @@ unfolding texts_next
 next_grow limit r texts = after_grow (machine user_rows) (round r.swap r.common r.accounts) 1 r.system (next limit r).system texts
 
 -- behind a step
-pub step_grow : (limit : ℕ) (old new : Run) (had has : Memory) (x y : List (List ℕ)) → Does (next limit) old new had has → GoesOn limit old new x y → TextsGrow x y
+pub step_grow : (limit : ℕ) (old new : Run) (had has : Held) (x y : List (List ℕ)) → Does (next limit) old new had has → GoesOn limit old new x y → TextsGrow x y
 step_grow limit old new had has x y d goes = subst (TextsGrow x) (sym (goes d.before d.after d.is)) (next_grow limit (joined d.before old) x)
 
 -- where a step failed nothing was shown
-pub same_grow : (fault : RunFault) (x y : List (List ℕ)) → Fails fault (y ≡ x) (y ≡ x) → TextsGrow x y
-same_grow fault x y h = fails_to fault (y ≡ x) (y ≡ x) (TextsGrow x y) (λ same. subst (TextsGrow x) (sym same) (grow_none x)) (λ same. subst (TextsGrow x) (sym same) (grow_none x)) h
+pub same_grow : (fault : RunFault) (x y : List (List ℕ)) → Fails fault (y ≡ x) (y ≡ x) (y ≡ x) → TextsGrow x y
+same_grow fault x y h =
+    let same = λ (e : y ≡ x). subst (TextsGrow x) (sym e) (grow_none x) in
+    fails_to fault (y ≡ x) (y ≡ x) (y ≡ x) (TextsGrow x y) same same same h

@@ -1,4 +1,5 @@
 pub mod LoginWords
+pub mod Closing
 pub mod Counting
 pub mod Doing
 pub mod Tied

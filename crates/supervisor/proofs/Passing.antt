@@ -1,15 +1,15 @@
--- What many steps of the user that is served keep, over users joined with words.
+-- What many steps of the user that is served keep, over users joined with words and files.
 use Rattle.std.proofs.Common.{◌≡◌, ◌≢◌, ℕ, ◌+◌, ◌<◌, ◌≤◌, true, false, List, length, map, Some, None, refl, sym, ◌∙◌, ap, subst, arith}
 use Rattle.time_sharing.specs.System.{Service, next_tick}
 use Rattle.ctss_types.specs.declared.session.Waiting.{Waiting}
-use Rattle.user_model.specs.Inner.{blocks_of}
+use Rattle.user_model.specs.Inner.{Stored, blocks_of}
 use Rattle.user_model.specs.User.{User}
 use Rattle.user_model.specs.Runs.{HaveGone}
 use Rattle.plan_model.specs.Levels.{chosen}
 use Rattle.plan_model.specs.Plan.{must_load}
 use Rattle.system_model.specs.Run.{Run, next, run_to, measure, AfterSteps, due_of}
 use Rattle.system_model.specs.Cases.{user_at}
-use Rattle.system_model.specs.Joined.{joined, with_core}
+use Rattle.system_model.specs.Joined.{joined, with_store}
 use Rattle.system_model.specs.Runs.{Passes, passed}
 use Rattle.system_model.specs.Sound.{Sound, IsUser}
 use Rattle.system_model.proofs.JoinedLaws.{joined_same, with_own, with_other, sound_joined, sound_unjoined, measure_joined}
@@ -20,7 +20,7 @@ use Rattle.console_texts.specs.Parts.{Shown, text_of}
 use Rattle.console_texts.specs.Following.{AreShown}
 use Rattle.console_texts.specs.Watching.{transcripts_of, texts_to, AfterShown}
 use Rattle.console_texts.proofs.Watched.{shown_still, texts_on, shown_on}
-use Rattle.user_cores.specs.Memory.{Memory}
+use Rattle.user_cores.specs.Backing.{Held}
 use Rattle.supervisor.specs.Runs.{DoesMany}
 use Rattle.supervisor.specs.Steps.{IsTied, IsHeld}
 use Rattle.supervisor.specs.Shows.{TextsGrow}
@@ -30,52 +30,52 @@ use Rattle.supervisor.proofs.Running.{HasRunPart, Leads}
 use Rattle.supervisor.proofs.Watching.{HasTextsPart, TextsLead, texts_same, told_joined, told_apart}
 
 -- no step
-pub does_none_at_all : (limit : ℕ) (old new : Run) (had has : Memory) → new ≡ old → (had.tells ≡ true → (u : ℕ) → 1 ≤ u → has.words u ≡ had.words u) → has.tells ≡ had.tells → DoesMany limit old new had has
+pub does_none_at_all : (limit : ℕ) (old new : Run) (had has : Held) → new ≡ old → (had.tells ≡ true → (u : ℕ) → 1 ≤ u → has.stores u ≡ had.stores u) → has.tells ≡ had.tells → DoesMany limit old new had has
 does_none_at_all limit old new had has is words tells =
-    record { steps = 0; before = had.words; after = had.words; passes = ap (joined had.words) is; was = λ t u h. refl; now = λ t u h. sym (words t u h); tells = tells }
+    record { steps = 0; before = had.stores; after = had.stores; passes = ap (joined had.stores) is; was = λ t u h. refl; now = λ t u h. sym (words t u h); tells = tells }
 
-pub stands_still : (limit : ℕ) (old : Run) (had : Memory) → DoesMany limit old old had had
+pub stands_still : (limit : ℕ) (old : Run) (had : Held) → DoesMany limit old old had had
 stands_still limit old had = does_none_at_all limit old old had had refl (λ t u h. refl) refl
 
 -- instructions of the user of the service
-pub does_many : (limit n l : ℕ) (w : Waiting) (v : Service) (p : User) (old new : Run) (had has : Memory) (window after : List ℕ) → IsUser v.user old → old.system.service ≡ Some v
+pub does_many : (limit n l : ℕ) (w : Waiting) (v : Service) (p : User) (old new : Run) (had has : Held) (window : Stored) (after : List ℕ) → IsUser v.user old → old.system.service ≡ Some v
     → chosen old.system.plan.levels ≡ Some (l, w) → w.user ≡ v.user → (0 < n → n < w.left)
     → old.system.clock + n ≤ limit → old.system.clock + n ≤ next_tick limit old.system.events
     → must_load old.system.plan v.user (blocks_of (user_at v.user old.system.users).inner) ≡ false
-    → HaveGone n (user_at v.user old.system.users) p window after
+    → HaveGone n (user_at v.user old.system.users) p window.core after
     → new ≡ passed n v p old
-    → (had.tells ≡ true → had.words v.user ≡ window)
-    → (had.tells ≡ true → has.words v.user ≡ after)
-    → ((u : ℕ) → 1 ≤ u → u ≢ v.user → has.words u ≡ had.words u) → has.tells ≡ had.tells → DoesMany limit old new had has
+    → (had.tells ≡ true → had.stores v.user ≡ window)
+    → (had.tells ≡ true → has.stores v.user ≡ record window { core = after })
+    → ((u : ℕ) → 1 ≤ u → u ≢ v.user → has.stores u ≡ had.stores u) → has.tells ≡ had.tells → DoesMany limit old new had has
 does_many limit n l w v p old new had has window after who serves first mine left up quiet loaded gone is was here others tells =
     record {
       steps = n;
       before = f;
-      after = with_core v.user after f;
-      passes = subst (λ (r : Run). Passes limit n (joined f old) (joined (with_core v.user after f) r)) (sym is)
-          (passes_joined limit n l w v f window after p old who serves first mine left up quiet loaded (with_own v.user window had.words) gone);
-      was = λ told u h. same_but v.user window had.words had.words (was told) (λ x k n. refl) u h;
-      now = λ told u h. same_but v.user after f has.words (here told) (λ x k n. others x k n ∙ sym (with_other v.user x window had.words n)) u h;
+      after = with_store v.user (record window { core = after }) f;
+      passes = subst (λ (r : Run). Passes limit n (joined f old) (joined (with_store v.user (record window { core = after }) f) r)) (sym is)
+          (passes_joined limit n l w v f window after p old who serves first mine left up quiet loaded (with_own v.user window had.stores) gone);
+      was = λ told u h. same_but v.user window had.stores had.stores (was told) (λ x k n. refl) u h;
+      now = λ told u h. same_but v.user (record window { core = after }) f has.stores (here told) (λ x k n. others x k n ∙ sym (with_other v.user x window had.stores n)) u h;
       tells = tells;
     }
   where
-    f : ℕ → List ℕ
-    f = with_core v.user window had.words
+    f : ℕ → Stored
+    f = with_store v.user window had.stores
 
 -- what the loop over steps keeps
 
-module _ (limit : ℕ) (mid new : Run) (had has : Memory) (d : DoesMany limit mid new had has) where
+module _ (limit : ℕ) (mid new : Run) (had has : Held) (d : DoesMany limit mid new had has) where
   abbrev from : Run
   from = joined d.before mid
 
   abbrev to : Run
   to = joined d.after new
 
-  was_joined : had.tells ≡ true → joined had.words mid ≡ from
-  was_joined told = joined_same had.words d.before mid (λ u h. sym (d.was told u h))
+  was_joined : had.tells ≡ true → joined had.stores mid ≡ from
+  was_joined told = joined_same had.stores d.before mid (λ u h. sym (d.was told u h))
 
-  now_joined : had.tells ≡ true → joined has.words new ≡ to
-  now_joined told = joined_same has.words d.after new (λ u h. sym (d.now told u h))
+  now_joined : had.tells ≡ true → joined has.stores new ≡ to
+  now_joined told = joined_same has.stores d.after new (λ u h. sym (d.now told u h))
 
   pub pass_sound : Sound mid → Sound new
   pass_sound sound = sound_unjoined d.after new (passes_keep Sound limit d.steps from to (λ r up quiet same h. sound_next limit r up h) d.passes (sound_joined d.before mid sound))
@@ -92,15 +92,15 @@ module _ (limit : ℕ) (mid new : Run) (had has : Memory) (d : DoesMany limit mi
   runs : run_to limit to ≡ run_to limit from
   runs = passes_keep (λ r. run_to limit r ≡ run_to limit from) limit d.steps from to (λ r up quiet same h. run_to_next limit r up ∙ h) d.passes refl
 
-  pub pass_leads : (start : Run) (first : Memory) → had.tells ≡ first.tells → Leads limit start mid first had → Leads limit start new first has
+  pub pass_leads : (start : Run) (first : Held) → had.tells ≡ first.tells → Leads limit start mid first had → Leads limit start new first has
   pass_leads start first tells leads = λ told.
       let t = tells ∙ told in ap (run_to limit) (now_joined t) ∙ runs ∙ ap (run_to limit) (sym (was_joined t)) ∙ leads told
 
-  pub pass_part : (start : Run) (first : Memory) → had.tells ≡ first.tells → HasRunPart limit start mid first had → HasRunPart limit start new first has
+  pub pass_part : (start : Run) (first : Held) → had.tells ≡ first.tells → HasRunPart limit start mid first had → HasRunPart limit start new first has
   pass_part start first tells part = λ told.
       let t = tells ∙ told in
-      subst (AfterSteps limit (joined first.words start)) (sym (now_joined t))
-      (passes_keep (AfterSteps limit (joined first.words start)) limit d.steps from to (λ r up quiet same h. after_next limit (joined first.words start) r h up) d.passes (subst (AfterSteps limit (joined first.words start)) (was_joined t) (part told)))
+      subst (AfterSteps limit (joined first.stores start)) (sym (now_joined t))
+      (passes_keep (AfterSteps limit (joined first.stores start)) limit d.steps from to (λ r up quiet same h. after_next limit (joined first.stores start) r h up) d.passes (subst (AfterSteps limit (joined first.stores start)) (was_joined t) (part told)))
 
   -- with what the consoles show
 
@@ -135,7 +135,7 @@ module _ (limit : ℕ) (mid new : Run) (had has : Memory) (d : DoesMany limit mi
         (λ r up quiet same h. (quietly r up quiet same h.0, subst (AfterShown limit start (next limit r) x) (shown_still limit r rows quiet (h.0).0 same (h.0).1).0 (shown_on limit start r x (shows r) h.1 up)))
         d.passes (quiet_from sound told, begun)).1
 
-    pub pass_texts_lead : Sound mid → Told mid → (start : Run) (first : Memory) (x : List (List ℕ)) → had.tells ≡ first.tells → TextsLead limit start mid first had x (shows mid) → TextsLead limit start new first has x (shows new)
+    pub pass_texts_lead : Sound mid → Told mid → (start : Run) (first : Held) (x : List (List ℕ)) → had.tells ≡ first.tells → TextsLead limit start mid first had x (shows mid) → TextsLead limit start new first has x (shows new)
     pass_texts_lead sound told start first x tells lead = λ t.
         let k = tells ∙ t in
         (λ j. texts_to limit (now_joined k j) (texts_same d.after new rows j))
@@ -143,14 +143,14 @@ module _ (limit : ℕ) (mid new : Run) (had has : Memory) (d : DoesMany limit mi
         ∙ (λ j. texts_to limit (sym (was_joined k) j) (sym (texts_same d.before mid rows) j))
         ∙ lead t
 
-    pub pass_texts_part : Sound mid → Told mid → (start : Run) (first : Memory) (x : List (List ℕ)) → had.tells ≡ first.tells → HasTextsPart limit start mid first had x (shows mid) → HasTextsPart limit start new first has x (shows new)
+    pub pass_texts_part : Sound mid → Told mid → (start : Run) (first : Held) (x : List (List ℕ)) → had.tells ≡ first.tells → HasTextsPart limit start mid first had x (shows mid) → HasTextsPart limit start new first has x (shows new)
     pass_texts_part sound told start first x tells part = λ t.
         let k = tells ∙ t in
-        subst (λ (q : Run). AfterShown limit (joined first.words start) q x (shows new)) (sym (now_joined k))
-        (subst (AfterShown limit (joined first.words start) to x) (sym (texts_same d.after new rows))
-        (shown_from sound told (joined first.words start) x
-        (subst (AfterShown limit (joined first.words start) from x) (texts_same d.before mid rows)
-        (subst (λ (q : Run). AfterShown limit (joined first.words start) q x (shows mid)) (was_joined k) (part t)))))
+        subst (λ (q : Run). AfterShown limit (joined first.stores start) q x (shows new)) (sym (now_joined k))
+        (subst (AfterShown limit (joined first.stores start) to x) (sym (texts_same d.after new rows))
+        (shown_from sound told (joined first.stores start) x
+        (subst (AfterShown limit (joined first.stores start) from x) (texts_same d.before mid rows)
+        (subst (λ (q : Run). AfterShown limit (joined first.stores start) q x (shows mid)) (was_joined k) (part t)))))
 
     pub pass_grow : Sound mid → Told mid → TextsGrow (shows mid) (shows new)
     pass_grow sound told =

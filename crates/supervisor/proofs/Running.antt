@@ -7,8 +7,9 @@ use Rattle.ctss_types.specs.declared.fault.RunFault.TheVariants.{Drum, Disk, NoM
 use Rattle.ctss_types.specs.declared.file.FileBody.{FileBody}
 use Rattle.time_sharing.specs.Machine.{Item}
 use Rattle.user_model.specs.User.{User}
+use Rattle.user_model.specs.Inner.{Stored}
 use Rattle.system_model.specs.Run.{Run, next, run_to, AfterSteps}
-use Rattle.system_model.specs.Joined.{joined, with_cores, at_places}
+use Rattle.system_model.specs.Joined.{joined, with_stores, at_places}
 use Rattle.system_model.specs.Sound.{Sound, IsUser}
 use Rattle.plan_model.specs.Loads.{Places, count_below, is_dumped, is_read}
 use Rattle.medium.specs.Medium.{CallList}
@@ -17,46 +18,46 @@ use Rattle.ctss_types.specs.declared.session.Waiting.{Waiting}
 use Rattle.system_model.proofs.SoundLaws.{first_user, Alike, user_too, seats_too}
 use Rattle.system_model.proofs.JoinedLaws.{joined_same, must_same, blocks_same}
 use Rattle.system_model.proofs.RunLaws.{run_to_next, run_to_done, after_next, after_none}
-use Rattle.user_cores.specs.Memory.{Memory}
+use Rattle.user_cores.specs.Backing.{Held}
 use Rattle.supervisor.specs.Counts.{IsCounted, calls_to_load}
 use Rattle.supervisor.specs.Steps.{Does, Stays, with_files, IsTied, IsHeld, LoadIsDue, NextLoadFails, HasRun, HasRunShown, HasRunToLoad, Ends, Lasts}
 use Rattle.supervisor.proofs.Counting.{counted_to_load}
 use Rattle.supervisor.proofs.Doing.{does_sound}
 
 -- a step of users joined with their words
-pub joined_next : (limit : ℕ) (old new : Run) (had has : Memory) → Does (next limit) old new had has → had.tells ≡ true → joined has.words new ≡ next limit (joined had.words old)
+pub joined_next : (limit : ℕ) (old new : Run) (had has : Held) → Does (next limit) old new had has → had.tells ≡ true → joined has.stores new ≡ next limit (joined had.stores old)
 joined_next limit old new had has d told =
-    joined_same has.words d.after new (λ u h. sym (d.now told u h)) ∙ d.is ∙ ap (next limit) (joined_same d.before had.words old (d.was told))
+    joined_same has.stores d.after new (λ u h. sym (d.now told u h)) ∙ d.is ∙ ap (next limit) (joined_same d.before had.stores old (d.was told))
 
 -- a part of the run, of the users joined with their words, where the drum tells them
-abbrev pub HasRunPart : ℕ → (old new : Run) → (had has : Memory) → Type 0
-HasRunPart limit old new had has = had.tells ≡ true → AfterSteps limit (joined had.words old) (joined has.words new)
+abbrev pub HasRunPart : ℕ → (old new : Run) → (had has : Held) → Type 0
+HasRunPart limit old new had has = had.tells ≡ true → AfterSteps limit (joined had.stores old) (joined has.stores new)
 
 -- what is to come of a run is the same behind a step
-abbrev pub Leads : ℕ → (start now : Run) → (first has : Memory) → Type 0
-Leads limit start now first has = first.tells ≡ true → run_to limit (joined has.words now) ≡ run_to limit (joined first.words start)
+abbrev pub Leads : ℕ → (start now : Run) → (first has : Held) → Type 0
+Leads limit start now first has = first.tells ≡ true → run_to limit (joined has.stores now) ≡ run_to limit (joined first.stores start)
 
-pub leads_on : (limit : ℕ) (start old new : Run) (first had has : Memory) → had.tells ≡ first.tells → old.system.clock < limit → Does (next limit) old new had has → Leads limit start old first had → Leads limit start new first has
+pub leads_on : (limit : ℕ) (start old new : Run) (first had has : Held) → had.tells ≡ first.tells → old.system.clock < limit → Does (next limit) old new had has → Leads limit start old first had → Leads limit start new first has
 unfolding joined
 leads_on limit start old new first had has tells up d leads = λ told.
-    ap (run_to limit) (joined_next limit old new had has d (tells ∙ told)) ∙ run_to_next limit (joined had.words old) up ∙ leads told
+    ap (run_to limit) (joined_next limit old new had has d (tells ∙ told)) ∙ run_to_next limit (joined had.stores old) up ∙ leads told
 
-pub part_on : (limit : ℕ) (start old new : Run) (first had has : Memory) → had.tells ≡ first.tells → old.system.clock < limit → Does (next limit) old new had has → HasRunPart limit start old first had → HasRunPart limit start new first has
+pub part_on : (limit : ℕ) (start old new : Run) (first had has : Held) → had.tells ≡ first.tells → old.system.clock < limit → Does (next limit) old new had has → HasRunPart limit start old first had → HasRunPart limit start new first has
 unfolding joined
 part_on limit start old new first had has tells up d part = λ told.
-    subst (AfterSteps limit (joined first.words start)) (sym (joined_next limit old new had has d (tells ∙ told))) (after_next limit (joined first.words start) (joined had.words old) (part told) up)
+    subst (AfterSteps limit (joined first.stores start)) (sym (joined_next limit old new had has d (tells ∙ told))) (after_next limit (joined first.stores start) (joined had.stores old) (part told) up)
 
-pub part_none : (limit : ℕ) (start : Run) (first : Memory) → HasRunPart limit start start first first
-part_none limit start first = λ told. after_none limit (joined first.words start)
+pub part_none : (limit : ℕ) (start : Run) (first : Held) → HasRunPart limit start start first first
+part_none limit start first = λ told. after_none limit (joined first.stores start)
 
-pub run_done : (limit : ℕ) (start now : Run) (first has : Memory) → limit ≤ now.system.clock → Leads limit start now first has → HasRun limit start now first has
+pub run_done : (limit : ℕ) (start now : Run) (first has : Held) → limit ≤ now.system.clock → Leads limit start now first has → HasRun limit start now first has
 unfolding joined
-run_done limit start now first has up leads = λ told. sym (run_to_done limit (joined has.words now) up) ∙ leads told
+run_done limit start now first has up leads = λ told. sym (run_to_done limit (joined has.stores now) up) ∙ leads told
 
-pub held_on : (limit : ℕ) (old new : Run) (had has : Memory) → old.system.clock < limit → IsHeld old had → IsTied new.system.users has → Does (next limit) old new had has → IsHeld new has
+pub held_on : (limit : ℕ) (old new : Run) (had has : Held) → old.system.clock < limit → IsHeld old had → IsTied new.system.users has → Does (next limit) old new had has → IsHeld new has
 held_on limit old new had has up held tied d = record { sound = does_sound limit old new had has up held.sound d; tied = tied }
 
-pub transcripts_same : (k : ℕ) (f : ℕ → List ℕ) (ps : List User) → map (λ (p : User). p.transcript) ps ≡ map (λ (p : User). p.transcript) (with_cores k f ps)
+pub transcripts_same : (k : ℕ) (f : ℕ → Stored) (ps : List User) → map (λ (p : User). p.transcript) ps ≡ map (λ (p : User). p.transcript) (with_stores k f ps)
 transcripts_same k f [] = refl
 transcripts_same k f (p ∷ ps) = ap (λ (ts : List (List Item)). p.transcript ∷ ts) (transcripts_same (suc k) f ps)
 
@@ -69,26 +70,26 @@ due_user r due sound = is_user (chosen r.system.plan.levels) refl
     is_user (Some x) e = let h = sym (ap user_of e) ∙ due.chosen_is in let same : (x.1).user ≡ due.user = cc in subst (λ (k : ℕ). IsUser k r) same (first_user r x.0 x.1 sound e)
 
 -- a load makes as many calls with whatever words
-calls_joined : (f : ℕ → List ℕ) (u : ℕ) (r : Run) → IsUser u r → calls_to_load u (joined f r) ≡ calls_to_load u r
+calls_joined : (f : ℕ → Stored) (u : ℕ) (r : Run) → IsUser u r → calls_to_load u (joined f r) ≡ calls_to_load u r
 unfolding joined
 calls_joined f u r who = ap (λ (n : ℕ). count_below n (is_dumped r.system.plan.places u) + count_below n (is_read r.system.plan.places u)) (blocks_same f u r who)
 
 -- a part of a run is shown
-pub part_shown : (limit : ℕ) (start old new : Run) (first had : Memory) → HasRunPart limit start old first had
+pub part_shown : (limit : ℕ) (start old new : Run) (first had : Held) → HasRunPart limit start old first had
     → new.system.entries ≡ old.system.entries → new.system.users ≡ old.system.users → new.system.clock ≡ old.system.clock → HasRunShown limit start new first
 unfolding joined
 part_shown limit start old new first had part entries users clock = λ told. (
-  joined had.words old,
+  joined had.stores old,
   part told,
   record {
     entries = entries;
-    transcripts = ap (λ (ps : List User). map (λ (p : User). p.transcript) ps) users ∙ transcripts_same 1 had.words old.system.users;
+    transcripts = ap (λ (ps : List User). map (λ (p : User). p.transcript) ps) users ∙ transcripts_same 1 had.stores old.system.users;
     clock = clock;
   },
 )
 
 -- a run that stopped at a load
-pub stops_at_load : (limit : ℕ) (start old new : Run) (first had : Memory) (was mid now : Option CallList) → HasRunPart limit start old first had → old.system.clock < limit → Sound old
+pub stops_at_load : (limit : ℕ) (start old new : Run) (first had : Held) (was mid now : Option CallList) → HasRunPart limit start old first had → old.system.clock < limit → Sound old
     → IsCounted start.system.entries old.system.entries was mid → NextLoadFails old mid now
     → new.system.entries ≡ old.system.entries → new.system.users ≡ old.system.users → new.system.clock ≡ old.system.clock → HasRunToLoad limit start new first was now
 unfolding joined
@@ -96,7 +97,7 @@ stops_at_load limit start old new first had was mid now part early sound counted
     let due = fails.next.due in
     let who : IsUser due.user old = due_user old due sound in
     record {
-      at = joined had.words old;
+      at = joined had.stores old;
       part = part told;
       early = early;
       load = record {
@@ -105,23 +106,23 @@ stops_at_load limit start old new first had was mid now part early sound counted
           user = due.user;
           chosen_is = due.chosen_is;
           served = due.served;
-          absent = must_same had.words due.user old who ∙ due.absent;
+          absent = must_same had.stores due.user old who ∙ due.absent;
         };
       };
       shown = record {
         entries = entries;
-        transcripts = ap (λ (ps : List User). map (λ (p : User). p.transcript) ps) users ∙ transcripts_same 1 had.words old.system.users;
+        transcripts = ap (λ (ps : List User). map (λ (p : User). p.transcript) ps) users ∙ transcripts_same 1 had.stores old.system.users;
         clock = clock;
       };
-      counted = counted_to_load start.system.entries old.system.entries new.system.entries was mid now _ _ counted fails.cut (calls_joined had.words due.user old who) entries;
+      counted = counted_to_load start.system.entries old.system.entries new.system.entries was mid now _ _ counted fails.cut (calls_joined had.stores due.user old who) entries;
     }
 
 -- what holds by how a step ended
-pub lasts_by : {T : Type 0} (r : Result T RunFault) (A B C P : Type 0) → (A → P) → (B → P) → Ends r A B C → Lasts r P
-lasts_by (Ok x) A B C P done unchanged h = done h
-lasts_by (Err NoMemory) A B C P done unchanged h = unchanged h
-lasts_by (Err Drum) A B C P done unchanged h = tt
-lasts_by (Err Disk) A B C P done unchanged h = cc
+pub lasts_by : {T : Type 0} (r : Result T RunFault) (A B C D P : Type 0) → (A → P) → (B → P) → Ends r A B C D → Lasts r P
+lasts_by (Ok x) A B C D P done unchanged h = done h
+lasts_by (Err NoMemory) A B C D P done unchanged h = unchanged h
+lasts_by (Err Drum) A B C D P done unchanged h = tt
+lasts_by (Err Disk) A B C D P done unchanged h = tt
 
 -- soundness doesn't look at the places of blocks
 pub sound_places : (places : Places) (r : Run) → Sound r → Sound (at_places places r)
@@ -157,5 +158,5 @@ sound_files files r sound =
     same : Alike r (with_files files r)
     same = record { users = refl; accounts = refl; consoles = refl }
 
-pub sound_still : (old new : Run) (had has : Memory) → Sound old → Stays old new had has → Sound new
+pub sound_still : (old new : Run) (had has : Held) → Sound old → Stays old new had has → Sound new
 sound_still old new had has sound s = subst Sound (sym s.run) (sound_files new.system.files old sound)

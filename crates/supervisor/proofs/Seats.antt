@@ -6,11 +6,12 @@ use Rattle.time_sharing.specs.Rows.{machine}
 use Rattle.time_sharing.specs.System as system
 use Rattle.time_sharing.specs.System.{SystemState, World, Timed, Service, Console, Event, Off, On, Password, Session, Dials, Types, Quits, Hangs, state_of, put, without, out_of, consoles_cut, consoles_after}
 use Rattle.user_model.specs.Session.{user_rows}
+use Rattle.user_model.specs.Inner.{Stored}
 use Rattle.system_model.specs.Round.{round}
 use Rattle.system_model.specs.Run.{Run, next}
 use Rattle.system_model.specs.Joined.{joined}
 use Rattle.system_model.proofs.PassLaws.{passes_keep}
-use Rattle.user_cores.specs.Memory.{Memory}
+use Rattle.user_cores.specs.Backing.{Held}
 use Rattle.supervisor.specs.Runs.{DoesMany}
 use Rattle.supervisor.specs.Steps.{Does}
 
@@ -107,15 +108,15 @@ pub next_seats : (limit : ℕ) (r : Run) → length (next limit r).system.consol
 unfolding next
 next_seats limit r = next_keeps (machine user_rows) (round r.swap r.common r.accounts) limit r.system.events r.system
 
-joined_seats : (f : ℕ → List ℕ) (r : Run) → length (joined f r).system.consoles ≡ length r.system.consoles
+joined_seats : (f : ℕ → Stored) (r : Run) → length (joined f r).system.consoles ≡ length r.system.consoles
 unfolding joined
 joined_seats f r = refl
 
-pub does_seats : (limit : ℕ) (old new : Run) (had has : Memory) → Does (next limit) old new had has → length new.system.consoles ≡ length old.system.consoles
+pub does_seats : (limit : ℕ) (old new : Run) (had has : Held) → Does (next limit) old new had has → length new.system.consoles ≡ length old.system.consoles
 does_seats limit old new had has d =
     sym (joined_seats d.after new) ∙ ap (λ (r : Run). length r.system.consoles) d.is ∙ next_seats limit (joined d.before old) ∙ joined_seats d.before old
 
-pub many_seats : (limit : ℕ) (old new : Run) (had has : Memory) → DoesMany limit old new had has → length new.system.consoles ≡ length old.system.consoles
+pub many_seats : (limit : ℕ) (old new : Run) (had has : Held) → DoesMany limit old new had has → length new.system.consoles ≡ length old.system.consoles
 many_seats limit old new had has d =
     sym (joined_seats d.after new)
     ∙ passes_keep (λ r. length r.system.consoles ≡ length old.system.consoles) limit d.steps (joined d.before old) (joined d.after new)

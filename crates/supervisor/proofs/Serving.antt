@@ -1,17 +1,21 @@
 -- Parts of what a step of the user that is served does.
-use Rattle.std.proofs.Common.{◌≡◌, ℕ, zero, ◌-◌, ◌*◌, Bool, List, [], ◌++◌, length, take, replicate, Option, refl, sym, ◌∙◌, ap, arith}
+use Rattle.std.proofs.Common.{◌≡◌, ℕ, zero, ◌≤◌, ◌-◌, ◌*◌, Bool, true, List, [], ◌++◌, length, take, replicate, Option, refl, sym, ◌∙◌, ap, arith, subst}
 use Rattle.std.proofs.lemmas.List.{append-nil}
 use Rattle.std.proofs.Math.Seq.{take-length}
 use Rattle.time_sharing.specs.Machine.{Ending, CommonOp, Reply, Went, Stopped, Resized, Replaced, LoggedOut}
 use Rattle.time_sharing.specs.System.{Service, Entry, Cause}
 use Rattle.image_map.specs.Images.{size_of}
-use Rattle.user_model.specs.Inner.{blocks_of, recut}
-use Rattle.user_model.specs.User.{User, in_core, core_after, IsStep}
+use Rattle.user_model.specs.Inner.{Stored, blocks_of, recut}
+use Rattle.user_model.specs.User.{User, in_store, core_after, IsStep}
 use Rattle.user_model.proofs.WentLaws.{went_stays}
 use Rattle.system_model.specs.Run.{Run}
 use Rattle.system_model.specs.Cases.{waited, idled, served}
 use Rattle.system_model.specs.Joined.{counted, moved}
-use Rattle.user_cores.specs.Memory.{Memory}
+use Rattle.faults.specs.Faults.{Rose}
+use Rattle.ctss_types.specs.declared.file.FileBody.{FileBody}
+use Rattle.file_map.specs.Known.{known}
+use Rattle.user_session.specs.Stores.{stored}
+use Rattle.user_cores.specs.Backing.{Held, KeepsRules}
 use Rattle.std.specs.Prelude.{Ok, Err}
 use Rattle.std.specs.declared.result.Result.{Result}
 use Rattle.ctss_types.specs.declared.fault.RunFault.{RunFault}
@@ -19,9 +23,9 @@ use Rattle.ctss_types.specs.declared.fault.RunFault.TheVariants.{Drum, Disk, NoM
 use Rattle.supervisor.specs.Steps.{IsResized, settled, Ends, Fails}
 
 -- a step that goes on leaves as many blocks
-pub went_size : (e : Ending) (asked : Bool) (made : Option CommonOp) (t : ℕ) (r : Reply) (old new : User) (before after : List ℕ) → IsStep e asked made t r old new before after → e ≡ Went → blocks_of new.inner ≡ blocks_of old.inner
+pub went_size : (e : Ending) (asked : Bool) (made : Option CommonOp) (t : ℕ) (r : Reply) (old new : User) (before after : Stored) → IsStep e asked made t r old new before after → e ≡ Went → blocks_of new.inner ≡ blocks_of old.inner
 went_size e asked made t r old new before after says is =
-    ap (λ (p : User). blocks_of p.inner) says.left ∙ went_stays t r (in_core before old) (sym says.ends ∙ is)
+    ap (λ (p : User). blocks_of p.inner) says.left ∙ went_stays t r (in_store before old) (sym says.ends ∙ is)
 
 recut_whole : (n : ℕ) (core : List ℕ) → length core ≡ 256 * n → core ≡ recut n core
 recut_whole n core h =
@@ -45,25 +49,28 @@ settled_is Resized n core h = refl
 settled_is Replaced n core h = refl
 settled_is LoggedOut n core h = refl
 
+pub rules_both : (had mid has : Held) → KeepsRules had mid → KeepsRules mid has → KeepsRules had has
+rules_both had mid has one two = record { quotas = two.quotas ∙ one.quotas; tracks = λ u. two.tracks u ∙ one.tracks u; users = two.users ∙ one.users }
+
 -- a new size, seen from before another change that left sizes and quotas
-pub resized_from : (u w n m : ℕ) (had mid has : Memory) → IsResized u n mid has → mid.sizes ≡ had.sizes → mid.quotas ≡ had.quotas → u ≡ w → n ≡ m → IsResized w m had has
-resized_from u w n m had mid has same sizes quotas uw nm =
+pub resized_from : (u w n m : ℕ) (had mid has : Held) → IsResized u n mid has → mid.sizes ≡ had.sizes → KeepsRules had mid → u ≡ w → n ≡ m → IsResized w m had has
+resized_from u w n m had mid has same sizes rules uw nm =
     record {
       len = same.len ∙ ap length sizes;
       mine = λ pos below.
           ap (size_of has.sizes) (sym uw) ∙ same.mine (omega (arith, uw, pos)) (let e = ap length sizes in omega (arith, uw, e, below)) ∙ nm;
       others = λ x pos other. same.others x pos (λ e. other (e ∙ uw)) ∙ ap (λ (s : List ℕ). size_of s x) sizes;
-      quotas = same.quotas ∙ quotas;
+      rules = rules_both had mid has rules same.rules;
     }
 
 -- no size has changed
-pub resized_none : (n : ℕ) (had has : Memory) → has.sizes ≡ had.sizes → has.quotas ≡ had.quotas → IsResized 0 n had has
-resized_none n had has sizes quotas =
+pub resized_none : (n : ℕ) (had has : Held) → has.sizes ≡ had.sizes → KeepsRules had has → IsResized 0 n had has
+resized_none n had has sizes rules =
     record {
       len = ap length sizes;
       mine = λ pos below. absurd (omega (arith, pos));
       others = λ u pos other. ap (λ (s : List ℕ). size_of s u) sizes;
-      quotas = quotas;
+      rules = rules;
     }
 
 -- users stay where the queues, the clock and the service change
@@ -93,26 +100,35 @@ unfolding served
 served_users cause v r = refl
 
 -- other words for how a step ended
-pub ends_map : {T : Type 0} (r : Result T RunFault) (A B C D E F : Type 0) → (A → D) → (B → E) → (C → F) → Ends r A B C → Ends r D E F
-ends_map (Ok x) A B C D E F done unchanged failed h = done h
-ends_map (Err NoMemory) A B C D E F done unchanged failed h = unchanged h
-ends_map (Err Drum) A B C D E F done unchanged failed h = failed h
-ends_map (Err Disk) A B C D E F done unchanged failed h = h
+pub ends_map : {T : Type 0} (r : Result T RunFault) (A B C D A' B' C' D' : Type 0) → (A → A') → (B → B') → (C → C') → (D → D') → Ends r A B C D → Ends r A' B' C' D'
+ends_map (Ok x) A B C D A' B' C' D' done unchanged drum disk h = done h
+ends_map (Err NoMemory) A B C D A' B' C' D' done unchanged drum disk h = unchanged h
+ends_map (Err Drum) A B C D A' B' C' D' done unchanged drum disk h = drum h
+ends_map (Err Disk) A B C D A' B' C' D' done unchanged drum disk h = disk h
 
 -- the same, where it ended by a fault
-pub fails_map : (f : RunFault) (B C E F : Type 0) → (B → E) → (C → F) → Fails f B C → Fails f E F
-fails_map NoMemory B C E F unchanged failed h = unchanged h
-fails_map Drum B C E F unchanged failed h = failed h
-fails_map Disk B C E F unchanged failed h = h
+pub fails_map : (f : RunFault) (B C D B' C' D' : Type 0) → (B → B') → (C → C') → (D → D') → Fails f B C D → Fails f B' C' D'
+fails_map NoMemory B C D B' C' D' unchanged drum disk h = unchanged h
+fails_map Drum B C D B' C' D' unchanged drum disk h = drum h
+fails_map Disk B C D B' C' D' unchanged drum disk h = disk h
 
 -- what follows from each fault
-pub fails_to : (f : RunFault) (B C P : Type 0) → (B → P) → (C → P) → Fails f B C → P
-fails_to NoMemory B C P unchanged failed h = unchanged h
-fails_to Drum B C P unchanged failed h = failed h
-fails_to Disk B C P unchanged failed h = cc
+pub fails_to : (f : RunFault) (B C D P : Type 0) → (B → P) → (C → P) → (D → P) → Fails f B C D → P
+fails_to NoMemory B C D P unchanged drum disk h = unchanged h
+fails_to Drum B C D P unchanged drum disk h = drum h
+fails_to Disk B C D P unchanged drum disk h = disk h
 
 -- what follows from two such facts
-pub fails_both : (f : RunFault) (B C D E P Q : Type 0) → (B → D → P) → (C → E → Q) → Fails f B C → Fails f D E → Fails f P Q
-fails_both NoMemory B C D E P Q unchanged failed h k = unchanged h k
-fails_both Drum B C D E P Q unchanged failed h k = failed h k
-fails_both Disk B C D E P Q unchanged failed h k = h
+pub fails_both : (f : RunFault) (B C D B' C' D' P Q R : Type 0) → (B → B' → P) → (C → C' → Q) → (D → D' → R) → Fails f B C D → Fails f B' C' D' → Fails f P Q R
+fails_both NoMemory B C D B' C' D' P Q R unchanged drum disk h k = unchanged h k
+fails_both Drum B C D B' C' D' P Q R unchanged drum disk h k = drum h k
+fails_both Disk B C D B' C' D' P Q R unchanged drum disk h k = disk h k
+
+-- where the disk tells its records, files that are known as these are these
+pub told_store : (tells : Bool) (fs : List FileBody) (s : Stored) → tells ≡ true → known tells fs ≡ s.files → stored s.core fs ≡ s
+unfolding known
+told_store tells fs s told h = let is : fs ≡ s.files = subst (λ (b : Bool). known b fs ≡ s.files) told h in λ j. record { core = s.core; files = is j }
+
+-- a count that rose later
+pub rose_on : (a b c : ℕ) → a ≤ b → Rose b c → Rose a c
+rose_on a b c up rose = omega (arith, up, rose)

@@ -1,10 +1,11 @@
 -- The state at the start of a script.
-use Rattle.std.proofs.Common.{◌≡◌, ℕ, zero, suc, ◌≤◌, ◌<◌, length, List, [], ◌∷◌, ◌++◌, take, replicate, get_or, None, refl, sym, ap, arith}
+use Rattle.std.proofs.Common.{◌≡◌, ℕ, zero, suc, ◌≤◌, ◌<◌, length, List, [], ◌∷◌, ◌++◌, map, take, replicate, get_or, None, refl, sym, ap, arith}
 use Rattle.ctss_types.specs.declared.script.Script.{Script}
 use Rattle.ctss_types.specs.declared.script.Account.{Account}
-use Rattle.ctss_types.specs.declared.file.OwnedFile.{OwnedFile}
+use Rattle.std.proofs.lemmas.List.{length-map}
 use Rattle.time_sharing.specs.System.{Off}
-use Rattle.user_model.specs.Session.{nobody}
+use Rattle.user_model.specs.Session.{nobody, first_state}
+use Rattle.user_model.specs.User.{User}
 use Rattle.plan_model.specs.Levels.{empty_levels, waits}
 use Rattle.plan_model.specs.Loads.{no_places}
 use Rattle.system_model.specs.Run.{Run}
@@ -19,7 +20,7 @@ made script =
       common = script.params.common;
       accounts = script.accounts;
       system = record {
-        users = users_from 1 script.accounts script.files;
+        users = map (λ (a : Account). first_state a []) script.accounts;
         files = [];
         plan = record { levels = empty_levels script.params.wq script.params.quantum; places = no_places };
         consoles = replicate 32 Off;
@@ -31,18 +32,19 @@ made script =
       };
     }
 
-pub starts : (script : Script) → made script ≡ start_of (record script { events = [] })
+-- users whose files lie elsewhere
+no_files : (u : ℕ) (accounts : List Account) → map (λ (a : Account). first_state a []) accounts ≡ users_from u accounts []
+no_files u [] = refl
+no_files u (a ∷ accounts) = ap (λ (ps : List User). first_state a [] ∷ ps) (no_files (suc u) accounts)
+
+pub starts : (script : Script) → made script ≡ start_of (record script { events = []; files = [] })
 unfolding start_of
-starts script = refl
+starts script = ap (λ (users : List User). record (made script) { system = record (made script).system { users = users } }) (no_files 1 script.accounts)
 
-length_users : (u : ℕ) (accounts : List Account) (files : List OwnedFile) → length (users_from u accounts files) ≡ length accounts
-length_users u [] files = refl
-length_users u (a ∷ accounts) files = ap suc (length_users (suc u) accounts files)
-
-no_own : (u : ℕ) (accounts : List Account) (files : List OwnedFile) (k : ℕ) → (get_or (users_from u accounts files) k nobody).own ≤ 0
-no_own u [] files k = omega arith
-no_own u (a ∷ accounts) files zero = omega arith
-no_own u (a ∷ accounts) files (suc k) = no_own (suc u) accounts files k
+no_own : (accounts : List Account) (k : ℕ) → (get_or (map (λ (a : Account). first_state a []) accounts) k nobody).own ≤ 0
+no_own [] k = omega arith
+no_own (a ∷ accounts) zero = omega arith
+no_own (a ∷ accounts) (suc k) = no_own accounts k
 
 all_off : (n k : ℕ) → get_or (replicate n Off) k Off ≡ Off
 all_off zero k = refl
@@ -52,7 +54,7 @@ all_off (suc n) (suc k) = all_off n k
 pub sound_made : (script : Script) → length script.accounts ≤ 30 → Sound (made script)
 unfolding waits
 sound_made script few =
-    let same : length (users_from 1 script.accounts script.files) ≡ length script.accounts = length_users 1 script.accounts script.files in
+    let same : length (map (λ (a : Account). first_state a []) script.accounts) ≡ length script.accounts = length-map script.accounts (λ (a : Account). first_state a []) in
     record {
       few = omega (arith, same, few);
       accounts = omega (arith, same);
@@ -61,7 +63,7 @@ sound_made script few =
       served = λ v e. cc;
       ran = λ v e. cc;
       queued = λ u e. cc;
-      owns = no_own 1 script.accounts script.files;
+      owns = no_own script.accounts;
     }
 
 pub take_one : {X : Type 0} (xs : List X) (k : ℕ) (x d : X) → k < length xs → x ≡ get_or xs k d → take (suc k) xs ≡ take k xs ++ x ∷ []

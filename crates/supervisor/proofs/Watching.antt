@@ -6,6 +6,7 @@ use Rattle.time_sharing.specs.Machine.{Item}
 use Rattle.time_sharing.specs.System.{Timed}
 use Rattle.user_model.specs.User.{User}
 use Rattle.user_model.specs.Session.{nobody}
+use Rattle.user_model.specs.Inner.{Stored}
 use Rattle.system_model.specs.Run.{Run, next, due_of}
 use Rattle.system_model.specs.Joined.{joined}
 use Rattle.system_model.specs.Sound.{Sound}
@@ -14,7 +15,7 @@ use Rattle.console_texts.specs.Parts.{Shown, Transcripts, AreLengths, text_of}
 use Rattle.console_texts.specs.Following.{AreShown, followed, settled_in}
 use Rattle.console_texts.specs.Watching.{transcripts_of, texts_next, texts_to, AfterShown, refused_by}
 use Rattle.console_texts.proofs.Watched.{shown_event, shown_rest, shown_served, texts_on, texts_done, shown_none, shown_on}
-use Rattle.user_cores.specs.Memory.{Memory}
+use Rattle.user_cores.specs.Backing.{Held}
 use Rattle.supervisor.specs.Shows.{GoesOn, HasTexts, HasTextsShown}
 use Rattle.supervisor.specs.Steps.{Does, Stays}
 use Rattle.supervisor.proofs.Running.{joined_next, transcripts_same}
@@ -26,19 +27,19 @@ are_lengths : (users : List User) → AreLengths (lengths_of users) (transcripts
 are_lengths users zero = refl
 are_lengths users (suc n) = get_or-map (λ (u : User). length u.transcript) users n nobody ∙ ap (λ (is : List Item). length is) (sym (get_or-map (λ (u : User). u.transcript) users n nobody))
 
-lengths_joined : (f : ℕ → List ℕ) (r : Run) → AreLengths (lengths_of r.system.users) (transcripts_of (joined f r).system.users)
+lengths_joined : (f : ℕ → Stored) (r : Run) → AreLengths (lengths_of r.system.users) (transcripts_of (joined f r).system.users)
 unfolding joined
 lengths_joined f r = subst (AreLengths (lengths_of r.system.users)) (transcripts_same 1 f r.system.users) (are_lengths r.system.users)
 
-pub told_joined : (f : ℕ → List ℕ) (r : Run) (rows : List Shown) → AreShown r.system.consoles (transcripts_of r.system.users) rows → AreShown (joined f r).system.consoles (transcripts_of (joined f r).system.users) rows
+pub told_joined : (f : ℕ → Stored) (r : Run) (rows : List Shown) → AreShown r.system.consoles (transcripts_of r.system.users) rows → AreShown (joined f r).system.consoles (transcripts_of (joined f r).system.users) rows
 unfolding joined
 told_joined f r rows told = subst (λ (ts : Transcripts). AreShown r.system.consoles ts rows) (transcripts_same 1 f r.system.users) told
 
-pub told_apart : (f : ℕ → List ℕ) (r : Run) (rows : List Shown) → AreShown (joined f r).system.consoles (transcripts_of (joined f r).system.users) rows → AreShown r.system.consoles (transcripts_of r.system.users) rows
+pub told_apart : (f : ℕ → Stored) (r : Run) (rows : List Shown) → AreShown (joined f r).system.consoles (transcripts_of (joined f r).system.users) rows → AreShown r.system.consoles (transcripts_of r.system.users) rows
 unfolding joined
 told_apart f r rows told = subst (λ (ts : Transcripts). AreShown r.system.consoles ts rows) (sym (transcripts_same 1 f r.system.users)) told
 
-pub texts_same : (f : ℕ → List ℕ) (r : Run) (rows : List Shown) → map (text_of (transcripts_of r.system.users)) rows ≡ map (text_of (transcripts_of (joined f r).system.users)) rows
+pub texts_same : (f : ℕ → Stored) (r : Run) (rows : List Shown) → map (text_of (transcripts_of r.system.users)) rows ≡ map (text_of (transcripts_of (joined f r).system.users)) rows
 unfolding joined
 texts_same f r rows = ap (λ (ts : Transcripts). map (text_of ts) rows) (transcripts_same 1 f r.system.users)
 
@@ -46,13 +47,13 @@ texts_same f r rows = ap (λ (ts : Transcripts). map (text_of ts) rows) (transcr
 module _ (limit : ℕ) (old new : Run) (rows : List Shown) (f : Run → Shown → Shown) where
   -- what is known of such rows, of a run whose users have words
   abbrev pub Knows : Type 0
-  Knows = (w : ℕ → List ℕ) (s : Run) → s ≡ next limit (joined w old) → AreLengths (lengths_of new.system.users) (transcripts_of s.system.users) →
+  Knows = (w : ℕ → Stored) (s : Run) → s ≡ next limit (joined w old) → AreLengths (lengths_of new.system.users) (transcripts_of s.system.users) →
       (texts_next limit (joined w old) (map (text_of (transcripts_of (joined w old).system.users)) rows) ≡ map (text_of (transcripts_of s.system.users)) (map (f s) rows))
       × AreShown s.system.consoles (transcripts_of s.system.users) (map (f s) rows)
 
   -- with words apart
   abbrev pub Same : Type 0
-  Same = (w : ℕ → List ℕ) → map (f (joined w new)) rows ≡ map (f new) rows
+  Same = (w : ℕ → Stored) → map (f (joined w new)) rows ≡ map (f new) rows
 
   pub goes_by : Knows → Same → GoesOn limit old new (map (text_of (transcripts_of old.system.users)) rows) (map (text_of (transcripts_of new.system.users)) (map (f new) rows))
   goes_by knows same before after is =
@@ -61,7 +62,7 @@ module _ (limit : ℕ) (old new : Run) (rows : List Shown) (f : Run → Shown �
       ∙ ap (map (text_of (transcripts_of (joined after new).system.users))) (same after)
       ∙ sym (texts_same after new (map (f new) rows)))
 
-  pub told_by : (had has : Memory) → Knows → Same → Does (next limit) old new had has → AreShown new.system.consoles (transcripts_of new.system.users) (map (f new) rows)
+  pub told_by : (had has : Held) → Knows → Same → Does (next limit) old new had has → AreShown new.system.consoles (transcripts_of new.system.users) (map (f new) rows)
   told_by had has knows same d =
       told_apart d.after new (map (f new) rows)
       (subst (AreShown (joined d.after new).system.consoles (transcripts_of (joined d.after new).system.users)) (same d.after) (knows d.before (joined d.after new) d.is (lengths_joined d.after new)).1)
@@ -113,7 +114,7 @@ served_goes limit old new rows quiet sound opened told before after is =
     let k = shown_served limit (joined before old) rows quiet (sound_joined before old sound) serves (told_joined before old rows told) in
     sym (ap (texts_next limit (joined before old)) (texts_same before old rows) ∙ k.0 ∙ ap (λ (s : Run). map (text_of (transcripts_of s.system.users)) rows) (sym is) ∙ sym (texts_same after new rows))
 
-pub served_told : (limit : ℕ) (old new : Run) (had has : Memory) (rows : List Shown) → due_of old.system.events old.system.clock ≡ None → Sound old → is_some new.system.service ≡ true
+pub served_told : (limit : ℕ) (old new : Run) (had has : Held) (rows : List Shown) → due_of old.system.events old.system.clock ≡ None → Sound old → is_some new.system.service ≡ true
     → AreShown old.system.consoles (transcripts_of old.system.users) rows → Does (next limit) old new had has → AreShown new.system.consoles (transcripts_of new.system.users) rows
 unfolding joined
 served_told limit old new had has rows quiet sound opened told d =
@@ -124,43 +125,43 @@ served_told limit old new had has rows quiet sound opened told d =
 -- whole runs
 
 -- the texts behind a part of the run; where the drum tells its records
-abbrev pub HasTextsPart : ℕ → (old new : Run) → (had has : Memory) → (told tells : List (List ℕ)) → Type 0
-HasTextsPart limit old new had has told tells = had.tells ≡ true → AfterShown limit (joined had.words old) (joined has.words new) told tells
+abbrev pub HasTextsPart : ℕ → (old new : Run) → (had has : Held) → (told tells : List (List ℕ)) → Type 0
+HasTextsPart limit old new had has told tells = had.tells ≡ true → AfterShown limit (joined had.stores old) (joined has.stores new) told tells
 
-abbrev pub TextsLead : ℕ → (start now : Run) → (first has : Memory) → (told tells : List (List ℕ)) → Type 0
-TextsLead limit start now first has told tells = first.tells ≡ true → texts_to limit (joined has.words now) tells ≡ texts_to limit (joined first.words start) told
+abbrev pub TextsLead : ℕ → (start now : Run) → (first has : Held) → (told tells : List (List ℕ)) → Type 0
+TextsLead limit start now first has told tells = first.tells ≡ true → texts_to limit (joined has.stores now) tells ≡ texts_to limit (joined first.stores start) told
 
-pub texts_lead : (limit : ℕ) (start old new : Run) (first had has : Memory) (x y z : List (List ℕ)) → had.tells ≡ first.tells → old.system.clock < limit → Does (next limit) old new had has
+pub texts_lead : (limit : ℕ) (start old new : Run) (first had has : Held) (x y z : List (List ℕ)) → had.tells ≡ first.tells → old.system.clock < limit → Does (next limit) old new had has
     → GoesOn limit old new y z → TextsLead limit start old first had x y → TextsLead limit start new first has x z
 unfolding joined
 texts_lead limit start old new first had has x y z tells up d goes lead = λ told.
     let is = joined_next limit old new had has d (tells ∙ told) in
-    ap (λ (q : Run). texts_to limit q z) is ∙ ap (texts_to limit (next limit (joined had.words old))) (goes had.words has.words is) ∙ texts_on limit (joined had.words old) y up ∙ lead told
+    ap (λ (q : Run). texts_to limit q z) is ∙ ap (texts_to limit (next limit (joined had.stores old))) (goes had.stores has.stores is) ∙ texts_on limit (joined had.stores old) y up ∙ lead told
 
-pub texts_part : (limit : ℕ) (start old new : Run) (first had has : Memory) (x y z : List (List ℕ)) → had.tells ≡ first.tells → old.system.clock < limit → Does (next limit) old new had has
+pub texts_part : (limit : ℕ) (start old new : Run) (first had has : Held) (x y z : List (List ℕ)) → had.tells ≡ first.tells → old.system.clock < limit → Does (next limit) old new had has
     → GoesOn limit old new y z → HasTextsPart limit start old first had x y → HasTextsPart limit start new first has x z
 unfolding joined
 texts_part limit start old new first had has x y z tells up d goes part = λ told.
     let is = joined_next limit old new had has d (tells ∙ told) in
-    subst (AfterShown limit (joined first.words start) (joined has.words new) x) (sym (goes had.words has.words is))
-    (subst (λ (q : Run). AfterShown limit (joined first.words start) q x (texts_next limit (joined had.words old) y)) (sym is) (shown_on limit (joined first.words start) (joined had.words old) x y (part told) up))
+    subst (AfterShown limit (joined first.stores start) (joined has.stores new) x) (sym (goes had.stores has.stores is))
+    (subst (λ (q : Run). AfterShown limit (joined first.stores start) q x (texts_next limit (joined had.stores old) y)) (sym is) (shown_on limit (joined first.stores start) (joined had.stores old) x y (part told) up))
 
-pub texts_none : (limit : ℕ) (start : Run) (first : Memory) (x : List (List ℕ)) → HasTextsPart limit start start first first x x
-texts_none limit start first x = λ told. shown_none limit (joined first.words start) x
+pub texts_none : (limit : ℕ) (start : Run) (first : Held) (x : List (List ℕ)) → HasTextsPart limit start start first first x x
+texts_none limit start first x = λ told. shown_none limit (joined first.stores start) x
 
-pub texts_end : (limit : ℕ) (start now : Run) (first has : Memory) (x y : List (List ℕ)) → limit ≤ now.system.clock → TextsLead limit start now first has x y → HasTexts limit start first x y
+pub texts_end : (limit : ℕ) (start now : Run) (first has : Held) (x y : List (List ℕ)) → limit ≤ now.system.clock → TextsLead limit start now first has x y → HasTexts limit start first x y
 unfolding joined
-texts_end limit start now first has x y up lead = λ told. sym (texts_done limit (joined has.words now) y up) ∙ lead told
+texts_end limit start now first has x y up lead = λ told. sym (texts_done limit (joined has.stores now) y up) ∙ lead told
 
-pub texts_stop : (limit : ℕ) (start old new : Run) (first had : Memory) (x y z : List (List ℕ)) → HasTextsPart limit start old first had x y → z ≡ y
+pub texts_stop : (limit : ℕ) (start old new : Run) (first had : Held) (x y z : List (List ℕ)) → HasTextsPart limit start old first had x y → z ≡ y
     → new.system.entries ≡ old.system.entries → new.system.users ≡ old.system.users → new.system.clock ≡ old.system.clock → HasTextsShown limit start new first x z
 unfolding joined
 texts_stop limit start old new first had x y z part same entries users clock = λ told. (
-  joined had.words old,
-  subst (AfterShown limit (joined first.words start) (joined had.words old) x) (sym same) (part told),
+  joined had.stores old,
+  subst (AfterShown limit (joined first.stores start) (joined had.stores old) x) (sym same) (part told),
   record {
     entries = entries;
-    transcripts = ap (λ (ps : List User). map (λ (p : User). p.transcript) ps) users ∙ transcripts_same 1 had.words old.system.users;
+    transcripts = ap (λ (ps : List User). map (λ (p : User). p.transcript) ps) users ∙ transcripts_same 1 had.stores old.system.users;
     clock = clock;
   },
 )

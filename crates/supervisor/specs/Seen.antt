@@ -1,13 +1,8 @@
 -- claim: the state that the fields stand for, with users' blocks in these places.
 use Rattle.std.specs.Prelude.{◌≡◌, ℕ, suc, ◌≤◌, Bool, false, List, [], ◌∷◌, map, Option, Some, None, Result, IfOk, OnOk, OnErr}
-use Rattle.std.specs.List.{All}
 use Rattle.ctss_types.specs.declared.script.Account.{Account}
 use Rattle.ctss_types.specs.declared.file.FileBody.{FileBody}
-use Rattle.ctss_types.specs.declared.file.OwnedFile.{OwnedFile}
 use Rattle.ctss_types.specs.declared.history.Record.{Record}
-use Rattle.file_model.specs.Files.{tracks_of}
-use Rattle.file_model.specs.Owned.{files_of}
-use Rattle.file_map.specs.Directory.{NamesDiffer}
 use Rattle.user_model.specs.User.{User}
 use Rattle.time_sharing.specs.System.{Console, Timed, Service, Entry, Cause, Time, Wait, Stop, Size, Preempt, AtEnd}
 use Rattle.plan_model.specs.Levels.{Levels, entered, dropped, entered_again}
@@ -15,7 +10,7 @@ use Rattle.plan_model.specs.Loads.{Places, given_up}
 use Rattle.system_model.specs.Run.{Run}
 use Rattle.supervisor.specs.declared.state.State.{State}
 
--- a run but for users' cores: no words, and no places of blocks; with what each console has shown of it, and whether it was
+-- a run but for what lies behind users' sessions: no words, no files, and no places of blocks; with what each console has shown of it, and whether it was
 -- cut off
 pub record Bare : Type 0 where
   pub swap : ℕ
@@ -113,14 +108,6 @@ left_queues (Some Size) u unread blocks q = entered blocks u (dropped u q)
 left_queues (Some Preempt) u unread blocks q = q
 left_queues (Some AtEnd) u unread blocks q = q
 
--- accounts that are numbered from u on, with files: each has at most 128 blocks, its files differ in their names, have modes 0
--- to 3 and keep its quota of tracks
-abbrev pub AreFit : ℕ → List Account → List OwnedFile → Type 0
-AreFit u [] owned = Unit {0}
-AreFit u (a ∷ accounts) owned =
-    (a.blocks ≤ 128) × NamesDiffer (files_of u owned) × All (λ (f : FileBody). f.mode ≤ 3) (files_of u owned)
-    × (tracks_of (files_of u owned) ≤ a.tracks) × AreFit (suc u) accounts owned
-
 -- the record of a run that stopped, without files
 abbrev pub record_so_far : Run → Record
 record_so_far r =
@@ -131,3 +118,7 @@ record_so_far r =
       common = [];
       clock = r.system.clock;
     }
+
+-- a record but for users' files
+abbrev pub without_files : Record → Record
+without_files rec = record rec { files = [] }

@@ -6,7 +6,8 @@ use Rattle.time_sharing.specs.System.{Console}
 use Rattle.user_model.specs.User.{User}
 use Rattle.system_model.specs.Run.{Run, next}
 use Rattle.system_model.specs.Joined.{joined}
-use Rattle.user_cores.specs.Memory.{Memory}
+use Rattle.user_model.specs.Inner.{Stored}
+use Rattle.user_cores.specs.Backing.{Held}
 use Rattle.console_texts.specs.Parts.{Shown, Kept, text_of}
 use Rattle.console_texts.specs.Following.{AreShown}
 use Rattle.console_texts.specs.Watching.{transcripts_of, texts_next, texts_to, AfterShown}
@@ -23,16 +24,16 @@ texts_of users rows = map (text_of (transcripts_of users)) (rows_of rows)
 abbrev pub IsTold : List Console → List User → List Kept → Type 0
 IsTold consoles users rows = AreShown consoles (transcripts_of users) (rows_of rows)
 
--- The texts behind a step, with whatever words the users had in core.
+-- The texts behind a step, with whatever words and files the users had.
 abbrev pub GoesOn : ℕ → (old new : Run) → (had has : List (List ℕ)) → Type 0
-GoesOn limit old new had has = (before after : ℕ → List ℕ) → joined after new ≡ next limit (joined before old) → has ≡ texts_next limit (joined before old) had
+GoesOn limit old new had has = (before after : ℕ → Stored) → joined after new ≡ next limit (joined before old) → has ≡ texts_next limit (joined before old) had
 
 -- The texts behind the run to the limit, and behind a part that is shown; where the drum tells its records.
-abbrev pub HasTexts : ℕ → (old : Run) → (had : Memory) → (told tells : List (List ℕ)) → Type 0
-HasTexts limit old had told tells = had.tells ≡ true → tells ≡ texts_to limit (joined had.words old) told
+abbrev pub HasTexts : ℕ → (old : Run) → (had : Held) → (told tells : List (List ℕ)) → Type 0
+HasTexts limit old had told tells = had.tells ≡ true → tells ≡ texts_to limit (joined had.stores old) told
 
-abbrev pub HasTextsShown : ℕ → (old new : Run) → (had : Memory) → (told tells : List (List ℕ)) → Type 0
-HasTextsShown limit old new had told tells = had.tells ≡ true → (at : Run) × AfterShown limit (joined had.words old) at told tells × Shows at new
+abbrev pub HasTextsShown : ℕ → (old new : Run) → (had : Held) → (told tells : List (List ℕ)) → Type 0
+HasTextsShown limit old new had told tells = had.tells ≡ true → (at : Run) × AfterShown limit (joined had.stores old) at told tells × Shows at new
 
 -- nothing that a console has shown is taken back
 abbrev pub TextsGrow : (had has : List (List ℕ)) → Type 0

@@ -9,27 +9,27 @@ use Rattle.time_sharing.specs.System.{Service}
 use Rattle.medium.specs.Medium.{CallList}
 use Rattle.drum_slots.specs.Keys.{quota_of}
 use Rattle.image_map.specs.Images.{size_of}
-use Rattle.user_model.specs.Inner.{blocks_of, recut, zeros}
+use Rattle.user_model.specs.Inner.{Stored, blocks_of, recut, zeros}
 use Rattle.user_model.specs.User.{User}
 use Rattle.plan_model.specs.Levels.{chosen, user_of}
 use Rattle.plan_model.specs.Plan.{must_load, places_after}
-use Rattle.user_cores.specs.Memory.{Memory}
+use Rattle.user_cores.specs.Backing.{Held, KeepsRules}
 use Rattle.user_cores.specs.Swaps.{IsCutOff}
 use Rattle.system_model.specs.Run.{Run, due_of, run_to, AfterSteps}
 use Rattle.system_model.specs.Cases.{user_at}
-use Rattle.system_model.specs.Joined.{joined, with_core}
+use Rattle.system_model.specs.Joined.{joined, hung_up}
 use Rattle.system_model.specs.Sound.{Sound}
 use Rattle.supervisor.specs.Seen.{number_of, left_places}
 use Rattle.supervisor.specs.Counts.{IsCountedToLoad, calls_to_load}
 
--- What happened is what this function does to the users joined with words. Where the drum tells its records, these are
--- the users' own words.
-pub record Does (f : Run → Run) (old new : Run) (had has : Memory) : Type 0 where
-  pub before : ℕ → List ℕ
-  pub after : ℕ → List ℕ
+-- What happened is what this function does to the users joined with words and files. Where drum and disk tell their records, these
+-- are the users' own.
+pub record Does (f : Run → Run) (old new : Run) (had has : Held) : Type 0 where
+  pub before : ℕ → Stored
+  pub after : ℕ → Stored
   pub is : joined after new ≡ f (joined before old)
-  pub was : had.tells ≡ true → (u : ℕ) → 1 ≤ u → before u ≡ had.words u
-  pub now : had.tells ≡ true → (u : ℕ) → 1 ≤ u → after u ≡ has.words u
+  pub was : had.tells ≡ true → (u : ℕ) → 1 ≤ u → before u ≡ had.stores u
+  pub now : had.tells ≡ true → (u : ℕ) → 1 ≤ u → after u ≡ has.stores u
   pub tells : has.tells ≡ had.tells
 
 -- a run with other common files
@@ -37,32 +37,34 @@ abbrev pub with_files : List FileBody → Run → Run
 with_files files r = record r { system = record r.system { files = files } }
 
 -- nothing happened, but that an operation on the common files may have been made, whose step is not done
-pub record Stays (old new : Run) (had has : Memory) : Type 0 where
+pub record Stays (old new : Run) (had has : Held) : Type 0 where
   pub run : new ≡ with_files new.system.files old
-  pub words : had.tells ≡ true → (u : ℕ) → 1 ≤ u → has.words u ≡ had.words u
+  pub stores : had.tells ≡ true → (u : ℕ) → 1 ≤ u → has.stores u ≡ had.stores u
   pub tells : has.tells ≡ had.tells
 
--- users and cores agree in each user's number of blocks and in its quota
-pub record IsTied (users : List User) (m : Memory) : Type 0 where
+-- users and what lies behind them agree in each user's number of blocks and in its quotas of blocks and tracks
+pub record IsTied (users : List User) (m : Held) : Type 0 where
   pub many : length m.sizes ≡ suc (length users)
   pub has : (u : ℕ) → 1 ≤ u → u ≤ length users → size_of m.sizes u ≡ blocks_of (user_at u users).inner
   pub may : (u : ℕ) → 1 ≤ u → u ≤ length users → quota_of m.quotas u ≡ (user_at u users).inner.account.blocks
+  pub tracks : (u : ℕ) → 1 ≤ u → u ≤ length users → m.tracks u ≡ (user_at u users).inner.account.tracks
+  pub directories : m.users ≡ length users
 
 -- what holds at each moment
-pub record IsHeld (r : Run) (m : Memory) : Type 0 where
+pub record IsHeld (r : Run) (m : Held) : Type 0 where
   pub sound : Sound r
   pub tied : IsTied r.system.users m
 
 -- the size of one user, if any (0 for nobody), is so many blocks now, and all else of sizes and quotas stays
-pub record IsResized (k n : ℕ) (had has : Memory) : Type 0 where
+pub record IsResized (k n : ℕ) (had has : Held) : Type 0 where
   pub len : length has.sizes ≡ length had.sizes
   pub mine : 0 < k → k < length had.sizes → size_of has.sizes k ≡ n
   pub others : (u : ℕ) → 1 ≤ u → u ≢ k → size_of has.sizes u ≡ size_of had.sizes u
-  pub quotas : has.quotas ≡ had.quotas
+  pub rules : KeepsRules had has
 
--- a user whose session is over has no core any more, and all else stays
-pub record IsLeft (cut : Option ℕ) (had has : Memory) : Type 0 where
-  pub words : had.tells ≡ true → (u : ℕ) → 1 ≤ u → has.words u ≡ with_core (number_of cut) [] had.words u
+-- a user whose session is over has no core any more, and the files that last; all else stays
+pub record IsLeft (cut : Option ℕ) (had has : Held) : Type 0 where
+  pub stores : had.tells ≡ true → (u : ℕ) → 1 ≤ u → has.stores u ≡ hung_up (number_of cut) had.stores u
   pub tells : has.tells ≡ had.tells
   pub places : has.places ≡ left_places cut had.places
   pub sizes : IsResized (number_of cut) 0 had has
@@ -76,9 +78,9 @@ settled Replaced blocks core = zeros blocks
 settled LoggedOut blocks core = recut blocks core
 
 -- a user has as many blocks as its step left it
-pub record IsSettled (e : Ending) (u n : ℕ) (had has : Memory) : Type 0 where
-  pub mine : had.tells ≡ true → has.words u ≡ settled e n (had.words u)
-  pub others : (w : ℕ) → 1 ≤ w → w ≢ u → has.words w ≡ had.words w
+pub record IsSettled (e : Ending) (u n : ℕ) (had has : Held) : Type 0 where
+  pub mine : had.tells ≡ true → has.stores u ≡ record (had.stores u) { core = settled e n (had.stores u).core }
+  pub others : (w : ℕ) → 1 ≤ w → w ≢ u → has.stores w ≡ had.stores w
   pub tells : has.tells ≡ had.tells
   pub places : has.places ≡ places_after e u n had.places
   pub sizes : IsResized u n had has
@@ -111,11 +113,11 @@ pub record Shows (r s : Run) : Type 0 where
   pub clock : s.system.clock ≡ r.system.clock
 
 -- What happened is the run to the limit, of the users joined with their words, or a part of it is shown, where the drum tells them.
-abbrev pub HasRun : ℕ → (old new : Run) → (had has : Memory) → Type 0
-HasRun limit old new had has = had.tells ≡ true → joined has.words new ≡ run_to limit (joined had.words old)
+abbrev pub HasRun : ℕ → (old new : Run) → (had has : Held) → Type 0
+HasRun limit old new had has = had.tells ≡ true → joined has.stores new ≡ run_to limit (joined had.stores old)
 
-abbrev pub HasRunShown : ℕ → (old new : Run) → (had : Memory) → Type 0
-HasRunShown limit old new had = had.tells ≡ true → (at : Run) × AfterSteps limit (joined had.words old) at × Shows at new
+abbrev pub HasRunShown : ℕ → (old new : Run) → (had : Held) → Type 0
+HasRunShown limit old new had = had.tells ≡ true → (at : Run) × AfterSteps limit (joined had.stores old) at × Shows at new
 
 -- A part of the run, short of the limit and behind which a load is next, is shown. The drum's calls are those of the loads so far and, where it tells
 -- them, a beginning of that next load's, of which the last one failed.
@@ -127,23 +129,23 @@ pub record StopsAtLoad (limit : ℕ) (old new : Run) (was now : Option CallList)
   pub shown : Shows at new
   pub counted : IsCountedToLoad old.system.entries new.system.entries was now (calls_to_load load.due.user at)
 
-abbrev pub HasRunToLoad : ℕ → (old new : Run) → (had : Memory) → (was now : Option CallList) → Type 0
-HasRunToLoad limit old new had was now = had.tells ≡ true → StopsAtLoad limit (joined had.words old) new was now
+abbrev pub HasRunToLoad : ℕ → (old new : Run) → (had : Held) → (was now : Option CallList) → Type 0
+HasRunToLoad limit old new had was now = had.tells ≡ true → StopsAtLoad limit (joined had.stores old) new was now
 
--- what holds by the fault that ended a step: want of memory, or the drum; the disk has no part in it
-abbrev pub Fails : RunFault → Type 0 → Type 0 → Type 0
-Fails NoMemory unchanged failed = unchanged
-Fails Drum unchanged failed = failed
-Fails Disk unchanged failed = true ≡ false
+-- what holds by the fault that ended a step: want of memory, the drum, or the disk
+abbrev pub Fails : RunFault → Type 0 → Type 0 → Type 0 → Type 0
+Fails NoMemory unchanged drum disk = unchanged
+Fails Drum unchanged drum disk = drum
+Fails Disk unchanged drum disk = disk
 
 -- what holds by how a step ended: well, or by a fault
-abbrev pub Ends : {T : Type 0} → Result T RunFault → Type 0 → Type 0 → Type 0 → Type 0
-Ends (Ok x) done unchanged failed = done
-Ends (Err fault) done unchanged failed = Fails fault unchanged failed
+abbrev pub Ends : {T : Type 0} → Result T RunFault → Type 0 → Type 0 → Type 0 → Type 0 → Type 0
+Ends (Ok x) done unchanged drum disk = done
+Ends (Err fault) done unchanged drum disk = Fails fault unchanged drum disk
 
--- what holds unless the drum failed
+-- what holds unless drum or disk failed
 abbrev pub Lasts : {T : Type 0} → Result T RunFault → Type 0 → Type 0
 Lasts (Ok x) P = P
 Lasts (Err NoMemory) P = P
 Lasts (Err Drum) P = Unit {0}
-Lasts (Err Disk) P = P
+Lasts (Err Disk) P = Unit {0}

@@ -1,28 +1,34 @@
-ghost use Rattle.std.specs.Prelude.{◌≡◌, ◌≤◌, ◌-◌, ◌^◌, ◌++◌, [], min, length, take, drop, replicate, false};
+ghost use Rattle.std.specs.Prelude.{◌≡◌, ◌≤◌, ◌-◌, ◌^◌, ◌++◌, [], min, length, take, drop, replicate, true, false};
 ghost use Rattle.time_sharing.specs.System.{at};
 ghost use Rattle.system_model.specs.Run.{given, ended};
 ghost use Rattle.plan_model.specs.Loads.{Places, no_places};
 ghost use Rattle.system_model.specs.Record.{start_of, record_from};
 ghost use Rattle.system_model.specs.Sound.{HasSeat};
-ghost use Rattle.supervisor.specs.Seen.{AreFit, record_so_far, run_with};
+ghost use Rattle.std.specs.List.{All};
+ghost use Rattle.faults.specs.Faults.{Rose};
+ghost use Rattle.ctss_types.specs.declared.script.Account.{Account};
+ghost use Rattle.system_model.specs.Joined.{joined};
+ghost use Rattle.supervisor.specs.Seen.{record_so_far, run_with, without_files};
 ghost use Rattle.supervisor.specs.Steps.{Lasts};
 ghost use Rattle.supervisor.specs.Whole.{whole_of, Agrees, Advances};
-ghost use Rattle.std.specs.Prelude.{IfOk, OnOk, OnErr};
+ghost use Rattle.std.specs.Prelude.{IfOk, OnOk, OnErr, IsErrOf};
 
-use crate::finish::{parts_of, transcripts_of};
+use crate::finish::transcripts_of;
 use crate::start::first_state;
 use crate::watch::Watch;
 use console_texts::ConsoleTexts;
-use ctss_types::{ConsoleNo, Entry, NoMemory, Record, RunFault, Script, Sequence, Timed};
+use ctss_types::{
+    ConsoleNo, Entry, NoMemory, Record, RunFault, Script, Sequence, StepFault, Timed,
+};
 use std::alloc::Global;
 use std::marker::Model;
-use user_cores::Cores;
+use user_cores::Backing;
 
-/// The supervisor of a run: all that its accounts, consoles and clock are at one moment. The cores of users' programs
-/// stand beside it; a run is handed those of the same accounts each time.
+/// The supervisor of a run: all that its accounts, consoles and clock are at one moment. The cores of users' programs and
+/// their directories lie behind it; a run is handed those of the same accounts each time.
 ///
-/// In clauses it is the run but for users' cores, with the texts that its consoles have shown; `run_with` adds the places of
-/// users' blocks, `joined` their words.
+/// In clauses it is the run but for what lies behind, with the texts that its consoles have shown; `run_with` adds the places
+/// of users' blocks, `joined` their words and files.
 #[derive(Drop)]
 pub struct Supervisor {
     watch: Watch,
@@ -47,14 +53,14 @@ impl Model for Supervisor {
 }
 
 impl Supervisor {
-    /// The state at the start of a script, with no event given yet.
+    /// The state at the start of a script, with no event given yet. Its users' files lie behind it.
     pub fn new(alloc: Global, script: &Script) -> Result<Supervisor, NoMemory>
         requires level { 1 ≤ script.now.params.wq }
         requires quantum { script.now.params.quantum ≤ 1000000 }
         requires swap { script.now.params.swap ≤ 1000000 }
         requires users { length script.now.accounts ≤ 30 }
-        requires fit { AreFit 1 script.now.accounts script.now.files }
-        ensures run { IfOk result (λ s. run_with no_places s ≡ start_of (record script.now { events = [] })) }
+        requires blocks { All (λ (a : Account). a.blocks ≤ 128) script.now.accounts }
+        ensures run { IfOk result (λ s. run_with no_places s ≡ start_of (record script.now { events = []; files = [] })) }
         ensures texts { IfOk result (λ s. s.texts ≡ replicate 32 []) }
         ensures begun { IfOk result (λ s. s.ended ≡ false) }
     {
@@ -78,9 +84,9 @@ impl Supervisor {
         self.watch.state.take(e)
     }
 
-    /// Whole steps, up to the limit. Where memory lacks, some of them are done; where the drum fails, those before a load.
-    /// After a fault of the drum the run may only be stopped.
-    pub fn advance<C: Cores>(&mut self, cores: &mut C, limit: u64) -> Result<(), RunFault>
+    /// Whole steps, up to the limit. Where memory lacks or the disk fails, some of them are done; where the drum fails, those
+    /// before a load. After a fault of drum or disk the run may only be stopped.
+    pub fn advance<C: Backing>(&mut self, cores: &mut C, limit: u64) -> Result<(), RunFault>
         requires works { C.Works cores.old }
         requires agrees { Agrees (whole_of self.old (C.state cores.old)) }
         requires limit { limit ≤ 100000000 }
@@ -105,13 +111,23 @@ impl Supervisor {
 
     /// The end of the record: an open service and open idling end, and all is handed out.
     #[tactic(auto, using(system_model::proofs::CaseLaws::closes))]
-    pub fn close(self, alloc: Global) -> Result<Record, NoMemory>
-        ensures { IfOk result (λ rec. (places : Places) → rec ≡ record_from (ended (run_with places self))) }
+    pub fn close<C: Backing>(self, alloc: Global, cores: &mut C) -> Result<Record, StepFault>
+        requires works { C.Works cores.old }
+        requires agrees { Agrees (whole_of self (C.state cores.old)) }
+        ensures record { (C.state cores.old).held.tells ≡ true → IfOk result (λ rec. (places : Places)
+            → rec ≡ record_from (ended (joined (C.state cores.old).held.stores (run_with places self)))) }
+        ensures said { IfOk result (λ rec. (places : Places)
+            → without_files rec ≡ without_files (record_from (ended (run_with places self)))) }
+        ensures calls { (C.state cores.new).calls ≡ (C.state cores.old).calls }
+        ensures faults { (C.state cores.new).faults ≡ (C.state cores.old).faults }
+        ensures keeps { C.Keeps cores.old cores.new }
+        ensures cause { IsErrOf result StepFault.Disk → Rose (C.state cores.old).disk_faults (C.state cores.new).disk_faults }
     {
         let watch = self.watch;
         let mut state = watch.state;
         state.close()?;
-        let (transcripts, files) = parts_of(alloc, state.sessions)?;
+        let files = cores.take_lists(alloc)?;
+        let transcripts = transcripts_of(alloc, state.sessions)?;
         let common = state.common.into_list()?;
         Ok(Record {
             entries: Sequence::from_vec(state.entries),

@@ -15,7 +15,7 @@ use crate::state::State;
 use arrayvec::ArrayVec;
 use console_texts::ConsoleTexts;
 use ctss_types::{Entry, RunFault};
-use user_cores::Cores;
+use user_cores::Backing;
 use user_session::Session;
 
 /// The lengths of all transcripts.
@@ -57,7 +57,7 @@ fn refused_at(entries: &[Entry]) -> u8
     refusal_in(&entries[entries.len() - 1])
 }
 
-/// The state of a run but for users' cores, and what the consoles have shown of it.
+/// The state of a run but for what lies behind users' sessions, and what the consoles have shown of it.
 #[derive(Drop)]
 pub(crate) struct Watch {
     pub(crate) state: State,
@@ -66,7 +66,7 @@ pub(crate) struct Watch {
 
 impl Watch {
     /// One step, at which an event is due.
-    fn hear<C: Cores>(&mut self, cores: &mut C, limit: u64) -> Result<(), RunFault>
+    fn hear<C: Backing>(&mut self, cores: &mut C, limit: u64) -> Result<(), RunFault>
         requires works { C.Works cores.old }
         requires held { Holds (watched self.old (C.state cores.old)) }
         requires told { IsTold self.old.state.consoles.items self.old.state.sessions.items self.old.texts }
@@ -81,6 +81,7 @@ impl Watch {
         ensures works { Lasts result (C.Works cores.new) }
         ensures keeps { C.Keeps cores.old cores.new }
         ensures kept { (C.state cores.old).faults ≤ (C.state cores.new).faults }
+        ensures disk { (C.state cores.old).disk_faults ≤ (C.state cores.new).disk_faults }
         ensures texts { TextsFollow limit result
             (watched self.old (C.state cores.old)) (watched self.new (C.state cores.new)) }
         ensures told { IsTold self.new.state.consoles.items self.new.state.sessions.items self.new.texts }
@@ -104,7 +105,7 @@ impl Watch {
     }
 
     /// One step, at which no event is due.
-    fn go<C: Cores>(&mut self, cores: &mut C, limit: u64) -> Result<(), RunFault>
+    fn go<C: Backing>(&mut self, cores: &mut C, limit: u64) -> Result<(), RunFault>
         requires works { C.Works cores.old }
         requires held { Holds (watched self.old (C.state cores.old)) }
         requires told { IsTold self.old.state.consoles.items self.old.state.sessions.items self.old.texts }
@@ -119,6 +120,7 @@ impl Watch {
         ensures works { Lasts result (C.Works cores.new) }
         ensures keeps { C.Keeps cores.old cores.new }
         ensures kept { (C.state cores.old).faults ≤ (C.state cores.new).faults }
+        ensures disk { (C.state cores.old).disk_faults ≤ (C.state cores.new).disk_faults }
         ensures texts { TextsFollow limit result
             (watched self.old (C.state cores.old)) (watched self.new (C.state cores.new)) }
         ensures told { IsTold self.new.state.consoles.items self.new.state.sessions.items self.new.texts }
@@ -138,7 +140,7 @@ impl Watch {
     }
 
     /// One step.
-    fn step<C: Cores>(&mut self, cores: &mut C, limit: u64) -> Result<(), RunFault>
+    fn step<C: Backing>(&mut self, cores: &mut C, limit: u64) -> Result<(), RunFault>
         requires works { C.Works cores.old }
         requires held { Holds (watched self.old (C.state cores.old)) }
         requires told { IsTold self.old.state.consoles.items self.old.state.sessions.items self.old.texts }
@@ -152,6 +154,7 @@ impl Watch {
         ensures works { Lasts result (C.Works cores.new) }
         ensures keeps { C.Keeps cores.old cores.new }
         ensures kept { (C.state cores.old).faults ≤ (C.state cores.new).faults }
+        ensures disk { (C.state cores.old).disk_faults ≤ (C.state cores.new).disk_faults }
         ensures texts { TextsFollow limit result
             (watched self.old (C.state cores.old)) (watched self.new (C.state cores.new)) }
         ensures told { IsTold self.new.state.consoles.items self.new.state.sessions.items self.new.texts }
@@ -163,7 +166,7 @@ impl Watch {
     }
 
     /// Whole steps, up to the limit.
-    pub(crate) fn advance<C: Cores>(&mut self, cores: &mut C, limit: u64) -> Result<(), RunFault>
+    pub(crate) fn advance<C: Backing>(&mut self, cores: &mut C, limit: u64) -> Result<(), RunFault>
         requires works { C.Works cores.old }
         requires held { Holds (watched self.old (C.state cores.old)) }
         requires told { IsTold self.old.state.consoles.items self.old.state.sessions.items self.old.texts }
@@ -177,13 +180,14 @@ impl Watch {
             (watched self.old (C.state cores.old)) (watched self.new (C.state cores.new)) }
         ensures counted { AreCountedBy result
             (watched self.old (C.state cores.old)) (watched self.new (C.state cores.new)) }
-        ensures tells { Lasts result ((C.state cores.new).memory.tells ≡ (C.state cores.old).memory.tells) }
+        ensures tells { Lasts result ((C.state cores.new).held.tells ≡ (C.state cores.old).held.tells) }
         ensures held { Lasts result (Holds (watched self.new (C.state cores.new))) }
         ensures works { Lasts result (C.Works cores.new) }
         ensures sound { Sound (seen no_places self.new.state) }
         ensures told { IsTold self.new.state.consoles.items self.new.state.sessions.items self.new.texts }
         ensures keeps { C.Keeps cores.old cores.new }
         ensures kept { (C.state cores.old).faults ≤ (C.state cores.new).faults }
+        ensures disk { (C.state cores.old).disk_faults ≤ (C.state cores.new).disk_faults }
     {
         'steps: while self.state.clock < limit {
             match self.step(cores, limit) {

@@ -1,9 +1,9 @@
-//! Steps of the state together with users' cores, one after another.
+//! Steps of the state together with what lies behind users' sessions, one after another.
 ghost use Rattle.std.specs.Prelude.{◌≡◌, ◌<◌, ◌≤◌, ◌+◌, ◌-◌, length, true, false, Some, None, IfOk, OnOk, OnErr, vec_len, vec_capacity};
 ghost use Rattle.std.specs.Option.{is_some};
 ghost use Rattle.drum_slots.specs.Keys.{quota_of};
 ghost use Rattle.file_model.specs.Commons.{reply_to, files_after, ReplyFits};
-ghost use Rattle.user_model.specs.User.{can_step, asks_common, in_core};
+ghost use Rattle.user_session.specs.Stores.{IsToMake};
 ghost use Rattle.image_map.specs.Images.{size_of};
 ghost use Rattle.plan_model.specs.Levels.{chosen, user_of};
 ghost use Rattle.plan_model.specs.Loads.{is_loaded};
@@ -14,44 +14,47 @@ ghost use Rattle.time_sharing.specs.Machine.{Went};
 ghost use Rattle.time_sharing.specs.System.{Preempt, next_tick};
 ghost use Rattle.supervisor.specs.Seen.{number_of};
 ghost use Rattle.supervisor.specs.Steps.{IsLeft, IsSettled, Lasts};
-ghost use Rattle.supervisor.specs.Whole.{whole, run_of, Holds, HasBlocks, StepsBy, IsSame, StepsOn, Agrees, AreCounted, AreCountedBy, LoadIsCut, AbsentIsCut, ServedIsCut, NextIsCut, Steps};
+ghost use Rattle.supervisor.specs.Whole.{whole, run_of, Holds, HasBlocks, StepsBy, IsSame, StepsOn, Agrees, AreCounted, AreCountedBy, LoadIsCut, AbsentIsCut, ServedIsCut, NextIsCut, NeverCut, Steps};
 
 use crate::state::State;
 use common_file::apply;
 use ctss_types::{
-    Cause, CommonOp, Ending, Entry, NoMemory, Reply, RunFault, Service, Timed, UserNo,
+    Cause, CommonOp, Ending, Entry, NoMemory, Reply, RunFault, Service, StepFault, Timed, UserNo,
 };
 use file_map::{Files, PortFault};
 use level_queues::Chosen;
-use user_cores::Cores;
+use user_cores::Backing;
 use user_session::Turn;
 
-/// A user whose session is over gives up its core.
-fn give_up<C: Cores>(cores: &mut C, cut: Option<UserNo>)
+/// A user whose session is over gives up its core, and its files of mode 0.
+fn give_up<C: Backing>(cores: &mut C, cut: Option<UserNo>)
     requires works { C.Works cores.old }
-    requires user { number_of cut < length (C.state cores.old).memory.sizes }
-    ensures left { IsLeft cut (C.state cores.old).memory (C.state cores.new).memory }
+    requires user { number_of cut < length (C.state cores.old).held.sizes }
+    requires directory { number_of cut ≤ (C.state cores.old).held.users }
+    ensures left { IsLeft cut (C.state cores.old).held (C.state cores.new).held }
     ensures calls { (C.state cores.new).calls ≡ (C.state cores.old).calls }
     ensures works { C.Works cores.new }
     ensures keeps { C.Keeps cores.old cores.new }
     ensures faults { (C.state cores.new).faults ≡ (C.state cores.old).faults }
+    ensures disk { (C.state cores.new).disk_faults ≡ (C.state cores.old).disk_faults }
 {
     if let Some(user) = cut {
-        cores.resize(user, 0);
+        cores.hang_up(user);
     }
 }
 
 /// A user's core becomes as large as its step left it.
-fn settle<C: Cores>(cores: &mut C, user: UserNo, ending: Ending, blocks: u8)
+fn settle<C: Backing>(cores: &mut C, user: UserNo, ending: Ending, blocks: u8)
     requires works { C.Works cores.old }
-    requires user { user < length (C.state cores.old).memory.sizes }
-    requires quota { blocks ≤ quota_of (C.state cores.old).memory.quotas user }
-    requires same { ending ≡ Went → size_of (C.state cores.old).memory.sizes user ≡ blocks }
-    ensures settled { IsSettled ending user blocks (C.state cores.old).memory (C.state cores.new).memory }
+    requires user { user < length (C.state cores.old).held.sizes }
+    requires quota { blocks ≤ quota_of (C.state cores.old).held.quotas user }
+    requires same { ending ≡ Went → size_of (C.state cores.old).held.sizes user ≡ blocks }
+    ensures settled { IsSettled ending user blocks (C.state cores.old).held (C.state cores.new).held }
     ensures calls { (C.state cores.new).calls ≡ (C.state cores.old).calls }
     ensures works { C.Works cores.new }
     ensures keeps { C.Keeps cores.old cores.new }
     ensures faults { (C.state cores.new).faults ≡ (C.state cores.old).faults }
+    ensures disk { (C.state cores.new).disk_faults ≡ (C.state cores.old).disk_faults }
 {
     match ending {
         Ending::Went => {}
@@ -79,7 +82,7 @@ fn reply_of(op: &CommonOp, files: &mut Files) -> Result<Reply, NoMemory>
 
 impl State {
     /// The event that is due.
-    fn hear<C: Cores>(&mut self, cores: &mut C, e: Timed) -> Result<(), NoMemory>
+    fn hear<C: Backing>(&mut self, cores: &mut C, e: Timed) -> Result<(), NoMemory>
         requires works { C.Works cores.old }
         requires held { Holds (whole self.old (C.state cores.old)) }
         requires seat { HasSeat e (run_of (whole self.old (C.state cores.old))) }
@@ -91,6 +94,7 @@ impl State {
         ensures works { C.Works cores.new }
         ensures keeps { C.Keeps cores.old cores.new }
         ensures faults { (C.state cores.new).faults ≡ (C.state cores.old).faults }
+        ensures disk { (C.state cores.new).disk_faults ≡ (C.state cores.old).disk_faults }
     {
         let cut = self.take_event(e)?;
         give_up(cores, cut);
@@ -98,7 +102,7 @@ impl State {
     }
 
     /// The blocks of the user that is served are brought into core.
-    fn fetch<C: Cores>(&mut self, cores: &mut C, v: Service) -> Result<(), RunFault>
+    fn fetch<C: Backing>(&mut self, cores: &mut C, v: Service) -> Result<(), RunFault>
         requires works { C.Works cores.old }
         requires held { Holds (whole self.old (C.state cores.old)) }
         requires user { IsUser v.user (run_of (whole self.old (C.state cores.old))) }
@@ -112,6 +116,7 @@ impl State {
         ensures works { Lasts result (C.Works cores.new) }
         ensures keeps { C.Keeps cores.old cores.new }
         ensures kept { (C.state cores.old).faults ≤ (C.state cores.new).faults }
+        ensures disk { (C.state cores.old).disk_faults ≤ (C.state cores.new).disk_faults }
     {
         if self.entries.reserve(1).is_err() {
             return Err(RunFault::NoMemory);
@@ -128,79 +133,90 @@ impl State {
 
     /// A step of the user that is served, whose blocks are in core, makes its operation on the common files and goes on with
     /// the reply.
-    fn share<C: Cores>(&mut self, cores: &mut C, v: Service, op: CommonOp) -> Result<(), NoMemory>
+    fn share<C: Backing>(&mut self, cores: &mut C, v: Service, op: CommonOp) -> Result<(), RunFault>
         requires works { C.Works cores.old }
         requires held { Holds (whole self.old (C.state cores.old)) }
         requires user { IsUser v.user (run_of (whole self.old (C.state cores.old))) }
         requires loaded { HasBlocks v.user true (whole self.old (C.state cores.old)) }
-        requires can { can_step (in_core ((C.state cores.old).window v.user) (user_at v.user
-            self.old.sessions.items)) ≡ true }
-        requires makes { asks_common (in_core ((C.state cores.old).window v.user) (user_at v.user self.old.sessions.items))
-            ≡ Some op }
+        requires makes { IsToMake (C.state cores.old).disk_tells ((C.state cores.old).window v.user) op
+            (user_at v.user self.old.sessions.items) }
         requires room { vec_len self.old.entries + 3 ≤ vec_capacity self.old.entries }
         requires ran { v.ran ≤ self.old.clock }
         requires before { self.old.clock ≤ 100000000 }
-        ensures ok { OnOk result (StepsBy (attended v)
-            (whole self.old (C.state cores.old)) (whole self.new (C.state cores.new))) }
-        ensures err { OnErr result (IsSame (whole self.old (C.state cores.old)) (whole self.new (C.state cores.new))) }
-        ensures counted { AreCounted (whole self.old (C.state cores.old)) (whole self.new (C.state cores.new)) }
-        ensures tied { Agrees (whole self.new (C.state cores.new)) }
-        ensures works { C.Works cores.new }
+        ensures ended { Steps (attended v) NeverCut result
+            (whole self.old (C.state cores.old)) (whole self.new (C.state cores.new)) }
+        ensures counted { AreCountedBy result
+            (whole self.old (C.state cores.old)) (whole self.new (C.state cores.new)) }
+        ensures tied { Lasts result (Agrees (whole self.new (C.state cores.new))) }
+        ensures works { Lasts result (C.Works cores.new) }
         ensures keeps { C.Keeps cores.old cores.new }
         ensures faults { (C.state cores.new).faults ≡ (C.state cores.old).faults }
+        ensures disk { (C.state cores.old).disk_faults ≤ (C.state cores.new).disk_faults }
     {
         let user = UserNo::of(v.user);
-        let reply = reply_of(&op, &mut self.common)?;
-        let session = &mut self.sessions[v.user as usize - 1];
-        let step = cores.take_reply(user, session, &reply, self.clock)?;
-        let blocks = session.blocks();
-        settle(cores, user, step.ending, blocks);
-        let entry = Entry::Common {
-            user: v.user,
-            op,
-            reply,
+        let Ok(reply) = reply_of(&op, &mut self.common) else {
+            return Err(RunFault::NoMemory);
         };
-        self.count_step(v, step, Some(entry));
-        Ok(())
+        let session = &mut self.sessions[v.user as usize - 1];
+        match cores.take_reply(user, session, &reply, self.clock) {
+            Ok(step) => {
+                let blocks = session.blocks();
+                settle(cores, user, step.ending, blocks);
+                let entry = Entry::Common {
+                    user: v.user,
+                    op,
+                    reply,
+                };
+                self.count_step(v, step, Some(entry));
+                Ok(())
+            }
+            Err(StepFault::Disk) => Err(RunFault::Disk),
+            Err(StepFault::NoMemory) => Err(RunFault::NoMemory),
+        }
     }
 
     /// A step of the user that is served, whose blocks are in core; where it can't step, it waits.
-    fn serve<C: Cores>(&mut self, cores: &mut C, v: Service) -> Result<(), NoMemory>
+    fn serve<C: Backing>(&mut self, cores: &mut C, v: Service) -> Result<(), RunFault>
         requires works { C.Works cores.old }
         requires held { Holds (whole self.old (C.state cores.old)) }
         requires user { IsUser v.user (run_of (whole self.old (C.state cores.old))) }
         requires loaded { HasBlocks v.user true (whole self.old (C.state cores.old)) }
         requires ran { v.ran ≤ self.old.clock }
         requires before { self.old.clock ≤ 100000000 }
-        ensures ok { OnOk result (StepsBy (attended v)
-            (whole self.old (C.state cores.old)) (whole self.new (C.state cores.new))) }
-        ensures err { OnErr result (IsSame (whole self.old (C.state cores.old)) (whole self.new (C.state cores.new))) }
-        ensures counted { AreCounted (whole self.old (C.state cores.old)) (whole self.new (C.state cores.new)) }
-        ensures tied { Agrees (whole self.new (C.state cores.new)) }
-        ensures works { C.Works cores.new }
+        ensures ended { Steps (attended v) NeverCut result
+            (whole self.old (C.state cores.old)) (whole self.new (C.state cores.new)) }
+        ensures counted { AreCountedBy result
+            (whole self.old (C.state cores.old)) (whole self.new (C.state cores.new)) }
+        ensures tied { Lasts result (Agrees (whole self.new (C.state cores.new))) }
+        ensures works { Lasts result (C.Works cores.new) }
         ensures keeps { C.Keeps cores.old cores.new }
         ensures faults { (C.state cores.new).faults ≡ (C.state cores.old).faults }
+        ensures disk { (C.state cores.old).disk_faults ≤ (C.state cores.new).disk_faults }
     {
-        self.entries.reserve(3)?;
+        if self.entries.reserve(3).is_err() {
+            return Err(RunFault::NoMemory);
+        }
         let user = UserNo::of(v.user);
         let session = &mut self.sessions[v.user as usize - 1];
-        match cores.turn(user, session, self.clock)? {
-            Turn::Waits => {
+        match cores.turn(user, session, self.clock) {
+            Ok(Turn::Waits) => {
                 self.count_wait(v);
                 Ok(())
             }
-            Turn::Done(step) => {
+            Ok(Turn::Done(step)) => {
                 let blocks = session.blocks();
                 settle(cores, user, step.ending, blocks);
                 self.count_step(v, step, None);
                 Ok(())
             }
-            Turn::Asks(op) => self.share(cores, v, op),
+            Ok(Turn::Asks(op)) => self.share(cores, v, op),
+            Err(StepFault::Disk) => Err(RunFault::Disk),
+            Err(StepFault::NoMemory) => Err(RunFault::NoMemory),
         }
     }
 
     /// The user that is served: its blocks are brought in, or it steps.
-    fn attend<C: Cores>(&mut self, cores: &mut C, v: Service) -> Result<(), RunFault>
+    fn attend<C: Backing>(&mut self, cores: &mut C, v: Service) -> Result<(), RunFault>
         requires works { C.Works cores.old }
         requires held { Holds (whole self.old (C.state cores.old)) }
         requires user { IsUser v.user (run_of (whole self.old (C.state cores.old))) }
@@ -214,18 +230,16 @@ impl State {
         ensures works { Lasts result (C.Works cores.new) }
         ensures keeps { C.Keeps cores.old cores.new }
         ensures kept { (C.state cores.old).faults ≤ (C.state cores.new).faults }
+        ensures disk { (C.state cores.old).disk_faults ≤ (C.state cores.new).disk_faults }
     {
         if !cores.is_loaded(UserNo::of(v.user)) {
             return self.fetch(cores, v);
         }
-        if self.serve(cores, v).is_err() {
-            return Err(RunFault::NoMemory);
-        }
-        Ok(())
+        self.serve(cores, v)
     }
 
     /// A service ends, since its user isn't the head of the lowest level.
-    fn preempt<C: Cores>(&mut self, cores: &mut C, v: Service) -> Result<(), NoMemory>
+    fn preempt<C: Backing>(&mut self, cores: &mut C, v: Service) -> Result<(), NoMemory>
         requires works { C.Works cores.old }
         requires held { Holds (whole self.old (C.state cores.old)) }
         ensures ok { OnOk result (StepsBy (served Preempt v)
@@ -236,13 +250,14 @@ impl State {
         ensures works { C.Works cores.new }
         ensures keeps { C.Keeps cores.old cores.new }
         ensures faults { (C.state cores.new).faults ≡ (C.state cores.old).faults }
+        ensures disk { (C.state cores.new).disk_faults ≡ (C.state cores.old).disk_faults }
     {
         self.end_service(Cause::Preempt, v)?;
         Ok(())
     }
 
     /// Nobody waits: the clock goes on.
-    fn rest<C: Cores>(&mut self, cores: &mut C, limit: u64)
+    fn rest<C: Backing>(&mut self, cores: &mut C, limit: u64)
         requires works { C.Works cores.old }
         requires held { Holds (whole self.old (C.state cores.old)) }
         ensures does { StepsBy (idled limit) (whole self.old (C.state cores.old)) (whole self.new (C.state cores.new)) }
@@ -251,13 +266,14 @@ impl State {
         ensures works { C.Works cores.new }
         ensures keeps { C.Keeps cores.old cores.new }
         ensures faults { (C.state cores.new).faults ≡ (C.state cores.old).faults }
+        ensures disk { (C.state cores.new).disk_faults ≡ (C.state cores.old).disk_faults }
     {
         self.idle(limit);
     }
 
     /// No event is due: the head of the lowest level is served, or the service ends, or the clock goes on.
     #[tactic(auto, using(crate::proofs::Doing::go_idle, crate::proofs::Doing::go_end_none, crate::proofs::Doing::go_end))]
-    fn go_on<C: Cores>(&mut self, cores: &mut C, limit: u64) -> Result<(), RunFault>
+    fn go_on<C: Backing>(&mut self, cores: &mut C, limit: u64) -> Result<(), RunFault>
         requires works { C.Works cores.old }
         requires held { Holds (whole self.old (C.state cores.old)) }
         requires before { self.old.clock < limit }
@@ -270,6 +286,7 @@ impl State {
         ensures works { Lasts result (C.Works cores.new) }
         ensures keeps { C.Keeps cores.old cores.new }
         ensures kept { (C.state cores.old).faults ≤ (C.state cores.new).faults }
+        ensures disk { (C.state cores.old).disk_faults ≤ (C.state cores.new).disk_faults }
     {
         match (self.queues.choose(), self.service) {
             (None, None) => {
@@ -304,7 +321,7 @@ impl State {
     }
 
     /// One step, at which an event is due.
-    pub(crate) fn step_at<C: Cores>(&mut self, cores: &mut C, limit: u64) -> Result<(), RunFault>
+    pub(crate) fn step_at<C: Backing>(&mut self, cores: &mut C, limit: u64) -> Result<(), RunFault>
         requires due { is_some (due_of self.old.events.items self.old.clock) ≡ true }
         requires works { C.Works cores.old }
         requires held { Holds (whole self.old (C.state cores.old)) }
@@ -318,6 +335,7 @@ impl State {
         ensures works { Lasts result (C.Works cores.new) }
         ensures keeps { C.Keeps cores.old cores.new }
         ensures kept { (C.state cores.old).faults ≤ (C.state cores.new).faults }
+        ensures disk { (C.state cores.old).disk_faults ≤ (C.state cores.new).disk_faults }
     {
         match self.due() {
             Some(e) => match self.hear(cores, e) {
@@ -329,7 +347,7 @@ impl State {
     }
 
     /// One step, at which no event is due.
-    pub(crate) fn step_on<C: Cores>(&mut self, cores: &mut C, limit: u64) -> Result<(), RunFault>
+    pub(crate) fn step_on<C: Backing>(&mut self, cores: &mut C, limit: u64) -> Result<(), RunFault>
         requires quiet { due_of self.old.events.items self.old.clock ≡ None }
         requires works { C.Works cores.old }
         requires held { Holds (whole self.old (C.state cores.old)) }
@@ -343,6 +361,7 @@ impl State {
         ensures works { Lasts result (C.Works cores.new) }
         ensures keeps { C.Keeps cores.old cores.new }
         ensures kept { (C.state cores.old).faults ≤ (C.state cores.new).faults }
+        ensures disk { (C.state cores.old).disk_faults ≤ (C.state cores.new).disk_faults }
     {
         self.go_on(cores, limit)
     }
@@ -362,7 +381,7 @@ impl State {
     }
 
     /// Instructions of the user of the service, one after another: as many as go on, at most so many.
-    fn work<C: Cores>(&mut self, cores: &mut C, v: Service, next: Chosen, most: u64, limit: u64)
+    fn work<C: Backing>(&mut self, cores: &mut C, v: Service, next: Chosen, most: u64, limit: u64)
         requires works { C.Works cores.old }
         requires held { Holds (whole self.old (C.state cores.old)) }
         requires user { IsUser v.user (run_of (whole self.old (C.state cores.old))) }
@@ -381,6 +400,7 @@ impl State {
         ensures keeps { C.Keeps cores.old cores.new }
         ensures calls { (C.state cores.new).calls ≡ (C.state cores.old).calls }
         ensures faults { (C.state cores.new).faults ≡ (C.state cores.old).faults }
+        ensures disk { (C.state cores.new).disk_faults ≡ (C.state cores.old).disk_faults }
     {
         let user = UserNo::of(v.user);
         let session = &mut self.sessions[v.user as usize - 1];
@@ -391,7 +411,7 @@ impl State {
     /// Instructions of the user of the service, if it is the head of the lowest level and all its blocks are in core, until
     /// something else is to be looked at.
     #[tactic(auto, using(crate::proofs::Passing::stands_still))]
-    fn work_on<C: Cores>(&mut self, cores: &mut C, v: Service, next: Chosen, limit: u64)
+    fn work_on<C: Backing>(&mut self, cores: &mut C, v: Service, next: Chosen, limit: u64)
         requires works { C.Works cores.old }
         requires held { Holds (whole self.old (C.state cores.old)) }
         requires user { IsUser v.user (run_of (whole self.old (C.state cores.old))) }
@@ -406,6 +426,7 @@ impl State {
         ensures keeps { C.Keeps cores.old cores.new }
         ensures calls { (C.state cores.new).calls ≡ (C.state cores.old).calls }
         ensures faults { (C.state cores.new).faults ≡ (C.state cores.old).faults }
+        ensures disk { (C.state cores.new).disk_faults ≡ (C.state cores.old).disk_faults }
     {
         if !cores.is_loaded(UserNo::of(v.user)) {
             return;
@@ -420,7 +441,7 @@ impl State {
     /// As many instructions of the user of the service as can be done before anything else is to be looked at, one after
     /// another: each is a step, but none of them asks again whom to serve.
     #[tactic(auto, using(crate::proofs::Passing::stands_still))]
-    pub(crate) fn run<C: Cores>(&mut self, cores: &mut C, limit: u64)
+    pub(crate) fn run<C: Backing>(&mut self, cores: &mut C, limit: u64)
         requires works { C.Works cores.old }
         requires held { Holds (whole self.old (C.state cores.old)) }
         requires limit { limit ≤ 100000000 }
@@ -431,6 +452,7 @@ impl State {
         ensures keeps { C.Keeps cores.old cores.new }
         ensures calls { (C.state cores.new).calls ≡ (C.state cores.old).calls }
         ensures faults { (C.state cores.new).faults ≡ (C.state cores.old).faults }
+        ensures disk { (C.state cores.new).disk_faults ≡ (C.state cores.old).disk_faults }
     {
         match (self.queues.choose(), self.service) {
             (Some(next), Some(v)) => {

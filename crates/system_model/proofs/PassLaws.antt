@@ -11,8 +11,8 @@ use Rattle.machine_model.specs.Machine.{table}
 use Rattle.machine_model.specs.Runs.{many}
 use Rattle.machine_model.proofs.Runs.{many_less}
 use Rattle.user_model.specs.Session.{nobody}
-use Rattle.user_model.specs.Inner.{blocks_of}
-use Rattle.user_model.specs.User.{User, can_step, step, ending, asks_clock, asks_common, in_core}
+use Rattle.user_model.specs.Inner.{Stored, blocks_of}
+use Rattle.user_model.specs.User.{User, can_step, step, ending, asks_clock, asks_common, in_store}
 use Rattle.user_model.specs.Runs.{IsAtWork, gone, HaveGone}
 use Rattle.user_model.proofs.RunLaws.{work_on, work_can, work_ends, work_asks, work_makes, gone_more, gone_none}
 use Rattle.plan_model.specs.Levels.{Levels, chosen, user_of, has_time, charged}
@@ -21,7 +21,7 @@ use Rattle.plan_model.specs.Plan.{must_load, places_after}
 use Rattle.plan_model.proofs.SpentLaws.{still_chosen, still_time, charged_more, spent_none}
 use Rattle.system_model.specs.Run.{Run, next, due_of, by_due, otherwise, attended}
 use Rattle.system_model.specs.Cases.{user_at, with_user, levels_after, reply_for, commons_for, stepped}
-use Rattle.system_model.specs.Joined.{joined, with_core}
+use Rattle.system_model.specs.Joined.{joined, with_store}
 use Rattle.system_model.specs.Runs.{Passes, passed, elapsed}
 use Rattle.system_model.specs.Sound.{IsUser}
 use Rattle.system_model.proofs.CaseLaws.{next_due, goes_on, attended_steps}
@@ -141,16 +141,16 @@ quiet_until (e ∷ es) limit now n j h below = by_test (nat_le e.tick (now + j))
     by_test false is = refl
 
 -- Many instructions of the user of the service, with the words that it has in core, are as many steps of the machine.
-pub passes : (limit n l : ℕ) (w : Waiting) (v : Service) (p : User) (c d : List ℕ) (s : Regs) (r : Run) → IsUser v.user r → r.system.service ≡ Some v
-    → user_at v.user r.system.users ≡ in_core c p → chosen r.system.plan.levels ≡ Some (l, w) → w.user ≡ v.user → (0 < n → n < w.left)
+pub passes : (limit n l : ℕ) (w : Waiting) (v : Service) (p : User) (c : Stored) (d : List ℕ) (s : Regs) (r : Run) → IsUser v.user r → r.system.service ≡ Some v
+    → user_at v.user r.system.users ≡ in_store c p → chosen r.system.plan.levels ≡ Some (l, w) → w.user ≡ v.user → (0 < n → n < w.left)
     → r.system.clock + n ≤ limit → r.system.clock + n ≤ next_tick limit r.system.events → must_load r.system.plan v.user (blocks_of p.inner) ≡ false
-    → (0 < n → IsAtWork p) → many n p.inner.regs c ≡ went s d → Passes limit n r (passed n v (in_core d (gone n s p)) r)
+    → (0 < n → IsAtWork p) → many n p.inner.regs c.core ≡ went s d → Passes limit n r (passed n v (in_store (record c { core = d }) (gone n s p)) r)
 passes limit zero l w v p c d s r who serves is first mine left up quiet loaded work been =
-    passed_none v (in_core d (gone 0 s p)) r serves (gone_none p c d s been ∙ sym is)
+    passed_none v (in_store (record c { core = d }) (gone 0 s p)) r serves (gone_none p c d s been ∙ sym is)
 passes limit (suc n) l w v p c d s r who serves is first mine left up quiet loaded work been =
-    let b = many_less n p.inner.regs s c d been in
+    let b = many_less n p.inner.regs s c.core d been in
     let some : 0 < suc n = omega arith in
-    let x : User = in_core b.words (gone n b.regs p) in
+    let x : User = in_store (record c { core = b.words }) (gone n b.regs p) in
     let at : IsAtWork (gone n b.regs p) = work_on n b.regs p (work some) in (
       passed n v x r,
       passes limit n l w v p c b.words b.regs r who serves is first mine (λ h. let k = left some in omega (arith, k)) (omega (arith, up)) (omega (arith, quiet)) loaded (λ h. work some) b.been,
@@ -158,10 +158,10 @@ passes limit (suc n) l w v p c d s r who serves is first mine left up quiet load
       (λ j. due_of (passed_events n v x r j) (passed_clock n v x r j)) ∙ quiet_until r.system.events limit r.system.clock (suc n) n quiet (omega arith),
       sym (
           passed_next limit n l w v x r who (quiet_until r.system.events limit r.system.clock (suc n) n quiet (omega arith)) first mine (left some) loaded
-          (work_can (gone n b.regs p) b.words d s at b.goes) (work_ends (r.system.clock + n) (gone n b.regs p) b.words d s at b.goes) (work_asks (gone n b.regs p) b.words d s at b.goes) (work_makes (gone n b.regs p) b.words d s at b.goes)
-          ∙ ap (λ (y : User). passed (suc n) v y r) (gone_more n (r.system.clock + n) p b.words d b.regs s (work some) b.goes)
+          (work_can (gone n b.regs p) (record c { core = b.words }) d s at b.goes) (work_ends (r.system.clock + n) (gone n b.regs p) (record c { core = b.words }) d s at b.goes) (work_asks (gone n b.regs p) (record c { core = b.words }) d s at b.goes) (work_makes (gone n b.regs p) (record c { core = b.words }) d s at b.goes)
+          ∙ ap (λ (y : User). passed (suc n) v y r) (gone_more n (r.system.clock + n) p (record c { core = b.words }) d b.regs s (work some) b.goes)
           ),
-      ap length (passed_entries (suc n) v (in_core d (gone (suc n) s p)) r ∙ sym (passed_entries n v x r)),
+      ap length (passed_entries (suc n) v (in_store (record c { core = d }) (gone (suc n) s p)) r ∙ sym (passed_entries n v x r)),
     )
 
 -- what such steps keep
@@ -172,9 +172,9 @@ passes_keep P limit zero old new on is h = subst P (sym is) h
 passes_keep P limit (suc n) old new on p h =
     subst P (sym p.4) (on p.0 p.2 p.3 (ap (λ (r : Run). length r.system.entries) (sym p.4) ∙ p.5) (passes_keep P limit n old p.0 on p.1 h))
 
--- with words apart
-passed_joined : (n : ℕ) (v : Service) (f : ℕ → List ℕ) (d : List ℕ) (p : User) (r : Run) → IsUser v.user r
-    → joined (with_core v.user d f) (passed n v p r) ≡ passed n v (in_core d p) (joined f r)
+-- with stores apart
+passed_joined : (n : ℕ) (v : Service) (f : ℕ → Stored) (d : Stored) (p : User) (r : Run) → IsUser v.user r
+    → joined (with_store v.user d f) (passed n v p r) ≡ passed n v (in_store d p) (joined f r)
 unfolding joined passed
 passed_joined n v f d p r who = ap with_users (set_joined f r.system.users v.user d p who.some)
   where
@@ -202,12 +202,12 @@ unfolding elapsed
 elapsed_entries n v r = refl
 
 -- many instructions of the user of a service, with its words in core before and after them
-pub passes_joined : (limit n l : ℕ) (w : Waiting) (v : Service) (f : ℕ → List ℕ) (c d : List ℕ) (p : User) (r : Run) → IsUser v.user r → r.system.service ≡ Some v
+pub passes_joined : (limit n l : ℕ) (w : Waiting) (v : Service) (f : ℕ → Stored) (c : Stored) (d : List ℕ) (p : User) (r : Run) → IsUser v.user r → r.system.service ≡ Some v
     → chosen r.system.plan.levels ≡ Some (l, w) → w.user ≡ v.user → (0 < n → n < w.left)
     → r.system.clock + n ≤ limit → r.system.clock + n ≤ next_tick limit r.system.events → must_load r.system.plan v.user (blocks_of (user_at v.user r.system.users).inner) ≡ false
-    → f v.user ≡ c → HaveGone n (user_at v.user r.system.users) p c d → Passes limit n (joined f r) (joined (with_core v.user d f) (passed n v p r))
+    → f v.user ≡ c → HaveGone n (user_at v.user r.system.users) p c.core d → Passes limit n (joined f r) (joined (with_store v.user (record c { core = d }) f) (passed n v p r))
 unfolding joined
 passes_joined limit n l w v f c d p r who serves first mine left up quiet loaded words done =
-    subst (Passes limit n (joined f r)) (ap (λ (q : User). passed n v (in_core d q) (joined f r)) (sym done.left) ∙ sym (passed_joined n v f d p r who))
+    subst (Passes limit n (joined f r)) (ap (λ (q : User). passed n v (in_store (record c { core = d }) q) (joined f r)) (sym done.left) ∙ sym (passed_joined n v f (record c { core = d }) p r who))
     (passes limit n l w v (user_at v.user r.system.users) c d p.inner.regs (joined f r) (is_user_too f v.user r who) serves
-    (serves_joined f v.user r who ∙ ap (λ (x : List ℕ). in_core x (user_at v.user r.system.users)) words) first mine left up quiet loaded done.work done.went)
+    (serves_joined f v.user r who ∙ ap (λ (x : Stored). in_store x (user_at v.user r.system.users)) words) first mine left up quiet loaded done.work done.went)

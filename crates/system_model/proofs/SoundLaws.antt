@@ -337,7 +337,7 @@ lt_or_le a b = by_test (nat_lt a b) refl
     by_test true e = inl (grind (arith, nat_tests))
     by_test false e = inr (grind (arith, nat_tests))
 
-same_or_not : (a b : ℕ) → (a ≡ b) ⊎ (a ≢ b)
+pub same_or_not : (a b : ℕ) → (a ≡ b) ⊎ (a ≢ b)
 same_or_not a b = by_test (nat_eq a b) refl
   where
     by_test : (t : Bool) → nat_eq a b ≡ t → (a ≡ b) ⊎ (a ≢ b)
@@ -439,7 +439,7 @@ sound_attended v r sound who ran = by_load (must_load r.system.plan v.user (bloc
     by_load false m = by_step (can_step (user_at v.user r.system.users)) m refl
 
 -- the user that comes first
-first_chosen : (r : Run) (u : ℕ) → Sound r → user_of (chosen r.system.plan.levels) ≡ Some u → IsUser u r
+pub first_chosen : (r : Run) (u : ℕ) → Sound r → user_of (chosen r.system.plan.levels) ≡ Some u → IsUser u r
 first_chosen r u sound h = by_first (chosen r.system.plan.levels) refl h
   where
     by_first : (o : Option (ℕ × Waiting)) → chosen r.system.plan.levels ≡ o → user_of o ≡ Some u → IsUser u r

@@ -1,27 +1,31 @@
--- proof: the words of users' programs apart from the rest of the users, and both joined.
+-- proof: what of users lies outside their sessions, the words of their programs and their files, apart from the rest, and both joined.
 use Rattle.std.specs.Prelude.{ℕ, suc, ◌+◌, ◌*◌, Bool, if◌then◌else◌, nat_eq, nat_lt, List, [], ◌∷◌, ◌++◌, Option}
 use Rattle.time_sharing.specs.Machine.{Line, Ending, CommonOp}
 use Rattle.time_sharing.specs.System.{Service, Console, Off, On, Password, Session, Event, Entry, Dials, Types, Quits, Hangs, Swap, Cause, max_lines, cause_of, consoles_after, service_after, service_entry, clock_entry, common_entry}
-use Rattle.user_model.specs.Inner.{blocks_of}
-use Rattle.user_model.specs.User.{User, in_core}
+use Rattle.user_model.specs.Inner.{Stored, blocks_of}
+use Rattle.user_model.specs.User.{User, in_store, hung}
 use Rattle.plan_model.specs.Levels.{charged, has_time}
 use Rattle.plan_model.specs.Plan.{places_after}
 use Rattle.plan_model.specs.Loads.{Places}
 use Rattle.system_model.specs.Run.{Run}
 use Rattle.system_model.specs.Cases.{user_at, with_user, levels_after, reply_for, commons_for}
 
--- users from number k on, each with its words
-abbrev pub with_cores : ℕ → (ℕ → List ℕ) → List User → List User
-with_cores k cores [] = []
-with_cores k cores (p ∷ ps) = in_core (cores k) p ∷ with_cores (suc k) cores ps
+-- users from number k on, each with its store
+abbrev pub with_stores : ℕ → (ℕ → Stored) → List User → List User
+with_stores k stores [] = []
+with_stores k stores (p ∷ ps) = in_store (stores k) p ∷ with_stores (suc k) stores ps
 
--- a run whose users have these words
-unfoldable pub joined : (ℕ → List ℕ) → Run → Run
-joined cores r = record r { system = record r.system { users = with_cores 1 cores r.system.users } }
+-- a run whose users have these stores
+unfoldable pub joined : (ℕ → Stored) → Run → Run
+joined stores r = record r { system = record r.system { users = with_stores 1 stores r.system.users } }
 
--- other words for one user
-abbrev pub with_core : ℕ → List ℕ → (ℕ → List ℕ) → ℕ → List ℕ
-with_core u core cores v = if nat_eq v u then core else cores v
+-- another store for one user
+abbrev pub with_store : ℕ → Stored → (ℕ → Stored) → ℕ → Stored
+with_store u store stores v = if nat_eq v u then store else stores v
+
+-- the stores where the session of this user is over, 0 for nobody
+abbrev pub hung_up : ℕ → (ℕ → Stored) → ℕ → Stored
+hung_up u stores = with_store u (hung (stores u)) stores
 
 -- the user whose session an event ends, by a hang or by a line too much; 0 for nobody
 abbrev pub cut_user : Console → Event → List User → ℕ

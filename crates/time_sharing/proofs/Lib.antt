@@ -10,6 +10,7 @@ pub mod RowsLaws
 pub mod ClaimsProved
 pub mod CommonsLaws
 pub mod Limits
+pub mod Given
 pub mod Late
 pub mod Lockstep
 pub mod TextsLaws

@@ -2,3 +2,4 @@ pub mod Cores
 pub mod Memory
 pub mod Swaps
 pub mod Works
+pub mod Backing

@@ -1,14 +1,18 @@
 //! What the supervisor asks of users' cores.
-ghost use Rattle.std.specs.Prelude.{◌≡◌, ◌<◌, ◌≤◌, ◌-◌, ◌+◌, ◌^◌, true, length, IfOk, OnOk, OnErr};
+ghost use Rattle.std.specs.Prelude.{◌≡◌, ◌<◌, ◌≤◌, ◌-◌, ◌+◌, ◌^◌, true, length, IfOk, OnOk, OnErr, IsErrOf};
 ghost use Rattle.drum_slots.specs.Keys.{quota_of};
 ghost use Rattle.plan_model.specs.Loads.{is_loaded};
 ghost use Rattle.user_model.specs.Inner.{blocks_of};
 ghost use Rattle.user_model.specs.Runs.{HaveGone};
-ghost use Rattle.user_session.specs.Turns.{Asked, IsReplied, IsTurn};
+ghost use Rattle.ctss_types.specs.declared.file.CommonOp.{CommonOp};
+ghost use Rattle.user_session.specs.Stores.{stored, Over, IsToMake};
+ghost use Rattle.user_session.specs.Turns.{IsReplied, IsTurn};
+ghost use Rattle.directories.specs.Directories.{Serves};
 ghost use Rattle.file_model.specs.Commons.{ReplyFits};
 ghost use Rattle.user_cores.specs.Cores.{CoresState, size, Loads, Resizes, Replaces, WorksIn};
 
-use ctss_types::{NoMemory, Reply, UserNo};
+use ctss_types::{Reply, StepFault, UserNo};
+use directories::Directories;
 use image_map::{DrumFault, Plan};
 use user_session::{Session, Step, Turn};
 
@@ -55,46 +59,72 @@ pub trait Cores {
         ensures keeps { Keeps self.old self.new }
         ensures replaces { Replaces user blocks (state self.old) (state self.new) };
 
-    /// A step of the session of a user whose blocks are all in core.
-    fn turn(&mut self, user: UserNo, session: &mut Session, now: u64) -> Result<Turn, NoMemory>
+    /// A step of the session of a user whose blocks are all in core, over its directory.
+    fn turn<P: Directories>(
+        &mut self,
+        user: UserNo,
+        session: &mut Session,
+        files: &mut P,
+        now: u64,
+    ) -> Result<Turn, StepFault>
         requires works { Works self.old }
         requires user { user < length (state self.old).memory.sizes }
         requires loaded { is_loaded (state self.old).memory.places user (size (state self.old) user) ≡ true }
         requires size { size (state self.old) user ≡ blocks_of session.old.inner }
         requires fits { session.old.own < 2 ^ 64 - 1 }
         requires time { now < 2 ^ 35 }
-        ensures turn { IfOk result (λ turn. IsTurn turn now session.old session.new
-            ((state self.old).window user) ((state self.new).window user)) }
+        requires open { P.Works files.old }
+        requires directory { user ≤ (P.state files.old).count }
+        requires tracks { (P.state files.old).may user ≡ session.old.inner.account.tracks }
+        ensures turn { IfOk result (λ turn. Over (P.state files.old).tells
+            (stored ((state self.old).window user) ((P.state files.old).own user))
+            (stored ((state self.new).window user) ((P.state files.new).own user))
+            (IsTurn turn now session.old session.new)) }
         ensures account { session.new.inner.account ≡ session.old.inner.account }
         ensures err { OnErr result (session.new ≡ session.old) }
         ensures err_words { OnErr result ((state self.new).window user ≡ (state self.old).window user) }
         ensures works { Works self.new }
         ensures keeps { Keeps self.old self.new }
-        ensures worked { WorksIn user (state self.old) (state self.new) };
+        ensures worked { WorksIn user (state self.old) (state self.new) }
+        ensures open { ¬ IsErrOf result StepFault.Disk → P.Works files.new }
+        ensures same { P.Keeps files.old files.new }
+        ensures serves { Serves user result (P.state files.old) (P.state files.new) };
 
     /// A step of the session of a user whose blocks are all in core, which made a common operation, goes on with its reply.
-    fn take_reply(
+    fn take_reply<P: Directories>(
         &mut self,
         user: UserNo,
         session: &mut Session,
+        files: &mut P,
         reply: &Reply,
         now: u64,
-    ) -> Result<Step, NoMemory>
+    ) -> Result<Step, StepFault>
         requires works { Works self.old }
         requires user { user < length (state self.old).memory.sizes }
         requires loaded { is_loaded (state self.old).memory.places user (size (state self.old) user) ≡ true }
         requires size { size (state self.old) user ≡ blocks_of session.old.inner }
-        requires asks { Asked session.old ((state self.old).window user) }
+        requires asks { (op : CommonOp) × IsToMake (P.state files.old).tells
+            (stored ((state self.old).window user) ((P.state files.old).own user)) op session.old }
         requires told { ReplyFits reply.now }
         requires fits { session.old.own < 2 ^ 64 - 1 }
-        ensures step { IfOk result (λ s. IsReplied s reply.now now session.old session.new
-            ((state self.old).window user) ((state self.new).window user)) }
+        requires open { P.Works files.old }
+        requires directory { user ≤ (P.state files.old).count }
+        requires tracks { (P.state files.old).may user ≡ session.old.inner.account.tracks }
+        ensures step { (op : CommonOp) → IsToMake (P.state files.old).tells
+            (stored ((state self.old).window user) ((P.state files.old).own user)) op session.old
+            → IfOk result (λ s. Over (P.state files.old).tells
+            (stored ((state self.old).window user) ((P.state files.old).own user))
+            (stored ((state self.new).window user) ((P.state files.new).own user))
+            (IsReplied s op reply.now now session.old session.new)) }
         ensures account { session.new.inner.account ≡ session.old.inner.account }
         ensures err { OnErr result (session.new ≡ session.old) }
         ensures err_words { OnErr result ((state self.new).window user ≡ (state self.old).window user) }
         ensures works { Works self.new }
         ensures keeps { Keeps self.old self.new }
-        ensures worked { WorksIn user (state self.old) (state self.new) };
+        ensures worked { WorksIn user (state self.old) (state self.new) }
+        ensures open { ¬ IsErrOf result StepFault.Disk → P.Works files.new }
+        ensures same { P.Keeps files.old files.new }
+        ensures serves { Serves user result (P.state files.old) (P.state files.new) };
 
     /// As many instructions as go on, at most so many, of the session of a user whose blocks are all in core; and how many
     /// they were.

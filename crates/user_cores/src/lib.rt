@@ -1,12 +1,16 @@
-//! The cores of all users' programs, as the supervisor sees them: it brings a user's blocks in, cuts and extends them,
-//! and does a step of a session over them.
+//! What lies behind users' sessions, as the supervisor sees it: the cores of their programs and their directories. It brings a
+//! user's blocks in, cuts and extends them, and does a step of a session over core and directory.
 #![tactic(auto)]
 
+mod backing;
+mod behind;
 mod cores;
 mod first;
 mod swapped;
 mod turn;
 
+pub use backing::Backing;
+pub use behind::Behind;
 pub use cores::Cores;
 pub use first::first_cores;
 pub use image_map::{DrumFault, Plan};

@@ -1,7 +1,8 @@
 //! Users' cores that are swapped with a drum.
 use crate::cores::Cores;
 use crate::turn::{advance_in, reply_in, turn_in};
-use ctss_types::{NoMemory, Reply, UserNo};
+use ctss_types::{Reply, StepFault, UserNo};
+use directories::Directories;
 use image_map::{DrumFault, Image, Plan};
 use medium::Medium;
 use user_session::{Session, Step, Turn};
@@ -43,21 +44,28 @@ impl<D: Medium> Cores for Image<'_, D> {
     }
 
     #[tactic(auto, using(crate::proofs::Images::whole_turned, crate::proofs::Images::words_resident, crate::proofs::Images::words_stay))]
-    fn turn(&mut self, user: UserNo, session: &mut Session, now: u64) -> Result<Turn, NoMemory> {
-        let blocks = self.size(user);
-        turn_in(self.bank_mut(), blocks, session, now)
-    }
-
-    #[tactic(auto, using(crate::proofs::Images::whole_turned, crate::proofs::Images::words_resident, crate::proofs::Images::words_stay))]
-    fn take_reply(
+    fn turn<P: Directories>(
         &mut self,
         user: UserNo,
         session: &mut Session,
+        files: &mut P,
+        now: u64,
+    ) -> Result<Turn, StepFault> {
+        let blocks = self.size(user);
+        turn_in(self.bank_mut(), blocks, user, session, files, now)
+    }
+
+    #[tactic(auto, using(crate::proofs::Images::whole_turned, crate::proofs::Images::words_resident, crate::proofs::Images::words_stay))]
+    fn take_reply<P: Directories>(
+        &mut self,
+        user: UserNo,
+        session: &mut Session,
+        files: &mut P,
         reply: &Reply,
         now: u64,
-    ) -> Result<Step, NoMemory> {
+    ) -> Result<Step, StepFault> {
         let blocks = self.size(user);
-        reply_in(self.bank_mut(), blocks, session, reply, now)
+        reply_in(self.bank_mut(), blocks, user, session, files, reply, now)
     }
 
     #[tactic(auto, using(crate::proofs::Images::whole_turned, crate::proofs::Images::words_resident, crate::proofs::Images::words_stay))]

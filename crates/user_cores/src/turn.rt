@@ -1,67 +1,94 @@
 //! A step of a session over the first blocks of a bank.
-ghost use Rattle.std.specs.Prelude.{◌≡◌, ◌<◌, ◌≤◌, ◌+◌, ◌-◌, ◌*◌, ◌^◌, length, take, drop, IfOk, OnErr};
+ghost use Rattle.std.specs.Prelude.{◌≡◌, ◌<◌, ◌≤◌, ◌+◌, ◌-◌, ◌*◌, ◌^◌, length, take, drop, IfOk, OnErr, IsErrOf};
 ghost use Rattle.core_bank.specs.Bank.{AreWords};
 ghost use Rattle.user_model.specs.Inner.{blocks_of};
 ghost use Rattle.user_model.specs.Runs.{HaveGone};
-ghost use Rattle.user_session.specs.Turns.{Asked, IsReplied, IsTurn};
+ghost use Rattle.ctss_types.specs.declared.file.CommonOp.{CommonOp};
+ghost use Rattle.user_session.specs.Stores.{stored, Over, IsToMake};
+ghost use Rattle.user_session.specs.Turns.{IsReplied, IsTurn};
+ghost use Rattle.directories.specs.Directories.{Serves};
 ghost use Rattle.file_model.specs.Commons.{ReplyFits};
 
 use core_bank::Bank;
-use ctss_types::{NoMemory, Reply};
+use ctss_types::{Reply, StepFault, UserNo};
+use directories::Directories;
 use image_map::Port;
 use user_session::{Session, Step, Turn};
 
-/// A step of a session whose program's words are the first blocks of a bank. The words behind them stay.
-pub fn turn_in(
+/// A step of a session over its directory, whose program's words are the first blocks of a bank. The words behind them stay.
+pub fn turn_in<P: Directories>(
     bank: &mut Bank,
     blocks: u8,
+    user: UserNo,
     session: &mut Session,
+    files: &mut P,
     now: u64,
-) -> Result<Turn, NoMemory>
+) -> Result<Turn, StepFault>
     requires most { blocks ≤ 128 }
     requires words { AreWords bank.old }
     requires size { blocks ≡ blocks_of session.old.inner }
     requires fits { session.old.own < 2 ^ 64 - 1 }
     requires time { now < 2 ^ 35 }
+    requires open { P.Works files.old }
+    requires directory { user ≤ (P.state files.old).count }
+    requires tracks { (P.state files.old).may user ≡ session.old.inner.account.tracks }
     ensures words { AreWords bank.new }
     ensures len { length bank.new ≡ 32768 }
-    ensures turn { IfOk result (λ turn. IsTurn turn now session.old session.new
-        (take (256 * blocks) bank.old) (take (256 * blocks) bank.new)) }
+    ensures turn { IfOk result (λ turn. Over (P.state files.old).tells
+        (stored (take (256 * blocks) bank.old) ((P.state files.old).own user))
+        (stored (take (256 * blocks) bank.new) ((P.state files.new).own user))
+        (IsTurn turn now session.old session.new)) }
     ensures account { session.new.inner.account ≡ session.old.inner.account }
     ensures err { OnErr result (session.new ≡ session.old) }
     ensures err_words { OnErr result (take (256 * blocks) bank.new ≡ take (256 * blocks) bank.old) }
     ensures rest { drop (256 * blocks) bank.new ≡ drop (256 * blocks) bank.old }
+    ensures open { ¬ IsErrOf result StepFault.Disk → P.Works files.new }
+    ensures same { P.Keeps files.old files.new }
+    ensures serves { Serves user result (P.state files.old) (P.state files.new) }
 {
     let mut port = Port::over(bank, blocks);
-    session.step(&mut port, now)
+    files.turn(user, session, &mut port, now)
 }
 
-/// A step of a session that made a common operation goes on with its reply, over the first blocks of a bank. The words behind
-/// them stay.
-pub fn reply_in(
+/// A step of a session that made a common operation goes on with its reply, over its directory and the first blocks of a bank. The
+/// words behind them stay.
+pub fn reply_in<P: Directories>(
     bank: &mut Bank,
     blocks: u8,
+    user: UserNo,
     session: &mut Session,
+    files: &mut P,
     reply: &Reply,
     now: u64,
-) -> Result<Step, NoMemory>
+) -> Result<Step, StepFault>
     requires most { blocks ≤ 128 }
     requires words { AreWords bank.old }
     requires size { blocks ≡ blocks_of session.old.inner }
-    requires asks { Asked session.old (take (256 * blocks) bank.old) }
+    requires asks { (op : CommonOp) × IsToMake (P.state files.old).tells
+        (stored (take (256 * blocks) bank.old) ((P.state files.old).own user)) op session.old }
     requires told { ReplyFits reply.now }
     requires fits { session.old.own < 2 ^ 64 - 1 }
+    requires open { P.Works files.old }
+    requires directory { user ≤ (P.state files.old).count }
+    requires tracks { (P.state files.old).may user ≡ session.old.inner.account.tracks }
     ensures words { AreWords bank.new }
     ensures len { length bank.new ≡ 32768 }
-    ensures step { IfOk result (λ s. IsReplied s reply.now now session.old session.new
-        (take (256 * blocks) bank.old) (take (256 * blocks) bank.new)) }
+    ensures step { (op : CommonOp) → IsToMake (P.state files.old).tells
+        (stored (take (256 * blocks) bank.old) ((P.state files.old).own user)) op session.old
+        → IfOk result (λ s. Over (P.state files.old).tells
+        (stored (take (256 * blocks) bank.old) ((P.state files.old).own user))
+        (stored (take (256 * blocks) bank.new) ((P.state files.new).own user))
+        (IsReplied s op reply.now now session.old session.new)) }
     ensures account { session.new.inner.account ≡ session.old.inner.account }
     ensures err { OnErr result (session.new ≡ session.old) }
     ensures err_words { OnErr result (take (256 * blocks) bank.new ≡ take (256 * blocks) bank.old) }
     ensures rest { drop (256 * blocks) bank.new ≡ drop (256 * blocks) bank.old }
+    ensures open { ¬ IsErrOf result StepFault.Disk → P.Works files.new }
+    ensures same { P.Keeps files.old files.new }
+    ensures serves { Serves user result (P.state files.old) (P.state files.new) }
 {
     let mut port = Port::over(bank, blocks);
-    session.take_reply(&mut port, reply, now)
+    files.take_reply(user, session, &mut port, reply, now)
 }
 
 /// Instructions of a session whose program's words are the first blocks of a bank: as many as go on, at most so many. The

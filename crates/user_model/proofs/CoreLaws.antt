@@ -1,4 +1,4 @@
--- Steps of a user whose words lie apart.
+-- Steps of a user whose words and files lie apart.
 use Rattle.std.proofs.Common.{◌≡◌, ℕ, zero, suc, ◌-◌, ◌*◌, Bool, true, false, not, cond, List, [], ◌∷◌, ◌++◌, length, take, replicate, Option, None, refl, sym, ap, ◌∙◌, arith}
 use Rattle.std.specs.Prelude.{if◌then◌else◌}
 use Rattle.time_sharing.specs.Machine.{Line, Item, Ending, Went, Done}
@@ -6,10 +6,10 @@ use Rattle.time_sharing.specs.Rows.{Outcome, is_logout, out_all, in_line, behind
 use Rattle.cpu_regs.specs.declared.regs.Regs.{Regs}
 use Rattle.machine_model.specs.Step.{Step, went}
 use Rattle.machine_model.specs.Machine.{table}
-use Rattle.user_model.specs.Inner.{Inner, recut}
+use Rattle.user_model.specs.Inner.{Inner, Stored, recut}
 use Rattle.user_model.specs.Programs.{step_row, step_asks, reads_line}
 use Rattle.user_model.specs.Session.{works_in}
-use Rattle.user_model.specs.User.{User, step, in_core}
+use Rattle.user_model.specs.User.{User, step, in_store}
 use Rattle.user_model.specs.Steps.{left}
 use Rattle.user_model.proofs.StepLaws.{run_left}
 
@@ -55,20 +55,20 @@ stays b line o q inside on zero_given = λ j. record q {
 }
 
 -- a step of a program, from the row of what the machine gives
-by_row : (t : ℕ) (p : User) (c c' : List ℕ) (s : Step) (line : Option Line) (i : Inner) (written : List Line) (e : Ending) → works_in p.inner.state ≡ true → p.inner.fill ≡ None → table p.inner.regs c ≡ s → p.on ≡ true → p.given ≡ 0 →
-    first_line (reads_line s (record p.inner { core = c })) p.unread ≡ line → step_asks s (record p.inner { core = c }) ≡ None →
-    step_row s (record p.inner { core = c }) line (suc p.own - p.before) t ≡ record { inner = record i { core = c' }; written = written; front = []; ending = e } → is_logout e ≡ false →
-    in_core c' (record p { inner = i; unread = behind line p.unread; transcript = p.transcript ++ (in_line line ++ out_all written); own = suc p.own }) ≡ step t Done (in_core c p)
-by_row t p c c' s line i written e h none is on zero_given first alone row inside = sym (
-    run_left t (in_core c p) s h none is zero_given alone
-    ∙ ap (λ (l : Option Line). left false l (step_row s (record p.inner { core = c }) l (suc p.own - p.before) t) (in_core c p)) first
-    ∙ ap (λ (o : Outcome Inner). left false line o (in_core c p)) row
-    ∙ stays false line (record { inner = record i { core = c' }; written = written; front = []; ending = e }) (in_core c p) inside on zero_given
+by_row : (t : ℕ) (p : User) (c : Stored) (words : List ℕ) (s : Step) (line : Option Line) (i : Inner) (written : List Line) (e : Ending) → works_in p.inner.state ≡ true → p.inner.fill ≡ None → table p.inner.regs c.core ≡ s → p.on ≡ true → p.given ≡ 0 →
+    first_line (reads_line s (in_store c p).inner) p.unread ≡ line → step_asks s (in_store c p).inner ≡ None →
+    step_row s (in_store c p).inner line (suc p.own - p.before) t ≡ record { inner = record i { core = words; files = c.files }; written = written; front = []; ending = e } → is_logout e ≡ false →
+    in_store (record c { core = words }) (record p { inner = i; unread = behind line p.unread; transcript = p.transcript ++ (in_line line ++ out_all written); own = suc p.own }) ≡ step t Done (in_store c p)
+by_row t p c words s line i written e h none is on zero_given first alone row inside = sym (
+    run_left t (in_store c p) s h none is zero_given alone
+    ∙ ap (λ (l : Option Line). left false l (step_row s (in_store c p).inner l (suc p.own - p.before) t) (in_store c p)) first
+    ∙ ap (λ (o : Outcome Inner). left false line o (in_store c p)) row
+    ∙ stays false line (record { inner = record i { core = words; files = c.files }; written = written; front = []; ending = e }) (in_store c p) inside on zero_given
     )
 
 -- other registers, and any words
-pub plain_step : (t : ℕ) (p : User) (c c' : List ℕ) (r : Regs) → works_in p.inner.state ≡ true → p.inner.fill ≡ None → table p.inner.regs c ≡ went r c' → p.on ≡ true → p.given ≡ 0 →
-    in_core c' (record p { inner = record p.inner { regs = r }; own = suc p.own }) ≡ step t Done (in_core c p)
-plain_step t p c c' r h none is on zero_given =
-    ap (λ (ts : List Item). in_core c' (record p { inner = record p.inner { regs = r }; transcript = ts; own = suc p.own })) (sym (nil p.transcript))
-    ∙ by_row t p c c' (went r c') None (record p.inner { regs = r }) [] Went h none is on zero_given refl refl refl refl
+pub plain_step : (t : ℕ) (p : User) (c : Stored) (words : List ℕ) (r : Regs) → works_in p.inner.state ≡ true → p.inner.fill ≡ None → table p.inner.regs c.core ≡ went r words → p.on ≡ true → p.given ≡ 0 →
+    in_store (record c { core = words }) (record p { inner = record p.inner { regs = r }; own = suc p.own }) ≡ step t Done (in_store c p)
+plain_step t p c words r h none is on zero_given =
+    ap (λ (ts : List Item). in_store (record c { core = words }) (record p { inner = record p.inner { regs = r }; transcript = ts; own = suc p.own })) (sym (nil p.transcript))
+    ∙ by_row t p c words (went r words) None (record p.inner { regs = r }) [] Went h none is on zero_given refl refl refl refl

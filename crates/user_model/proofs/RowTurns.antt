@@ -1,4 +1,4 @@
--- Any row as a step of a user whose words lie apart: one law for all that the machine gives, supervisor entries among it, one for
+-- Any row as a step of a user whose words and files lie apart: one law for all that the machine gives, supervisor entries among it, one for
 -- what was still to be stored, one for commands, one for lines of INPUT.
 use Rattle.std.proofs.Common.{◌≡◌, ℕ, suc, ◌-◌, Bool, true, false, not, ◌&&◌, ◌||◌, List, [], ◌∷◌, ◌++◌, drop, Option, Some, None, refl, sym, ap, ◌∙◌, subst}
 use Rattle.std.specs.Prelude.{slice_get, if◌then◌else◌}
@@ -12,13 +12,13 @@ use Rattle.program_model.specs.declared.Call.{Call}
 use Rattle.program_model.specs.declared.EntryFault.{EntryFault}
 use Rattle.program_model.specs.Calls.{call_of}
 use Rattle.program_model.specs.declared.Fill.{Fill}
-use Rattle.user_model.specs.Inner.{Inner}
+use Rattle.user_model.specs.Inner.{Inner, Stored}
 use Rattle.user_model.specs.declared.Command.{Command}
 use Rattle.user_model.specs.Requests.{command_of}
 use Rattle.user_model.specs.Commands.{command_row, command_asks, command_replied, input_row}
 use Rattle.user_model.specs.Programs.{reads_line, asks_time, step_asks, step_replied, entry_asks, is_read, goes, filled_program}
 use Rattle.user_model.specs.Session.{works_in, is_none}
-use Rattle.user_model.specs.User.{User, can_step, asks_common, in_core, core_after, IsStep}
+use Rattle.user_model.specs.User.{User, can_step, asks_common, in_store, core_after, store_after, IsStep}
 use Rattle.user_model.specs.Steps.{left}
 use Rattle.user_model.specs.Answers.{IsRow, noted, line_count, by_row, step_line, step_said, DidStep, DidFill, DidEntry, DidCommand, DidInput, EntryReplied, CommandReplied}
 use Rattle.user_model.proofs.StepLaws.{run_left, run_ends, run_asks, run_makes, run_can, run_replied_left, run_replied_ends, run_replied_asks, run_takes_none, command_left, command_ends, command_clock, command_makes, command_can, command_replied_left, command_replied_ends, input_left, input_ends, input_asks, input_makes, fill_left, fill_ends, fill_asks, fill_makes, fill_can}
@@ -41,12 +41,12 @@ behind_is None xs = refl
 behind_is (Some l) [] = refl
 behind_is (Some l) (x ∷ xs) = refl
 
-given_back : (can b : Bool) (line : Option Line) (o : Outcome Inner) (asks : Bool) (e : Ending) (asked : Bool) (p q : User) (c d : List ℕ) → p.on ≡ true → p.given ≡ 0 → IsRow can b line o asks e asked p q d →
-    in_core (core_after e q.inner.blocks d) q ≡ left b line o (in_core c p)
+given_back : (can b : Bool) (line : Option Line) (o : Outcome Inner) (asks : Bool) (e : Ending) (asked : Bool) (p q : User) (c d : Stored) → p.on ≡ true → p.given ≡ 0 → IsRow can b line o asks e asked p q d →
+    in_store (store_after e q.inner.blocks d) q ≡ left b line o (in_store c p)
 unfolding left
 given_back can b line o asks e asked p q c d on zero_given is =
-    (λ j. in_core (core_after e (is.1 j).inner.blocks d) (is.1 j))
-    ∙ ap (λ (x : List ℕ). in_core x (by_row b line o p)) is.2
+    (λ j. in_store (store_after e (is.1 j).inner.blocks d) (is.1 j))
+    ∙ (λ j. in_store (record { core = is.2 j; files = is.3 j }) (by_row b line o p))
     ∙ (λ j. record p {
       inner = o.inner;
       on = still_on (is_logout o.ending) p.on on j;
@@ -68,35 +68,35 @@ alone None h = refl
 alone (Some op) h = cc
 
 -- what the machine gave
-pub row_turn : (t : ℕ) (p q : User) (c d : List ℕ) (s : Step) (e : Ending) (asked : Bool) → works_in p.inner.state ≡ true → p.inner.fill ≡ None → table p.inner.regs c ≡ s → p.on ≡ true → p.given ≡ 0
+pub row_turn : (t : ℕ) (p q : User) (c d : Stored) (s : Step) (e : Ending) (asked : Bool) → works_in p.inner.state ≡ true → p.inner.fill ≡ None → table p.inner.regs c.core ≡ s → p.on ≡ true → p.given ≡ 0
     → DidStep s e asked t p q c d
     → IsStep e asked None t Done p q c d
 row_turn t p q c d s e asked h none is on zero_given row =
-    let can = both (is_none (step_asks s (in_core c p).inner)) (not (reads_line s (in_core c p).inner) || some_line p.unread) row.0 in
-    let made : step_asks s (in_core c p).inner ≡ None = alone (step_asks s (in_core c p).inner) can.0 in
+    let can = both (is_none (step_asks s (in_store c p).inner)) (not (reads_line s (in_store c p).inner) || some_line p.unread) row.0 in
+    let made : step_asks s (in_store c p).inner ≡ None = alone (step_asks s (in_store c p).inner) can.0 in
     record {
-      can = run_can (in_core c p) s h none is ∙ (λ j. on j && can.1 j);
-      left = given_back (is_none (step_asks s (in_core c p).inner) && (not (reads_line s (in_core c p).inner) || some_line p.unread)) false (step_line s (in_core c p)) (step_said s t (in_core c p)) (asks_time s (in_core c p).inner) e asked p q c d on zero_given row ∙ sym (run_left t (in_core c p) s h none is zero_given made);
-      ends = row.3 ∙ sym (run_ends t (in_core c p) s h none is made);
-      asks = row.4 ∙ sym (run_asks (in_core c p) s h none is);
-      makes = sym (run_makes (in_core c p) s h none is ∙ made);
+      can = run_can (in_store c p) s h none is ∙ (λ j. on j && can.1 j);
+      left = given_back (is_none (step_asks s (in_store c p).inner) && (not (reads_line s (in_store c p).inner) || some_line p.unread)) false (step_line s (in_store c p)) (step_said s t (in_store c p)) (asks_time s (in_store c p).inner) e asked p q c d on zero_given row ∙ sym (run_left t (in_store c p) s h none is zero_given made);
+      ends = row.4 ∙ sym (run_ends t (in_store c p) s h none is made);
+      asks = row.5 ∙ sym (run_asks (in_store c p) s h none is);
+      makes = sym (run_makes (in_store c p) s h none is ∙ made);
     }
 
 -- what was still to be stored
-pub fill_turn : (t : ℕ) (p q : User) (c d : List ℕ) (f : Fill) (e : Ending) (asked : Bool) → works_in p.inner.state ≡ true → p.inner.fill ≡ Some f → p.on ≡ true → p.given ≡ 0
+pub fill_turn : (t : ℕ) (p q : User) (c d : Stored) (f : Fill) (e : Ending) (asked : Bool) → works_in p.inner.state ≡ true → p.inner.fill ≡ Some f → p.on ≡ true → p.given ≡ 0
     → DidFill f e asked p q c d
     → IsStep e asked None t Done p q c d
 fill_turn t p q c d f e asked h is on zero_given row =
     record {
-      can = fill_can (in_core c p) f h is ∙ on;
-      left = given_back true false None (goes (filled_program f (in_core c p).inner)) false e asked p q c d on zero_given row ∙ sym (fill_left t (in_core c p) f h is zero_given);
-      ends = row.3 ∙ sym (fill_ends t (in_core c p) f h is);
-      asks = row.4 ∙ sym (fill_asks (in_core c p) f h is);
-      makes = sym (fill_makes (in_core c p) f h is);
+      can = fill_can (in_store c p) f h is ∙ on;
+      left = given_back true false None (goes (filled_program f (in_store c p).inner)) false e asked p q c d on zero_given row ∙ sym (fill_left t (in_store c p) f h is zero_given);
+      ends = row.4 ∙ sym (fill_ends t (in_store c p) f h is);
+      asks = row.5 ∙ sym (fill_asks (in_store c p) f h is);
+      makes = sym (fill_makes (in_store c p) f h is);
     }
 
 -- a supervisor entry
-pub entry_turn : (t : ℕ) (p q : User) (c d : List ℕ) (w : ℕ) (call : Result Call EntryFault) (e : Ending) (asked : Bool) → works_in p.inner.state ≡ true → p.inner.fill ≡ None → table p.inner.regs c ≡ entry w → call_of p.inner.regs c w ≡ call → p.on ≡ true → p.given ≡ 0
+pub entry_turn : (t : ℕ) (p q : User) (c d : Stored) (w : ℕ) (call : Result Call EntryFault) (e : Ending) (asked : Bool) → works_in p.inner.state ≡ true → p.inner.fill ≡ None → table p.inner.regs c.core ≡ entry w → call_of p.inner.regs c.core w ≡ call → p.on ≡ true → p.given ≡ 0
     → DidEntry call e asked t p q c d
     → IsStep e asked None t Done p q c d
 entry_turn t p q c d w call e asked h none is what on zero_given row =
@@ -109,70 +109,70 @@ some_at : (xs : List Line) (l : Line) → slice_get xs 0 ≡ Some l → some_lin
 some_at [] l h = cc
 some_at (x ∷ xs) l h = refl
 
-pub command_turn : (t : ℕ) (p q : User) (c d : List ℕ) (l : Line) (command : Command) (e : Ending) (asked : Bool) → works_in p.inner.state ≡ false → p.inner.input ≡ None → slice_get p.unread 0 ≡ Some l → command_of l ≡ command → p.on ≡ true → p.given ≡ 0
+pub command_turn : (t : ℕ) (p q : User) (c d : Stored) (l : Line) (command : Command) (e : Ending) (asked : Bool) → works_in p.inner.state ≡ false → p.inner.input ≡ None → slice_get p.unread 0 ≡ Some l → command_of l ≡ command → p.on ≡ true → p.given ≡ 0
     → DidCommand l command e asked t p q c d
     → IsStep e asked None t Done p q c d
 command_turn t p q c d l command e asked h none first what on zero_given row =
-    let made : command_asks command (in_core c p).inner ≡ None = alone (command_asks command (in_core c p).inner) row.0 in
+    let made : command_asks command (in_store c p).inner ≡ None = alone (command_asks command (in_store c p).inner) row.0 in
     record {
-      can = command_can (in_core c p) h ∙ (λ j. on j && some_at p.unread l first j);
-      left = given_back (is_none (command_asks command (in_core c p).inner)) true (Some l) (command_row command (in_core c p).inner 1 t) true e asked p q c d on zero_given row ∙ sym (command_left t (in_core c p) l command h none first zero_given what made);
-      ends = row.3 ∙ sym (command_ends t (in_core c p) l command h none first what made);
-      asks = row.4 ∙ sym (command_clock (in_core c p) l h none first);
-      makes = sym (command_makes (in_core c p) l command h none first what ∙ made);
+      can = command_can (in_store c p) h ∙ (λ j. on j && some_at p.unread l first j);
+      left = given_back (is_none (command_asks command (in_store c p).inner)) true (Some l) (command_row command (in_store c p).inner 1 t) true e asked p q c d on zero_given row ∙ sym (command_left t (in_store c p) l command h none first zero_given what made);
+      ends = row.4 ∙ sym (command_ends t (in_store c p) l command h none first what made);
+      asks = row.5 ∙ sym (command_clock (in_store c p) l h none first);
+      makes = sym (command_makes (in_store c p) l command h none first what ∙ made);
     }
 
 -- a line of INPUT
-pub input_turn : (t : ℕ) (p q : User) (c d : List ℕ) (l : Line) (name : NamePair) (e : Ending) (asked : Bool) → works_in p.inner.state ≡ false → p.inner.input ≡ Some name → slice_get p.unread 0 ≡ Some l → p.on ≡ true → p.given ≡ 0
+pub input_turn : (t : ℕ) (p q : User) (c d : Stored) (l : Line) (name : NamePair) (e : Ending) (asked : Bool) → works_in p.inner.state ≡ false → p.inner.input ≡ Some name → slice_get p.unread 0 ≡ Some l → p.on ≡ true → p.given ≡ 0
     → DidInput l name e asked p q c d
     → IsStep e asked None t Done p q c d
 input_turn t p q c d l name e asked h some first on zero_given row =
     record {
-      can = command_can (in_core c p) h ∙ (λ j. on j && some_at p.unread l first j);
-      left = given_back true false (Some l) (input_row name l (in_core c p).inner (suc p.own - p.before)) false e asked p q c d on zero_given row ∙ sym (input_left t (in_core c p) l name h some first zero_given);
-      ends = row.3 ∙ sym (input_ends t (in_core c p) l name h some first);
-      asks = row.4 ∙ sym (input_asks (in_core c p) l name h some first);
-      makes = sym (input_makes (in_core c p) l name h some first);
+      can = command_can (in_store c p) h ∙ (λ j. on j && some_at p.unread l first j);
+      left = given_back true false (Some l) (input_row name l (in_store c p).inner (suc p.own - p.before)) false e asked p q c d on zero_given row ∙ sym (input_left t (in_store c p) l name h some first zero_given);
+      ends = row.4 ∙ sym (input_ends t (in_store c p) l name h some first);
+      asks = row.5 ∙ sym (input_asks (in_store c p) l name h some first);
+      makes = sym (input_makes (in_store c p) l name h some first);
     }
 
 -- a command that made a common operation
-pub command_replied_turn : (t : ℕ) (r : Reply) (p q : User) (c d : List ℕ) (l : Line) (command : Command) (op : CommonOp) (e : Ending) (asked : Bool) → works_in p.inner.state ≡ false → p.inner.input ≡ None → slice_get p.unread 0 ≡ Some l → command_of l ≡ command → p.on ≡ true → p.given ≡ 0
+pub command_replied_turn : (t : ℕ) (r : Reply) (p q : User) (c d : Stored) (l : Line) (command : Command) (op : CommonOp) (e : Ending) (asked : Bool) → works_in p.inner.state ≡ false → p.inner.input ≡ None → slice_get p.unread 0 ≡ Some l → command_of l ≡ command → p.on ≡ true → p.given ≡ 0
     → CommandReplied l command op r e asked t p q c d
     → IsStep e asked (Some op) t r p q c d
 command_replied_turn t r p q c d l command op e asked h none first what on zero_given row =
     record {
-      can = command_can (in_core c p) h ∙ (λ j. on j && some_at p.unread l first j);
-      left = given_back true true (Some l) (command_replied command (in_core c p).inner 1 t r) true e asked p q c d on zero_given row.1 ∙ sym (command_replied_left t r (in_core c p) l command op h none first zero_given what row.0);
-      ends = row.1.3 ∙ sym (command_replied_ends t r (in_core c p) l command op h none first what row.0);
-      asks = row.1.4 ∙ sym (command_clock (in_core c p) l h none first);
-      makes = sym (command_makes (in_core c p) l command h none first what ∙ row.0);
+      can = command_can (in_store c p) h ∙ (λ j. on j && some_at p.unread l first j);
+      left = given_back true true (Some l) (command_replied command (in_store c p).inner 1 t r) true e asked p q c d on zero_given row.1 ∙ sym (command_replied_left t r (in_store c p) l command op h none first zero_given what row.0);
+      ends = row.1.4 ∙ sym (command_replied_ends t r (in_store c p) l command op h none first what row.0);
+      asks = row.1.5 ∙ sym (command_clock (in_store c p) l h none first);
+      makes = sym (command_makes (in_store c p) l command h none first what ∙ row.0);
     }
 
 -- a supervisor entry that made one
-pub entry_replied_turn : (t : ℕ) (r : Reply) (p q : User) (c d : List ℕ) (w : ℕ) (call : Result Call EntryFault) (op : CommonOp) (e : Ending) (asked : Bool) → works_in p.inner.state ≡ true → p.inner.fill ≡ None → table p.inner.regs c ≡ entry w → call_of p.inner.regs c w ≡ call → p.on ≡ true → p.given ≡ 0
+pub entry_replied_turn : (t : ℕ) (r : Reply) (p q : User) (c d : Stored) (w : ℕ) (call : Result Call EntryFault) (op : CommonOp) (e : Ending) (asked : Bool) → works_in p.inner.state ≡ true → p.inner.fill ≡ None → table p.inner.regs c.core ≡ entry w → call_of p.inner.regs c.core w ≡ call → p.on ≡ true → p.given ≡ 0
     → EntryReplied call op r e asked p q c d
     → IsStep e asked (Some op) t r p q c d
 entry_replied_turn t r p q c d w call op e asked h none is what on zero_given said =
-    let row : EntryReplied (call_of p.inner.regs c w) op r e asked p q c d = subst (λ (x : Result Call EntryFault). EntryReplied x op r e asked p q c d) (sym what) said in
+    let row : EntryReplied (call_of p.inner.regs c.core w) op r e asked p q c d = subst (λ (x : Result Call EntryFault). EntryReplied x op r e asked p q c d) (sym what) said in
     record {
-      can = run_can (in_core c p) (entry w) h none is ∙ (λ j. on j && (not (run_takes_none (in_core c p) (entry w) op row.0 j) || some_line p.unread));
-      left = given_back true false None (step_replied (entry w) (in_core c p).inner r) false e asked p q c d on zero_given row.1 ∙ sym (run_replied_left t r (in_core c p) (entry w) op h none is zero_given row.0);
-      ends = row.1.3 ∙ sym (run_replied_ends t r (in_core c p) (entry w) op h none is row.0);
-      asks = row.1.4 ∙ sym (run_asks (in_core c p) (entry w) h none is ∙ run_replied_asks (entry w) (in_core c p).inner op row.0);
-      makes = sym (run_makes (in_core c p) (entry w) h none is ∙ row.0);
+      can = run_can (in_store c p) (entry w) h none is ∙ (λ j. on j && (not (run_takes_none (in_store c p) (entry w) op row.0 j) || some_line p.unread));
+      left = given_back true false None (step_replied (entry w) (in_store c p).inner r) false e asked p q c d on zero_given row.1 ∙ sym (run_replied_left t r (in_store c p) (entry w) op h none is zero_given row.0);
+      ends = row.1.4 ∙ sym (run_replied_ends t r (in_store c p) (entry w) op h none is row.0);
+      asks = row.1.5 ∙ sym (run_asks (in_store c p) (entry w) h none is ∙ run_replied_asks (entry w) (in_store c p).inner op row.0);
+      makes = sym (run_makes (in_store c p) (entry w) h none is ∙ row.0);
     }
 
 -- a command that is to make one, and an entry
-pub command_asked : (p : User) (c : List ℕ) (l : Line) (command : Command) (op : CommonOp) → works_in p.inner.state ≡ false → p.inner.input ≡ None → slice_get p.unread 0 ≡ Some l → command_of l ≡ command → p.on ≡ true
-    → command_asks command (in_core c p).inner ≡ Some op → (can_step (in_core c p) ≡ true) × (asks_common (in_core c p) ≡ Some op)
+pub command_asked : (p : User) (c : Stored) (l : Line) (command : Command) (op : CommonOp) → works_in p.inner.state ≡ false → p.inner.input ≡ None → slice_get p.unread 0 ≡ Some l → command_of l ≡ command → p.on ≡ true
+    → command_asks command (in_store c p).inner ≡ Some op → (can_step (in_store c p) ≡ true) × (asks_common (in_store c p) ≡ Some op)
 command_asked p c l command op h none first what on makes =
-    (command_can (in_core c p) h ∙ (λ j. on j && some_at p.unread l first j), command_makes (in_core c p) l command h none first what ∙ makes)
+    (command_can (in_store c p) h ∙ (λ j. on j && some_at p.unread l first j), command_makes (in_store c p) l command h none first what ∙ makes)
 
-pub entry_asked : (p : User) (c : List ℕ) (w : ℕ) (call : Result Call EntryFault) (op : CommonOp) → works_in p.inner.state ≡ true → p.inner.fill ≡ None → table p.inner.regs c ≡ entry w → call_of p.inner.regs c w ≡ call → p.on ≡ true
-    → entry_asks call c ≡ Some op → (can_step (in_core c p) ≡ true) × (asks_common (in_core c p) ≡ Some op)
+pub entry_asked : (p : User) (c : Stored) (w : ℕ) (call : Result Call EntryFault) (op : CommonOp) → works_in p.inner.state ≡ true → p.inner.fill ≡ None → table p.inner.regs c.core ≡ entry w → call_of p.inner.regs c.core w ≡ call → p.on ≡ true
+    → entry_asks call c.core ≡ Some op → (can_step (in_store c p) ≡ true) × (asks_common (in_store c p) ≡ Some op)
 entry_asked p c w call op h none is what on said =
-    let makes : step_asks (entry w) (in_core c p).inner ≡ Some op = ap (λ (x : Result Call EntryFault). entry_asks x c) what ∙ said in
-    (run_can (in_core c p) (entry w) h none is ∙ (λ j. on j && (not (run_takes_none (in_core c p) (entry w) op makes j) || some_line p.unread)), run_makes (in_core c p) (entry w) h none is ∙ makes)
+    let makes : step_asks (entry w) (in_store c p).inner ≡ Some op = ap (λ (x : Result Call EntryFault). entry_asks x c.core) what ∙ said in
+    (run_can (in_store c p) (entry w) h none is ∙ (λ j. on j && (not (run_takes_none (in_store c p) (entry w) op makes j) || some_line p.unread)), run_makes (in_store c p) (entry w) h none is ∙ makes)
 
 -- a supervisor entry that waits for a line
 none_at : (xs : List Line) → slice_get xs 0 ≡ None → some_line xs ≡ false
@@ -183,22 +183,22 @@ and_none : (a : Bool) → (a && false) ≡ false
 and_none true = refl
 and_none false = refl
 
-pub entry_waits : (p : User) (c : List ℕ) (w : ℕ) (call : Result Call EntryFault) → works_in p.inner.state ≡ true → p.inner.fill ≡ None → table p.inner.regs c ≡ entry w → call_of p.inner.regs c w ≡ call
-    → is_read call ≡ true → slice_get p.unread 0 ≡ None → can_step (in_core c p) ≡ false
+pub entry_waits : (p : User) (c : Stored) (w : ℕ) (call : Result Call EntryFault) → works_in p.inner.state ≡ true → p.inner.fill ≡ None → table p.inner.regs c.core ≡ entry w → call_of p.inner.regs c.core w ≡ call
+    → is_read call ≡ true → slice_get p.unread 0 ≡ None → can_step (in_store c p) ≡ false
 entry_waits p c w call h none is what reads empty =
-    run_can (in_core c p) (entry w) h none is
+    run_can (in_store c p) (entry w) h none is
     ∙ (λ j. p.on && (not ((ap is_read what ∙ reads) j) || none_at p.unread empty j))
     ∙ and_none p.on
 
 -- no program works, and a line is waited for
-pub command_waits : (p : User) (c : List ℕ) → works_in p.inner.state ≡ false → slice_get p.unread 0 ≡ None → can_step (in_core c p) ≡ false
-command_waits p c h none = command_can (in_core c p) h ∙ ap (λ (b : Bool). p.on && b) (none_at p.unread none) ∙ and_none p.on
+pub command_waits : (p : User) (c : Stored) → works_in p.inner.state ≡ false → slice_get p.unread 0 ≡ None → can_step (in_store c p) ≡ false
+command_waits p c h none = command_can (in_store c p) h ∙ ap (λ (b : Bool). p.on && b) (none_at p.unread none) ∙ and_none p.on
 
 and_off : (a b : Bool) → a ≡ false → (a && b) ≡ false
 and_off true b h = cc
 and_off false b h = refl
 
 -- a session that isn't open
-pub closed_waits : (p : User) (c : List ℕ) → p.on ≡ false → can_step (in_core c p) ≡ false
+pub closed_waits : (p : User) (c : Stored) → p.on ≡ false → can_step (in_store c p) ≡ false
 unfolding can_step
 closed_waits p c off = and_off p.on _ off

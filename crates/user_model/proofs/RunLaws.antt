@@ -6,7 +6,8 @@ use Rattle.machine_model.specs.Step.{went}
 use Rattle.machine_model.specs.Machine.{table}
 use Rattle.machine_model.specs.Runs.{many}
 use Rattle.machine_model.proofs.Runs.{many_none, none_regs, none_words}
-use Rattle.user_model.specs.User.{User, can_step, step, ending, asks_clock, asks_common, in_core}
+use Rattle.user_model.specs.User.{User, can_step, step, ending, asks_clock, asks_common, in_store}
+use Rattle.user_model.specs.Inner.{Stored}
 use Rattle.user_model.specs.Runs.{IsAtWork, gone, HaveGone}
 use Rattle.user_model.proofs.CoreLaws.{plain_step}
 use Rattle.user_model.proofs.StepLaws.{run_ends, run_asks, run_makes, run_can}
@@ -15,34 +16,34 @@ use Rattle.user_model.proofs.StepLaws.{run_ends, run_asks, run_makes, run_can}
 pub work_on : (n : ℕ) (r : Regs) (p : User) → IsAtWork p → IsAtWork (gone n r p)
 work_on n r p work = record { on = work.on; works = work.works; filled = work.filled; given = work.given }
 
-pub work_can : (p : User) (c d : List ℕ) (r : Regs) → IsAtWork p → table p.inner.regs c ≡ went r d → can_step (in_core c p) ≡ true
-work_can p c d r work goes = run_can (in_core c p) (went r d) work.works work.filled goes ∙ ap (λ (b : Bool). b && true) work.on
+pub work_can : (p : User) (c : Stored) (d : List ℕ) (r : Regs) → IsAtWork p → table p.inner.regs c.core ≡ went r d → can_step (in_store c p) ≡ true
+work_can p c d r work goes = run_can (in_store c p) (went r d) work.works work.filled goes ∙ ap (λ (b : Bool). b && true) work.on
 
-pub work_ends : (t : ℕ) (p : User) (c d : List ℕ) (r : Regs) → IsAtWork p → table p.inner.regs c ≡ went r d → ending t Done (in_core c p) ≡ Went
-work_ends t p c d r work goes = run_ends t (in_core c p) (went r d) work.works work.filled goes refl
+pub work_ends : (t : ℕ) (p : User) (c : Stored) (d : List ℕ) (r : Regs) → IsAtWork p → table p.inner.regs c.core ≡ went r d → ending t Done (in_store c p) ≡ Went
+work_ends t p c d r work goes = run_ends t (in_store c p) (went r d) work.works work.filled goes refl
 
-pub work_asks : (p : User) (c d : List ℕ) (r : Regs) → IsAtWork p → table p.inner.regs c ≡ went r d → asks_clock (in_core c p) ≡ false
-work_asks p c d r work goes = run_asks (in_core c p) (went r d) work.works work.filled goes
+pub work_asks : (p : User) (c : Stored) (d : List ℕ) (r : Regs) → IsAtWork p → table p.inner.regs c.core ≡ went r d → asks_clock (in_store c p) ≡ false
+work_asks p c d r work goes = run_asks (in_store c p) (went r d) work.works work.filled goes
 
-pub work_makes : (p : User) (c d : List ℕ) (r : Regs) → IsAtWork p → table p.inner.regs c ≡ went r d → asks_common (in_core c p) ≡ None
-work_makes p c d r work goes = run_makes (in_core c p) (went r d) work.works work.filled goes
+pub work_makes : (p : User) (c : Stored) (d : List ℕ) (r : Regs) → IsAtWork p → table p.inner.regs c.core ≡ went r d → asks_common (in_store c p) ≡ None
+work_makes p c d r work goes = run_makes (in_store c p) (went r d) work.works work.filled goes
 
-pub work_step : (t : ℕ) (p : User) (c d : List ℕ) (r : Regs) → IsAtWork p → table p.inner.regs c ≡ went r d →
-    step t Done (in_core c p) ≡ in_core d (record p { inner = record p.inner { regs = r }; own = suc p.own })
+pub work_step : (t : ℕ) (p : User) (c : Stored) (d : List ℕ) (r : Regs) → IsAtWork p → table p.inner.regs c.core ≡ went r d →
+    step t Done (in_store c p) ≡ in_store (record c { core = d }) (record p { inner = record p.inner { regs = r }; own = suc p.own })
 work_step t p c d r work goes = sym (plain_step t p c d r work.works work.filled goes work.on work.given)
 
 -- one more instruction
-pub gone_more : (n t : ℕ) (p : User) (c d : List ℕ) (s r : Regs) → IsAtWork p → table s c ≡ went r d →
-    step t Done (in_core c (gone n s p)) ≡ in_core d (gone (suc n) r p)
+pub gone_more : (n t : ℕ) (p : User) (c : Stored) (d : List ℕ) (s r : Regs) → IsAtWork p → table s c.core ≡ went r d →
+    step t Done (in_store c (gone n s p)) ≡ in_store (record c { core = d }) (gone (suc n) r p)
 gone_more n t p c d s r work goes =
     work_step t (gone n s p) c d r (work_on n s p work) goes
-    ∙ (let e : suc (p.own + n) ≡ p.own + suc n = omega arith in ap (λ (k : ℕ). in_core d (record p { inner = record p.inner { regs = r }; own = k })) e)
+    ∙ (let e : suc (p.own + n) ≡ p.own + suc n = omega arith in ap (λ (k : ℕ). in_store (record c { core = d }) (record p { inner = record p.inner { regs = r }; own = k })) e)
 
 -- none
-pub gone_none : (p : User) (c d : List ℕ) (r : Regs) → many 0 p.inner.regs c ≡ went r d → in_core d (gone 0 r p) ≡ in_core c p
+pub gone_none : (p : User) (c : Stored) (d : List ℕ) (r : Regs) → many 0 p.inner.regs c.core ≡ went r d → in_store (record c { core = d }) (gone 0 r p) ≡ in_store c p
 gone_none p c d r been =
     let e : p.own + 0 ≡ p.own = omega arith in
-    λ j. in_core (none_words p.inner.regs r c d been j) (record p { inner = record p.inner { regs = none_regs p.inner.regs r c d been j }; own = e j })
+    λ j. in_store (record c { core = none_words p.inner.regs r c.core d been j }) (record p { inner = record p.inner { regs = none_regs p.inner.regs r c.core d been j }; own = e j })
 
 -- what a session shows that did nothing
 pub gone_still : (p : User) (c : List ℕ) → HaveGone 0 p p c c

@@ -1,4 +1,4 @@
--- proof: what a row says of a user whose words lie apart: one statement for every supervisor entry and every command.
+-- proof: what a row says of a user whose words and files lie apart: one statement for every supervisor entry and every command.
 use Rattle.std.specs.Prelude.{◌≡◌, ℕ, suc, ◌-◌, Bool, true, false, not, ◌&&◌, ◌||◌, if◌then◌else◌, List, [], ◌∷◌, ◌++◌, drop, Option, Some, None}
 use Rattle.std.specs.declared.result.Result.{Result}
 use Rattle.time_sharing.specs.Machine.{Line, Item, Ending, CommonOp, Reply}
@@ -6,14 +6,14 @@ use Rattle.time_sharing.specs.Rows.{Outcome, some_line, is_logout, in_line, out_
 use Rattle.ctss_types.specs.Names.{NamePair}
 use Rattle.program_model.specs.declared.Call.{Call}
 use Rattle.program_model.specs.declared.EntryFault.{EntryFault}
-use Rattle.user_model.specs.Inner.{Inner}
+use Rattle.user_model.specs.Inner.{Inner, Stored}
 use Rattle.machine_model.specs.Step.{Step}
 use Rattle.program_model.specs.declared.Fill.{Fill}
 use Rattle.user_model.specs.Programs.{step_row, reads_line, asks_time, step_asks, entry_row, entry_asks, entry_replied, is_read, is_clock, goes, filled_program}
 use Rattle.user_model.specs.declared.Command.{Command}
 use Rattle.user_model.specs.Commands.{command_row, command_asks, command_replied, input_row}
 use Rattle.user_model.specs.Session.{is_none}
-use Rattle.user_model.specs.User.{User, in_core, core_after}
+use Rattle.user_model.specs.User.{User, in_store, core_after}
 
 -- how many unread lines are taken
 abbrev pub line_count : Option Line → ℕ
@@ -29,7 +29,7 @@ noted xs (y ∷ ys) = xs ++ y ∷ ys
 abbrev pub by_row : Bool → Option Line → Outcome Inner → User → User
 by_row is_command line o p =
     record p {
-      inner = record o.inner { core = p.inner.core };
+      inner = record o.inner { core = p.inner.core; files = p.inner.files };
       on = if is_logout o.ending then false else p.on;
       unread = if is_logout o.ending then [] else drop (line_count line) p.unread;
       transcript = noted p.transcript (in_line line ++ out_all o.written);
@@ -38,9 +38,9 @@ by_row is_command line o p =
     }
 
 -- A step could be done, without a common operation, and did what a row says: it took this line, ended so, and took the clock or not.
-abbrev pub IsRow : (can is_command : Bool) → Option Line → Outcome Inner → (asks : Bool) → Ending → (asked : Bool) → (old new : User) → (after : List ℕ) → Type 0
+abbrev pub IsRow : (can is_command : Bool) → Option Line → Outcome Inner → (asks : Bool) → Ending → (asked : Bool) → (old new : User) → (after : Stored) → Type 0
 IsRow can is_command line o asks e asked old new after =
-    (can ≡ true) × (new ≡ by_row is_command line o old) × (core_after e o.inner.blocks after ≡ o.inner.core) × (e ≡ o.ending) × (asked ≡ asks)
+    (can ≡ true) × (new ≡ by_row is_command line o old) × (core_after e o.inner.blocks after.core ≡ o.inner.core) × (after.files ≡ o.inner.files) × (e ≡ o.ending) × (asked ≡ asks)
 
 -- a step that did what the row of what the machine gave says
 abbrev pub step_line : Step → User → Option Line
@@ -49,42 +49,42 @@ step_line s p = first_line (reads_line s p.inner) p.unread
 abbrev pub step_said : Step → ℕ → User → Outcome Inner
 step_said s t p = step_row s p.inner (step_line s p) (suc p.own - p.before) t
 
-abbrev pub DidStep : Step → Ending → Bool → ℕ → (old new : User) → (before after : List ℕ) → Type 0
+abbrev pub DidStep : Step → Ending → Bool → ℕ → (old new : User) → (before after : Stored) → Type 0
 DidStep s e asked t old new before after =
-    IsRow (is_none (step_asks s (in_core before old).inner) && (not (reads_line s (in_core before old).inner) || some_line old.unread)) false (step_line s (in_core before old)) (step_said s t (in_core before old))
-    (asks_time s (in_core before old).inner) e asked old new after
+    IsRow (is_none (step_asks s (in_store before old).inner) && (not (reads_line s (in_store before old).inner) || some_line old.unread)) false (step_line s (in_store before old)) (step_said s t (in_store before old))
+    (asks_time s (in_store before old).inner) e asked old new after
 
 -- a step that stored what was still to be stored
-abbrev pub DidFill : Fill → Ending → Bool → (old new : User) → (before after : List ℕ) → Type 0
-DidFill f e asked old new before after = IsRow true false None (goes (filled_program f (in_core before old).inner)) false e asked old new after
+abbrev pub DidFill : Fill → Ending → Bool → (old new : User) → (before after : Stored) → Type 0
+DidFill f e asked old new before after = IsRow true false None (goes (filled_program f (in_store before old).inner)) false e asked old new after
 
 -- what the row of a supervisor entry says of this user
 abbrev pub entry_line : Result Call EntryFault → User → Option Line
 entry_line call p = first_line (is_read call) p.unread
 
-abbrev pub entry_said : Result Call EntryFault → ℕ → User → List ℕ → Outcome Inner
-entry_said call t p c = entry_row call (in_core c p).inner (entry_line call p) (suc p.own - p.before) t
+abbrev pub entry_said : Result Call EntryFault → ℕ → User → Stored → Outcome Inner
+entry_said call t p c = entry_row call (in_store c p).inner (entry_line call p) (suc p.own - p.before) t
 
 -- a step that did what the row of this entry says
-abbrev pub DidEntry : Result Call EntryFault → Ending → Bool → ℕ → (old new : User) → (before after : List ℕ) → Type 0
+abbrev pub DidEntry : Result Call EntryFault → Ending → Bool → ℕ → (old new : User) → (before after : Stored) → Type 0
 DidEntry call e asked t old new before after =
-    IsRow (is_none (entry_asks call before) && (not (is_read call) || some_line old.unread)) false (entry_line call old) (entry_said call t old before) (is_clock call) e asked old new after
+    IsRow (is_none (entry_asks call before.core) && (not (is_read call) || some_line old.unread)) false (entry_line call old) (entry_said call t old before) (is_clock call) e asked old new after
 
 -- a step that did what the row of this command says
-abbrev pub DidCommand : Line → Command → Ending → Bool → ℕ → (old new : User) → (before after : List ℕ) → Type 0
+abbrev pub DidCommand : Line → Command → Ending → Bool → ℕ → (old new : User) → (before after : Stored) → Type 0
 DidCommand l command e asked t old new before after =
-    IsRow (is_none (command_asks command (in_core before old).inner)) true (Some l) (command_row command (in_core before old).inner 1 t) true e asked old new after
+    IsRow (is_none (command_asks command (in_store before old).inner)) true (Some l) (command_row command (in_store before old).inner 1 t) true e asked old new after
 
 -- a step that did what the row of a line of INPUT says
-abbrev pub DidInput : Line → NamePair → Ending → Bool → (old new : User) → (before after : List ℕ) → Type 0
-DidInput l name e asked old new before after = IsRow true false (Some l) (input_row name l (in_core before old).inner (suc old.own - old.before)) false e asked old new after
+abbrev pub DidInput : Line → NamePair → Ending → Bool → (old new : User) → (before after : Stored) → Type 0
+DidInput l name e asked old new before after = IsRow true false (Some l) (input_row name l (in_store before old).inner (suc old.own - old.before)) false e asked old new after
 
 -- a step at a supervisor entry that made this common operation, with this reply
-abbrev pub EntryReplied : Result Call EntryFault → CommonOp → Reply → Ending → Bool → (old new : User) → (before after : List ℕ) → Type 0
+abbrev pub EntryReplied : Result Call EntryFault → CommonOp → Reply → Ending → Bool → (old new : User) → (before after : Stored) → Type 0
 EntryReplied call op r e asked old new before after =
-    (entry_asks call before ≡ Some op) × IsRow true false None (entry_replied call (in_core before old).inner r) false e asked old new after
+    (entry_asks call before.core ≡ Some op) × IsRow true false None (entry_replied call (in_store before old).inner r) false e asked old new after
 
 -- a step of a command that made this common operation, with this reply
-abbrev pub CommandReplied : Line → Command → CommonOp → Reply → Ending → Bool → ℕ → (old new : User) → (before after : List ℕ) → Type 0
+abbrev pub CommandReplied : Line → Command → CommonOp → Reply → Ending → Bool → ℕ → (old new : User) → (before after : Stored) → Type 0
 CommandReplied l command op r e asked t old new before after =
-    (command_asks command (in_core before old).inner ≡ Some op) × IsRow true true (Some l) (command_replied command (in_core before old).inner 1 t r) true e asked old new after
+    (command_asks command (in_store before old).inner ≡ Some op) × IsRow true true (Some l) (command_replied command (in_store before old).inner 1 t r) true e asked old new after

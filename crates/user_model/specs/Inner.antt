@@ -22,6 +22,11 @@ pub record Inner : Type 0 where
   -- the file that lines are typed into
   pub input : Option NamePair
 
+-- what of a user lies outside its session: the words of its program, and its files
+pub record Stored : Type 0 where
+  pub core : List ℕ
+  pub files : List FileBody
+
 -- the size of the user's program in blocks; no program is 0
 abbrev pub blocks_of : Inner → ℕ
 blocks_of i = i.blocks

@@ -1,9 +1,10 @@
 -- claim: one user's machine, closed: what contracts cite.
-use Rattle.std.specs.Prelude.{◌≡◌, ℕ, Bool, true, List, Option}
+use Rattle.std.specs.Prelude.{◌≡◌, ℕ, Bool, true, List, [], Option}
 use Rattle.time_sharing.specs.Machine.{Line, CutKind, Ending, Went, Stopped, Resized, Replaced, LoggedOut, CommonOp, Reply}
 use Rattle.time_sharing.specs.Rows.{Private, machine}
 use Rattle.time_sharing.specs.System.{clock_for}
-use Rattle.user_model.specs.Inner.{Inner, zeros, recut}
+use Rattle.file_model.specs.Files.{lasting}
+use Rattle.user_model.specs.Inner.{Inner, Stored, zeros, recut}
 use Rattle.user_model.specs.Session.{user_rows}
 
 abbrev pub User : Type 0
@@ -35,9 +36,9 @@ step t r p = (machine user_rows).step p (clock_for ((machine user_rows).asks_clo
 unfoldable pub ending : ℕ → Reply → User → Ending
 ending t r p = (machine user_rows).ending p (clock_for ((machine user_rows).asks_clock p) t) r
 
--- the user with these words in core
-abbrev pub in_core : List ℕ → User → User
-in_core core p = record p { inner = record p.inner { core = core } }
+-- the user with what of it lies outside its session
+abbrev pub in_store : Stored → User → User
+in_store store p = record p { inner = record p.inner { core = store.core; files = store.files } }
 
 -- The words behind a step, of which so many blocks are left: a program that was replaced has plus zeros, and a core of
 -- another size is cut or extended.
@@ -48,11 +49,19 @@ core_after Stopped blocks core = recut blocks core
 core_after Resized blocks core = recut blocks core
 core_after LoggedOut blocks core = recut blocks core
 
+-- a session that is over leaves no words, and the files that last
+abbrev pub hung : Stored → Stored
+hung store = record { core = []; files = lasting store.files }
+
+-- what is stored behind a step
+abbrev pub store_after : Ending → ℕ → Stored → Stored
+store_after e blocks store = record store { core = core_after e blocks store.core }
+
 -- A step that ends so, takes the clock or not, and made this common operation or none, with this reply: of a user with these words
--- before it, which is then this user with these words.
-pub record IsStep (e : Ending) (asked : Bool) (made : Option CommonOp) (t : ℕ) (r : Reply) (old new : User) (before after : List ℕ) : Type 0 where
-  pub can : can_step (in_core before old) ≡ true
-  pub left : in_core (core_after e new.inner.blocks after) new ≡ step t r (in_core before old)
-  pub ends : e ≡ ending t r (in_core before old)
-  pub asks : asked ≡ asks_clock (in_core before old)
-  pub makes : made ≡ asks_common (in_core before old)
+-- and files before it, which is then this user with these words and files.
+pub record IsStep (e : Ending) (asked : Bool) (made : Option CommonOp) (t : ℕ) (r : Reply) (old new : User) (before after : Stored) : Type 0 where
+  pub can : can_step (in_store before old) ≡ true
+  pub left : in_store (store_after e new.inner.blocks after) new ≡ step t r (in_store before old)
+  pub ends : e ≡ ending t r (in_store before old)
+  pub asks : asked ≡ asks_clock (in_store before old)
+  pub makes : made ≡ asks_common (in_store before old)

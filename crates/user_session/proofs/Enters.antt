@@ -1,56 +1,100 @@
 -- A turn at a supervisor entry that does what the row says is a turn of the user.
-use Rattle.std.proofs.Common.{◌≡◌, ℕ, true, false, List, Option, None, Some, refl, subst}
-use Rattle.std.specs.Prelude.{slice_get, Ok, Err, IfOk}
+use Rattle.std.proofs.Common.{◌≡◌, ◌∙◌, ℕ, Bool, true, false, List, None, Some, refl, sym, subst}
+use Rattle.std.specs.Prelude.{slice_get, Ok, Err, IfOk, IsErrOf}
+use Rattle.std.specs.Result.{IsErrAnd}
 use Rattle.std.specs.declared.result.Result.{Result}
 use Rattle.time_sharing.specs.Machine.{Line}
 use Rattle.user_model.specs.declared.Command.{Command}
 use Rattle.user_model.specs.Requests.{command_of}
 use Rattle.machine_model.specs.Machine.{table}
+use Rattle.machine_model.specs.Step as machine
 use Rattle.machine_model.specs.Step.{entry}
+use Rattle.user_model.specs.Programs.{step_asks}
 use Rattle.program_model.specs.declared.Call.{Call}
 use Rattle.program_model.specs.declared.EntryFault.{EntryFault}
 use Rattle.program_model.specs.Calls.{call_of}
 use Rattle.user_model.specs.Session.{works_in}
 use Rattle.time_sharing.specs.Machine.{CommonOp, Reply}
 use Rattle.user_model.specs.Answers.{EntryReplied, CommandReplied}
-use Rattle.user_model.specs.User.{User, IsStep}
+use Rattle.user_model.specs.User.{User, in_store}
 use Rattle.user_session.specs.declared.turn.Step.{Step}
 use Rattle.user_model.proofs.RowTurns.{entry_turn, entry_waits, entry_asked, entry_replied_turn, command_turn, command_asked, command_replied_turn}
 use Rattle.user_session.specs.declared.turn.Turn.{Turn}
 use Rattle.user_session.specs.declared.turn.Turn.TheVariants.{Waits, Done, Asks}
+use Rattle.user_model.specs.Inner.{Stored}
 use Rattle.user_session.specs.Turns.{IsTurn, IsReplied, Enters, Obeys}
+use Rattle.ctss_types.specs.declared.file.FileBody.{FileBody}
+use Rattle.ctss_types.specs.declared.file.Refusal.{Refusal}
+use Rattle.ctss_types.specs.declared.fault.StepFault.{StepFault}
+use Rattle.ctss_types.specs.declared.fault.StepFault.TheVariants.{Disk}
+use Rattle.file_map.specs.Known.{known, known_of}
+use Rattle.user_session.specs.Stores.{stored, Over, OfSome}
+use Rattle.user_session.proofs.Files.{known_done}
 
-pub entered : (turn : Turn) (t : ℕ) (p q : User) (c d : List ℕ) (w : ℕ) (call : Result Call EntryFault) → works_in p.inner.state ≡ true → p.inner.fill ≡ None → table p.inner.regs c ≡ entry w → p.on ≡ true → p.given ≡ 0 → call_of p.inner.regs c w ≡ call →
+pub entered : (turn : Turn) (t : ℕ) (p q : User) (c d : Stored) (w : ℕ) (call : Result Call EntryFault) → works_in p.inner.state ≡ true → p.inner.fill ≡ None → table p.inner.regs c.core ≡ entry w → p.on ≡ true → p.given ≡ 0 → call_of p.inner.regs c.core w ≡ call →
     Enters call turn t p q c d → IsTurn turn t p q c d
-entered Waits t p q c d w call h none is on zero_given what row = record { cannot = entry_waits p c w call h none is what row.reads row.none; same = row.same; core = row.core }
+entered Waits t p q c d w call h none is on zero_given what row = record { cannot = entry_waits p c w call h none is what row.reads row.none; same = row.same; store = row.store }
 entered (Done s) t p q c d w call h none is on zero_given what row = entry_turn t p q c d w call s.ending s.clock h none is what on zero_given row
 entered (Asks op) t p q c d w call h none is on zero_given what row =
     let asked = entry_asked p c w call op h none is what on row.makes in
-    record { can = asked.0; makes = asked.1; same = row.same; core = row.core }
+    record { can = asked.0; makes = asked.1; same = row.same; store = row.store }
 
 -- a command
-pub obeyed : (turn : Turn) (t : ℕ) (p q : User) (c : List ℕ) (l : Line) (command : Command) → works_in p.inner.state ≡ false → p.inner.input ≡ None → slice_get p.unread 0 ≡ Some l → command_of l ≡ command → p.on ≡ true → p.given ≡ 0 →
-    Obeys l command turn t p q c → IsTurn turn t p q c c
-obeyed Waits t p q c l command h none first what on zero_given row = absurd row
-obeyed (Done s) t p q c l command h none first what on zero_given row = command_turn t p q c c l command s.ending s.clock h none first what on zero_given row
-obeyed (Asks op) t p q c l command h none first what on zero_given row =
+pub obeyed : (turn : Turn) (t : ℕ) (p q : User) (c d : Stored) (l : Line) (command : Command) → works_in p.inner.state ≡ false → p.inner.input ≡ None → slice_get p.unread 0 ≡ Some l → command_of l ≡ command → p.on ≡ true → p.given ≡ 0 →
+    Obeys l command turn t p q c d → IsTurn turn t p q c d
+obeyed Waits t p q c d l command h none first what on zero_given row = absurd row
+obeyed (Done s) t p q c d l command h none first what on zero_given row = command_turn t p q c d l command s.ending s.clock h none first what on zero_given row
+obeyed (Asks op) t p q c d l command h none first what on zero_given row =
     let asked = command_asked p c l command op h none first what on row.makes in
-    record { can = asked.0; makes = asked.1; same = row.same; core = refl }
+    record { can = asked.0; makes = asked.1; same = row.same; store = row.store }
 
 -- steps with a reply
-pub entry_took : (t : ℕ) (r : Reply) (p q : User) (c d : List ℕ) (w : ℕ) (call : Result Call EntryFault) (op : CommonOp) (s : Step) → works_in p.inner.state ≡ true → p.inner.fill ≡ None → table p.inner.regs c ≡ entry w → call_of p.inner.regs c w ≡ call → p.on ≡ true → p.given ≡ 0 →
-    EntryReplied call op r s.ending s.clock p q c d → IsReplied s r t p q c d
-entry_took t r p q c d w call op s h none is what on zero_given said =
-    let is : IsStep s.ending s.clock (Some op) t r p q c d = entry_replied_turn t r p q c d w call op s.ending s.clock h none is what on zero_given said in
-    subst (λ (made : Option CommonOp). IsStep s.ending s.clock made t r p q c d) is.makes is
+pub entry_took : (t : ℕ) (r : Reply) (p q : User) (c d : Stored) (w : ℕ) (call : Result Call EntryFault) (op : CommonOp) (s : Step) → works_in p.inner.state ≡ true → p.inner.fill ≡ None → table p.inner.regs c.core ≡ entry w → call_of p.inner.regs c.core w ≡ call → p.on ≡ true → p.given ≡ 0 →
+    EntryReplied call op r s.ending s.clock p q c d → IsReplied s op r t p q c d
+entry_took t r p q c d w call op s h none is what on zero_given said = entry_replied_turn t r p q c d w call op s.ending s.clock h none is what on zero_given said
 
-pub command_took : (t : ℕ) (r : Reply) (p q : User) (c : List ℕ) (l : Line) (command : Command) (op : CommonOp) (s : Step) → works_in p.inner.state ≡ false → p.inner.input ≡ None → slice_get p.unread 0 ≡ Some l → command_of l ≡ command → p.on ≡ true → p.given ≡ 0 →
-    CommandReplied l command op r s.ending s.clock t p q c c → IsReplied s r t p q c c
-command_took t r p q c l command op s h none first what on zero_given said =
-    let is : IsStep s.ending s.clock (Some op) t r p q c c = command_replied_turn t r p q c c l command op s.ending s.clock h none first what on zero_given said in
-    subst (λ (made : Option CommonOp). IsStep s.ending s.clock made t r p q c c) is.makes is
+pub command_took : (t : ℕ) (r : Reply) (p q : User) (c d : Stored) (l : Line) (command : Command) (op : CommonOp) (s : Step) → works_in p.inner.state ≡ false → p.inner.input ≡ None → slice_get p.unread 0 ≡ Some l → command_of l ≡ command → p.on ≡ true → p.given ≡ 0 →
+    CommandReplied l command op r s.ending s.clock t p q c d → IsReplied s op r t p q c d
+command_took t r p q c d l command op s h none first what on zero_given said = command_replied_turn t r p q c d l command op s.ending s.clock h none first what on zero_given said
 
 -- what holds of an answer that is Ok
 pub ok_map : {A E : Type 0} (P Q : A → Type 0) (result : Result A E) → ((a : A) → P a → Q a) → IfOk result P → IfOk result Q
 ok_map P Q (Ok a) f h = f a h
 ok_map P Q (Err e) f h = h
+
+-- over some files
+pub over_map : (tells : Bool) (old new : Stored) (R S : Stored → Stored → Type 0) → ((had has : List FileBody) → R (stored old.core had) (stored new.core has) → S (stored old.core had) (stored new.core has)) → Over tells old new R → Over tells old new S
+over_map tells old new R S f h = record { had = h.had; has = h.has; was = h.was; now = h.now; does = f h.had h.has h.does }
+
+-- over the files as they are known
+pub over_these : (tells : Bool) (old new : Stored) (R : Stored → Stored → Type 0) → known tells old.files ≡ old.files → known tells new.files ≡ new.files → R old new → Over tells old new R
+over_these tells old new R was now h = record { had = old.files; has = new.files; was = was; now = now; does = h }
+
+-- a change that is done, and one that is refused
+pub over_done : (tells : Bool) (c d : List ℕ) (old new : List FileBody) (told : Result (List FileBody) Refusal) (R : Stored → Stored → Type 0) → known tells old ≡ old → known_of tells told ≡ Ok new
+    → ((has : List FileBody) → told ≡ Ok has → R (stored c old) (stored d has)) → Over tells (stored c old) (stored d new) R
+over_done tells c d old new told R was is h = let k = known_done tells told new is in record { had = old; has = k.0; was = was; now = k.2; does = h k.0 k.1 }
+
+pub over_refused : (tells : Bool) (c d : List ℕ) (old new : List FileBody) (R : Stored → Stored → Type 0) → known tells old ≡ old → new ≡ old → R (stored c old) (stored d old) → Over tells (stored c old) (stored d new) R
+over_refused tells c d old new R was same h = record { had = old; has = old; was = was; now = was ∙ sym same; does = h }
+
+-- a call that only reads
+pub over_read : (tells : Bool) (c d : List ℕ) (old new : List FileBody) (R : Stored → Stored → Type 0) → new ≡ old → OfSome tells old (λ fs. R (stored c fs) (stored d fs)) → Over tells (stored c old) (stored d new) R
+over_read tells c d old new R same h = record { had = h.0; has = h.0; was = h.1; now = h.1 ∙ sym same; does = h.2 }
+
+-- a call of which it is known over any files what it does
+pub over_all : (tells : Bool) (old new : Stored) (R : Stored → Stored → Type 0) → known tells old.files ≡ old.files → OfSome tells new.files (λ has. R (stored old.core old.files) (stored new.core has)) → Over tells old new R
+over_all tells old new R was h = record { had = old.files; has = h.0; was = was; now = h.1; does = h.2 }
+
+-- an error that came of something else than the disk
+pub no_disk : {A : Type 0} (result : Result A StepFault) (Q : StepFault → Type 0) → (Q Disk → ⊥) → IsErrAnd result Q → IsErrOf result Disk → ⊥
+no_disk (Ok a) Q other h e = cc
+no_disk (Err f) Q other h e = let is : f ≡ Disk = cc in other (subst Q is h)
+
+-- whether the next step of a program is a call that is to make a common operation hangs on no file
+pub asks_anywhere : (s : machine.Step) (core : List ℕ) (fs gs : List FileBody) (p : User) → step_asks s (in_store (stored core fs) p).inner ≡ step_asks s (in_store (stored core gs) p).inner
+asks_anywhere (machine.went r c) core fs gs p = refl
+asks_anywhere (machine.halt r c) core fs gs p = refl
+asks_anywhere (machine.entry w) core fs gs p = refl
+asks_anywhere machine.illegal core fs gs p = refl
+asks_anywhere (machine.outside a) core fs gs p = refl

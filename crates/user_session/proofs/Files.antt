@@ -1,4 +1,4 @@
--- Answers of a directory that tells its files, in the words of rows.
+-- Answers of a directory, in the words of rows.
 use Rattle.std.proofs.Common.{◌≡◌, ◌≤◌, ℕ, zero, suc, Bool, true, List, [], ◌∷◌, ◌++◌, length, map, take, arith, append_assoc, Option, Some, None, Ok, Err, refl, sym, ap, ◌∙◌, subst}
 use Rattle.std.specs.declared.result.Result.{Result}
 use Rattle.ctss_types.specs.Names.{NamePair}
@@ -22,23 +22,15 @@ use Rattle.cmd_program.specs.declared.load.PrepareFault.{PrepareFault}
 use Rattle.cmd_program.specs.declared.load.PrepareFault.TheVariants.{Load}
 use Rattle.cmd_program.specs.Loads.{Prepares, PreparesOver, IsFilled, FillsOver}
 use Rattle.cmd_files.specs.Lines.{lines_got}
-use Rattle.user_model.specs.Inner.{Inner}
 use Rattle.user_model.specs.Commands.{says, printed, input_begun, input_made}
 use Rattle.user_model.specs.User.{User}
 use Rattle.user_model.specs.Answers.{IsRow}
+use Rattle.user_model.specs.Inner.{Inner, Stored}
+use Rattle.user_session.specs.Stores.{OfSome}
 
--- where all is told, an answer is that of the files themselves
-pub told_over : {T : Type 0} (result : Result T PortFault) (files : List FileBody) (told : List FileBody → Result T Refusal) → AnswersOver true files result told → Answers result (told files)
-unfolding known
-told_over result files told h = subst (λ (fs : List FileBody). Answers result (told fs)) h.1.0 h.1.1
-
-pub told_program : {T : Type 0} (result : Result T PrepareFault) (files : List FileBody) (told : List FileBody → Result T LoadFault) → PreparesOver true files result told → Prepares result (told files)
-unfolding known
-told_program result files told h = subst (λ (fs : List FileBody). Prepares result (told fs)) h.1.0 h.1.1
-
-pub fills_told : (files : List FileBody) (f : Fill) (before after : Regs) (old new : List ℕ) → FillsOver true files f before after old new → IsFilled f (words_got (got (fill_name f) files)) before after old new
-unfolding known
-fills_told files f before after old new h = subst (λ (fs : List FileBody). IsFilled f (words_got (got (fill_name f) fs)) before after old new) h.1.0 h.1.1
+-- files that are known as they stand, seen from before a call
+pub known_still : (tells now : Bool) (files : List FileBody) → now ≡ tells → known now files ≡ files → known tells files ≡ files
+known_still tells now files same h = subst (λ (b : Bool). known b files ≡ files) same h
 
 -- a file's lines, or why there are none
 pub printed_ok : (file : Result (List ℕ) Refusal) (lines : List Line) → lines_got file ≡ Ok lines → lines ≡ printed file
@@ -49,13 +41,14 @@ pub printed_err : (file : Result (List ℕ) Refusal) (r : Refusal) → lines_got
 printed_err (Ok words) r h = cc
 printed_err (Err q) r h = cc
 
-pub known_told : (told : Result (List FileBody) Refusal) → known_of true told ≡ told
-unfolding known
-known_told (Ok files) = refl
-known_told (Err r) = refl
+-- where a change is done or refused, so it is by its definition
+pub known_done : (tells : Bool) (told : Result (List FileBody) Refusal) (new : List FileBody) → known_of tells told ≡ Ok new → (has : List FileBody) × (told ≡ Ok has) × (known tells has ≡ new)
+known_done tells (Ok has) new h = let is : known tells has ≡ new = cc in (has, refl, is)
+known_done tells (Err r) new h = cc
 
-pub leaves_told : {T : Type 0} (done : Result T PortFault) (told : Result (List FileBody) Refusal) (old new : List FileBody) → Leaves done (known_of true told) old new → Leaves done told old new
-leaves_told done told old new h = subst (λ (r : Result (List FileBody) Refusal). Leaves done r old new) (known_told told) h
+pub known_refused : (tells : Bool) (told : Result (List FileBody) Refusal) (r : Refusal) → known_of tells told ≡ Err r → told ≡ Err r
+known_refused tells (Ok has) r h = cc
+known_refused tells (Err q) r h = cc
 
 -- INPUT of a file that is there, and of one that isn't
 pub input_there : (name : NamePair) (file : Option FileBody) (s : Stat) (i : Inner) (n t : ℕ) → stat_of file ≡ Ok s → input_begun name file i n t ≡ says (refusal_text Refusal.NameUsed ∷ []) i n t
@@ -67,7 +60,7 @@ input_absent name None r i n t h = refl
 input_absent name (Some f) r i n t h = cc
 
 -- a row said in another way
-pub row_of : (can b : Bool) (line : Option Line) (o p : Outcome Inner) (asks : Bool) (e : Ending) (asked : Bool) (old new : User) (after : List ℕ) → o ≡ p → IsRow can b line p asks e asked old new after → IsRow can b line o asks e asked old new after
+pub row_of : (can b : Bool) (line : Option Line) (o p : Outcome Inner) (asks : Bool) (e : Ending) (asked : Bool) (old new : User) (after : Stored) → o ≡ p → IsRow can b line p asks e asked old new after → IsRow can b line o asks e asked old new after
 row_of can b line o p asks e asked old new after is row = subst (λ (q : Outcome Inner). IsRow can b line q asks e asked old new after) (sym is) row
 
 -- lines written
@@ -89,11 +82,10 @@ command_lines old one two three new l t r lines a b c d = rw (out_behind lines r
 pub refused_told : {T : Type 0} (fault : PortFault) (r : Refusal) (told : Result T Refusal) → fault ≡ Refused r → Answers {T = T} (Err fault) told → told ≡ Err r
 refused_told {T} fault r told is h = subst (λ (f : PortFault). Answers {T = T} (Err f) told) is h
 
-pub refused_over : {T : Type 0} (fault : PortFault) (r : Refusal) (files : List FileBody) (told : List FileBody → Result T Refusal) → fault ≡ Refused r → AnswersOver {T = T} true files (Err fault) told → told files ≡ Err r
-refused_over {T} fault r files told is h = refused_told {T = T} fault r (told files) is (told_over {T = T} (Err fault) files told h)
+pub refused_program : {T : Type 0} (fault : PrepareFault) (f : LoadFault) (told : Result T LoadFault) → fault ≡ Load f → Prepares {T = T} (Err fault) told → told ≡ Err f
+refused_program {T} fault f told is h = subst (λ (x : PrepareFault). Prepares {T = T} (Err x) told) is h
 
-pub refused_program : {T : Type 0} (fault : PrepareFault) (f : LoadFault) (files : List FileBody) (told : List FileBody → Result T LoadFault) → fault ≡ Load f → PreparesOver {T = T} true files (Err fault) told → told files ≡ Err f
-refused_program {T} fault f files told is h = subst (λ (x : PrepareFault). Prepares {T = T} (Err x) (told files)) is (told_program {T = T} (Err fault) files told h)
-
-pub refused_change : (T : Type 0) (fault : PortFault) (r : Refusal) (told : Result (List FileBody) Refusal) (old new : List FileBody) → fault ≡ Refused r → Leaves {T = T} (Err fault) (known_of true told) old new → told ≡ Err r
-refused_change T fault r told old new is h = sym (known_told told) ∙ (subst (λ (f : PortFault). Leaves {T = T} (Err f) (known_of true told) old new) is h).0
+pub refused_change : (T : Type 0) (fault : PortFault) (r : Refusal) (tells : Bool) (told : Result (List FileBody) Refusal) (old new : List FileBody) → fault ≡ Refused r → Leaves {T = T} (Err fault) (known_of tells told) old new → (told ≡ Err r) × (new ≡ old)
+refused_change T fault r tells told old new is h =
+    let k = subst (λ (f : PortFault). Leaves {T = T} (Err f) (known_of tells told) old new) is h in
+    (known_refused tells told r k.0, k.1)

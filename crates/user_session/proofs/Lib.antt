@@ -1,3 +1,4 @@
 pub mod Enters
 pub mod Files
+pub mod Knowing
 pub mod Turns

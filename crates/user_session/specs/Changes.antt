@@ -1,52 +1,51 @@
--- proof: what the answer of a call that changes the directory says, and what a command that puts a file does.
-use Rattle.std.specs.Prelude.{ℕ, Bool, true, false, List, Option, Some, None, Ok, Err}
-use Rattle.std.specs.declared.result.Result.{Result}
+-- proof: what single steps of a user do: a file is put, a reply is taken, a program is filled.
+use Rattle.std.specs.Prelude.{◌≡◌, ℕ, suc, Bool, true, false, List, [], Option, Some, None}
 use Rattle.ctss_types.specs.Names.{NamePair}
 use Rattle.time_sharing.specs.Machine.{Line, Ending}
-use Rattle.file_model.specs.Files.{put}
+use Rattle.file_model.specs.Files.{got, put}
 use Rattle.ctss_types.specs.declared.file.Reply.{Reply}
 use Rattle.user_model.specs.declared.Command.{Command}
 use Rattle.program_model.specs.declared.Call.{Call}
 use Rattle.user_model.specs.Commands.{changed, words_copied, command_replied}
-use Rattle.user_model.specs.Programs.{call_replied, reply_taken}
-use Rattle.user_model.specs.User.{User, in_core}
+use Rattle.user_model.specs.Programs.{call_replied, reply_taken, step_asks}
+use Rattle.user_model.specs.User.{User, in_store}
 use Rattle.user_model.specs.Answers.{IsRow}
-use Rattle.file_map.specs.declared.fault.PortFault.{PortFault}
-use Rattle.file_map.specs.declared.fault.PortFault.TheVariants.{Refused, Disk, NoMemory}
-use Rattle.file_model.specs.Texts.{refusal_number, refusal_text}
-
--- as a number: 0 for done, else the refusal's; a fault has none
-abbrev pub change_number : {T : Type 0} → Result T PortFault → ℕ
-change_number (Ok x) = 0
-change_number (Err (Refused r)) = refusal_number r
-change_number (Err Disk) = 0
-change_number (Err NoMemory) = 0
-
--- as a text: none for done, else the refusal's
-abbrev pub change_text : {T : Type 0} → Result T PortFault → Option Line
-change_text (Ok x) = None
-change_text (Err (Refused r)) = Some (refusal_text r)
-change_text (Err Disk) = None
-change_text (Err NoMemory) = None
+use Rattle.user_model.specs.Inner.{Stored}
+use Rattle.ctss_types.specs.declared.file.CommonOp.{CommonOp}
+use Rattle.ctss_types.specs.declared.file.FileBody.{FileBody}
+use Rattle.machine_model.specs.Machine.{table}
+use Rattle.program_model.specs.declared.Fill.{Fill}
+use Rattle.program_model.specs.Decks.{words_got}
+use Rattle.program_model.specs.Fills.{fill_name, filled_core, filled_regs}
+use Rattle.user_session.specs.Stores.{stored}
 
 -- a step that took a line as a command and put a file
-abbrev pub DidPut : Line → NamePair → List ℕ → Ending → Bool → ℕ → (old new : User) → (core : List ℕ) → Type 0
-DidPut line name words e asked t old new core =
-    let i = (in_core core old).inner in
-    IsRow true true (Some line) (changed (put name words i.account.tracks i.files) i 1 t) true e asked old new core
+abbrev pub DidPut : Line → NamePair → List ℕ → Ending → Bool → ℕ → (old new : User) → (before after : Stored) → Type 0
+DidPut line name words e asked t old new before after =
+    let i = (in_store before old).inner in
+    IsRow true true (Some line) (changed (put name words i.account.tracks i.files) i 1 t) true e asked old new after
 
 -- a step of a command that took the words of a common file
-abbrev pub Copies : Line → Option NamePair → List ℕ → Ending → Bool → ℕ → (old new : User) → (core : List ℕ) → Type 0
-Copies line target words e asked t old new core = IsRow true true (Some line) (words_copied target words (in_core core old).inner 1 t) true e asked old new core
+abbrev pub Copies : Line → Option NamePair → List ℕ → Ending → Bool → ℕ → (old new : User) → (before after : Stored) → Type 0
+Copies line target words e asked t old new before after = IsRow true true (Some line) (words_copied target words (in_store before old).inner 1 t) true e asked old new after
 
 -- a step of a command that took this reply
-abbrev pub TookReply : Line → Command → Reply → Ending → Bool → ℕ → (old new : User) → (core : List ℕ) → Type 0
-TookReply line command r e asked t old new core = IsRow true true (Some line) (command_replied command (in_core core old).inner 1 t r) true e asked old new core
+abbrev pub TookReply : Line → Command → Reply → Ending → Bool → ℕ → (old new : User) → (before after : Stored) → Type 0
+TookReply line command r e asked t old new before after = IsRow true true (Some line) (command_replied command (in_store before old).inner 1 t r) true e asked old new after
 
 -- a step of a call with so many arguments and a buffer that took this reply
-abbrev pub Answered : (arguments at : ℕ) → Reply → Ending → Bool → (old new : User) → (before after : List ℕ) → Type 0
-Answered arguments at r e asked old new before after = IsRow true false None (reply_taken (in_core before old).inner arguments at r) false e asked old new after
+abbrev pub Answered : (arguments at : ℕ) → Reply → Ending → Bool → (old new : User) → (before after : Stored) → Type 0
+Answered arguments at r e asked old new before after = IsRow true false None (reply_taken (in_store before old).inner arguments at r) false e asked old new after
 
 -- a step of a call that took this reply
-abbrev pub CallTook : Call → Reply → Ending → Bool → (old new : User) → (before after : List ℕ) → Type 0
-CallTook call r e asked old new before after = IsRow true false None (call_replied call (in_core before old).inner r) false e asked old new after
+abbrev pub CallTook : Call → Reply → Ending → Bool → (old new : User) → (before after : Stored) → Type 0
+CallTook call r e asked old new before after = IsRow true false None (call_replied call (in_store before old).inner r) false e asked old new after
+
+-- a program that has its core was filled with the words of its file, of these files
+pub record IsStored (with : Fill) (files : List FileBody) (old new : User) (before after : List ℕ) : Type 0 where
+  pub core : after ≡ filled_core with (words_got (got (fill_name with) files)) before
+  pub user : new ≡ record old { inner = record old.inner { regs = filled_regs with (words_got (got (fill_name with) files)) old.inner.regs; fill = None }; own = suc old.own }
+
+-- the next step of a program with these words is a call that is to make this common operation
+abbrev pub IsEntryFor : CommonOp → User → List ℕ → Type 0
+IsEntryFor op p core = step_asks (table p.inner.regs core) (in_store (stored core []) p).inner ≡ Some op

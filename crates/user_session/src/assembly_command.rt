@@ -4,6 +4,7 @@ ghost use Rattle.file_model.specs.Files.{got};
 ghost use Rattle.cmd_fap.specs.Assemblies.{assembly_got};
 ghost use Rattle.user_model.specs.Answers.{DidCommand};
 ghost use Rattle.user_model.specs.Commands.{cards_name};
+ghost use Rattle.user_session.specs.Stores.{stored, Over, OfSome, Uses, Reads};
 ghost use Rattle.user_model.specs.declared.Command.{Command};
 
 use crate::Step;
@@ -13,8 +14,8 @@ use crate::session::Session;
 use cmd_fap::{Assembly, assemble_file};
 use cmd_files::refusal_text;
 use cpu_regs::MemoryPort;
-use ctss_types::{FileName, LineText, NoMemory, Refusal, name_word};
-use file_map::PortFault;
+use ctss_types::{FileName, LineText, Refusal, StepFault, name_word};
+use file_map::{FilePort, PortFault};
 use word36::Word;
 
 /// The file that a deck of this name is assembled from.
@@ -26,38 +27,50 @@ fn cards_name(name: Word) -> FileName
 
 impl Session {
     /// What the cards of a file make, or why it isn't read.
-    fn assembly_of(&mut self, name: Word) -> Result<Result<Assembly, Refusal>, NoMemory>
-        ensures same { self.new ≡ self.old }
-        ensures told { IfOk result (λ told. told ≡ assembly_got (got (cards_name name) self.old.inner.files)) }
+    fn assembly_of<P: FilePort>(
+        &self,
+        files: &mut P,
+        name: Word,
+    ) -> Result<Result<Assembly, Refusal>, StepFault>
+        requires port { P.Works files.old }
+        ensures told { IfOk result (λ told. OfSome (P.tells files.old) (P.files files.old)
+            (λ fs. told ≡ assembly_got (got (cards_name name) fs))) }
+        ensures reads { Reads P.FilePort result files.old files.new }
     {
-        match assemble_file(*self.items.allocator(), cards_name(name), &mut self.files) {
+        match assemble_file(*self.items.allocator(), cards_name(name), files) {
             Ok(assembly) => Ok(Ok(assembly)),
             Err(PortFault::Refused(refusal)) => Ok(Err(refusal)),
-            Err(PortFault::Disk) => unreachable!(),
-            Err(PortFault::NoMemory) => Err(NoMemory),
+            Err(PortFault::Disk) => Err(StepFault::Disk),
+            Err(PortFault::NoMemory) => Err(StepFault::NoMemory),
         }
     }
 
     /// FAP: the deck of a file of cards is put, or the faults of the cards are printed.
     #[tactic(auto, using(user_model::proofs::CoreLaws::recut_same))]
-    pub(crate) fn assemble<M: MemoryPort>(
+    pub(crate) fn assemble<M: MemoryPort, P: FilePort>(
         &mut self,
         core: &M,
+        files: &mut P,
         line: LineText,
         name: Word,
         now: u64,
-    ) -> Result<Step, NoMemory>
+    ) -> Result<Step, StepFault>
         requires on { self.old.on ≡ true }
         requires size { length (M.words core.now) ≡ 256 * self.old.inner.blocks }
+        requires port { P.Works files.old }
+        requires quota { P.quota files.old ≡ self.old.inner.account.tracks }
         requires fits { self.old.own < 2 ^ 64 - 1 }
-        ensures row { IfOk result (λ s. DidCommand line (Command.Assemble name) s.ending s.clock
-            now self.old self.new (M.words core.now) (M.words core.now)) }
+        ensures row { IfOk result (λ s. Over (P.tells files.old)
+            (stored (M.words core.now) (P.files files.old)) (stored (M.words core.now) (P.files files.new))
+            (DidCommand line (Command.Assemble name) s.ending s.clock now self.old self.new)) }
         ensures account { self.new.inner.account ≡ self.old.inner.account }
         ensures err { OnErr result (self.new ≡ self.old) }
+        ensures uses { Uses P.FilePort result files.old files.new }
     {
-        match self.assembly_of(name)? {
+        match self.assembly_of(files, name)? {
             Ok(Assembly::Deck(words)) => self.put_file(
                 core,
+                files,
                 line,
                 deck_name(name),
                 words.as_slice(),

@@ -13,6 +13,7 @@ ghost use Rattle.time_sharing.specs.Rows.{out_all};
 ghost use Rattle.user_model.specs.Session.{works_in};
 ghost use Rattle.user_model.specs.Texts.{time_text, ready_text, logged_out_text};
 ghost use Rattle.user_model.specs.Answers.{DidCommand};
+ghost use Rattle.user_session.specs.Stores.{stored, Over, OfSome, Uses, Reads};
 ghost use Rattle.user_session.specs.Turns.{IsTurn, Obeys};
 
 use crate::file_command::{DONE, note_command, note_taken};
@@ -21,7 +22,7 @@ use crate::{Step, Turn};
 use cmd_program::{PrepareFault, prepare};
 use command_table::command_of;
 use cpu_regs::{MemoryPort, Regs};
-use ctss_types::{CommonOp, Ending, FileName, Item, LineText, NoMemory, name_word};
+use ctss_types::{CommonOp, Ending, FileName, Item, LineText, NoMemory, StepFault, name_word};
 use file_map::FilePort;
 use program_model::{Deck, Fill, LoadFault, ProgramState};
 use session_text::{load_text, logged_out_text, time_text};
@@ -78,17 +79,20 @@ impl Session {
 
     /// LOGOUT: the program goes, and files of mode 0.
     #[tactic(auto, using(user_model::proofs::CoreLaws::recut_none))]
-    fn log_out<M: MemoryPort>(
+    fn log_out<M: MemoryPort, P: FilePort>(
         &mut self,
         core: &M,
+        files: &mut P,
         line: LineText,
         now: u64,
-    ) -> Result<Step, NoMemory>
+    ) -> Result<Step, StepFault>
+        requires port { P.Works files.old }
         requires fits { self.old.own < 2 ^ 64 - 1 }
-        ensures row { IfOk result (λ s. DidCommand line Command.Logout s.ending s.clock
-            now self.old self.new (M.words core.now) (M.words core.now)) }
+        ensures row { IfOk result (λ s. DidCommand line Command.Logout s.ending s.clock now self.old self.new
+            (stored (M.words core.now) (P.files files.old)) (stored (M.words core.now) (P.files files.new))) }
         ensures account { self.new.inner.account ≡ self.old.inner.account }
         ensures err { OnErr result (self.new ≡ self.old) }
+        ensures uses { Uses P.FilePort result files.old files.new }
     {
         self.items.reserve(3)?;
         self.before = self.own;
@@ -99,7 +103,7 @@ impl Session {
             &mut self.items,
             Item::Out(logged_out_text(self.account.name)),
         );
-        self.files.drop_temporary();
+        files.drop_temporary();
         self.on = false;
         self.lines.drop_all();
         self.state = ProgramState::Dead;
@@ -113,18 +117,23 @@ impl Session {
     }
 
     /// The deck of a program of this name, or why there is none.
-    fn read_deck(&mut self, name: Word) -> Result<Result<Deck, LoadFault>, NoMemory>
-        ensures same { self.new ≡ self.old }
-        ensures told { IfOk result (λ told. told ≡ deck_of self.old.inner.account.blocks (got (deck_name name)
-            self.old.inner.files)) }
-        ensures blocks { IfOk result (λ told. IfOk told (λ d. d.blocks ≤ self.old.inner.account.blocks)) }
+    fn read_deck<P: FilePort>(
+        &self,
+        files: &mut P,
+        name: Word,
+    ) -> Result<Result<Deck, LoadFault>, StepFault>
+        requires port { P.Works files.old }
+        ensures told { IfOk result (λ told. OfSome (P.tells files.old) (P.files files.old)
+            (λ fs. told ≡ deck_of self.now.inner.account.blocks (got (deck_name name) fs))) }
+        ensures blocks { IfOk result (λ told. IfOk told (λ d. d.blocks ≤ self.now.inner.account.blocks)) }
         ensures start { IfOk result (λ told. IfOk told (λ d. d.start < 2 ^ 15)) }
+        ensures reads { Reads P.FilePort result files.old files.new }
     {
-        match prepare(deck_name(name), self.account.blocks, &mut self.files) {
+        match prepare(deck_name(name), self.account.blocks, files) {
             Ok(deck) => Ok(Ok(deck)),
             Err(PrepareFault::Load(fault)) => Ok(Err(fault)),
-            Err(PrepareFault::Disk) => unreachable!(),
-            Err(PrepareFault::NoMemory) => Err(NoMemory),
+            Err(PrepareFault::Disk) => Err(StepFault::Disk),
+            Err(PrepareFault::NoMemory) => Err(StepFault::NoMemory),
         }
     }
 
@@ -161,22 +170,26 @@ impl Session {
 
     /// LOADGO: the program of a deck, or why there is none.
     #[tactic(auto, using(user_model::proofs::CoreLaws::recut_same))]
-    fn load<M: MemoryPort>(
+    fn load<M: MemoryPort, P: FilePort>(
         &mut self,
         core: &M,
+        files: &mut P,
         line: LineText,
         name: Word,
         now: u64,
-    ) -> Result<Step, NoMemory>
+    ) -> Result<Step, StepFault>
         requires on { self.old.on ≡ true }
         requires size { length (M.words core.now) ≡ 256 * self.old.inner.blocks }
+        requires port { P.Works files.old }
         requires fits { self.old.own < 2 ^ 64 - 1 }
-        ensures row { IfOk result (λ s. DidCommand line (Command.LoadGo name) s.ending s.clock
-            now self.old self.new (M.words core.now) (M.words core.now)) }
+        ensures row { IfOk result (λ s. Over (P.tells files.old)
+            (stored (M.words core.now) (P.files files.old)) (stored (M.words core.now) (P.files files.new))
+            (DidCommand line (Command.LoadGo name) s.ending s.clock now self.old self.new)) }
         ensures account { self.new.inner.account ≡ self.old.inner.account }
         ensures err { OnErr result (self.new ≡ self.old) }
+        ensures uses { Uses P.FilePort result files.old files.new }
     {
-        match self.read_deck(name)? {
+        match self.read_deck(files, name)? {
             Ok(deck) => {
                 let fill = Fill::Deck {
                     name: deck_name(name),
@@ -200,19 +213,25 @@ impl Session {
 
     /// A command is done, or is to make a common operation first.
     #[tactic(auto, using(user_model::proofs::CoreLaws::recut_same, user_model::proofs::CoreLaws::recut_none))]
-    fn obey<M: MemoryPort>(
+    fn obey<M: MemoryPort, P: FilePort>(
         &mut self,
         core: &M,
+        files: &mut P,
         line: LineText,
         command: Command,
         now: u64,
-    ) -> Result<Turn, NoMemory>
+    ) -> Result<Turn, StepFault>
         requires on { self.old.on ≡ true }
         requires size { length (M.words core.now) ≡ 256 * self.old.inner.blocks }
+        requires port { P.Works files.old }
+        requires quota { P.quota files.old ≡ self.old.inner.account.tracks }
         requires fits { self.old.own < 2 ^ 64 - 1 }
-        ensures row { IfOk result (λ turn. Obeys line command turn now self.old self.new (M.words core.now)) }
+        ensures row { IfOk result (λ turn. Over (P.tells files.old)
+            (stored (M.words core.now) (P.files files.old)) (stored (M.words core.now) (P.files files.new))
+            (Obeys line command turn now self.old self.new)) }
         ensures account { self.new.inner.account ≡ self.old.inner.account }
         ensures err { OnErr result (self.new ≡ self.old) }
+        ensures uses { Uses P.FilePort result files.old files.new }
     {
         match command {
             Command::Empty => {
@@ -220,41 +239,41 @@ impl Session {
                 Ok(Turn::Done(DONE))
             }
             Command::Logout => {
-                let out = self.log_out(core, line, now)?;
+                let out = self.log_out(core, files, line, now)?;
                 Ok(Turn::Done(out))
             }
             Command::LoadGo(name) => {
-                let done = self.load(core, line, name, now)?;
+                let done = self.load(core, files, line, name, now)?;
                 Ok(Turn::Done(done))
             }
             Command::List => {
-                let done = self.list_files(core, line, now)?;
+                let done = self.list_files(core, files, line, now)?;
                 Ok(Turn::Done(done))
             }
             Command::Print(name) => {
-                let done = self.print_file(core, line, name, now)?;
+                let done = self.print_file(core, files, line, name, now)?;
                 Ok(Turn::Done(done))
             }
             Command::Rename { name, to } => {
-                let done = self.rename(core, line, name, to, now)?;
+                let done = self.rename(core, files, line, name, to, now)?;
                 Ok(Turn::Done(done))
             }
             Command::Delete(name) => {
-                let done = self.delete(core, line, name, now)?;
+                let done = self.delete(core, files, line, name, now)?;
                 Ok(Turn::Done(done))
             }
             Command::ChangeMode { name, mode } => {
-                let done = self.chmode(core, line, name, mode, now)?;
+                let done = self.chmode(core, files, line, name, mode, now)?;
                 Ok(Turn::Done(done))
             }
             Command::Input(name) => {
-                let done = self.begin_input(core, line, name, now)?;
+                let done = self.begin_input(core, files, line, name, now)?;
                 Ok(Turn::Done(done))
             }
-            Command::CopyTo(name) => self.ask_copy(core, line, name, now),
+            Command::CopyTo(name) => self.ask_copy(core, files, line, name, now),
             Command::CopyFrom(name) => Ok(Turn::Asks(CommonOp::Get(name))),
             Command::Assemble(name) => {
-                let done = self.assemble(core, line, name, now)?;
+                let done = self.assemble(core, files, line, name, now)?;
                 Ok(Turn::Done(done))
             }
             Command::Start => {
@@ -262,11 +281,11 @@ impl Session {
                 Ok(Turn::Done(done))
             }
             Command::Save(name) => {
-                let done = self.save(core, line, name, now)?;
+                let done = self.save(core, files, line, name, now)?;
                 Ok(Turn::Done(done))
             }
             Command::Resume(name) => {
-                let done = self.resume(core, line, name, now)?;
+                let done = self.resume(core, files, line, name, now)?;
                 Ok(Turn::Done(done))
             }
             Command::Registers => {
@@ -290,14 +309,24 @@ impl Session {
 
     /// The first unread line: of INPUT, or a command.
     #[tactic(auto, using(user_model::proofs::RowTurns::command_waits))]
-    pub(crate) fn take_line<M: MemoryPort>(&mut self, core: &M, now: u64) -> Result<Turn, NoMemory>
+    pub(crate) fn take_line<M: MemoryPort, P: FilePort>(
+        &mut self,
+        core: &M,
+        files: &mut P,
+        now: u64,
+    ) -> Result<Turn, StepFault>
         requires on { self.old.on ≡ true }
         requires works { works_in self.old.inner.state ≡ false }
         requires size { length (M.words core.now) ≡ 256 * self.old.inner.blocks }
+        requires port { P.Works files.old }
+        requires quota { P.quota files.old ≡ self.old.inner.account.tracks }
         requires fits { self.old.own < 2 ^ 64 - 1 }
-        ensures turn { IfOk result (λ turn. IsTurn turn now self.old self.new (M.words core.now) (M.words core.now)) }
+        ensures turn { IfOk result (λ turn. Over (P.tells files.old)
+            (stored (M.words core.now) (P.files files.old)) (stored (M.words core.now) (P.files files.new))
+            (IsTurn turn now self.old self.new)) }
         ensures account { self.new.inner.account ≡ self.old.inner.account }
         ensures err { OnErr result (self.new ≡ self.old) }
+        ensures uses { Uses P.FilePort result files.old files.new }
     {
         let _ = &self.account;
         let Some(line) = self.first_line() else {
@@ -305,11 +334,11 @@ impl Session {
         };
         match self.input {
             Some(name) => {
-                let typed = self.type_line(core, line, name, now)?;
+                let typed = self.type_line(core, files, line, name, now)?;
                 Ok(Turn::Done(typed))
             }
             None => {
-                let turn = self.obey(core, line, command_of(&line), now)?;
+                let turn = self.obey(core, files, line, command_of(&line), now)?;
                 Ok(turn)
             }
         }

@@ -1,9 +1,11 @@
 //! COPY: a file goes to the common files, or comes from them.
-ghost use Rattle.std.specs.Prelude.{◌≡◌, ◌<◌, ◌-◌, ◌*◌, ◌^◌, true, length, IfOk, OnErr};
-ghost use Rattle.file_model.specs.Files.{got};
+ghost use Rattle.std.specs.Prelude.{◌≡◌, ◌<◌, ◌-◌, ◌*◌, ◌^◌, List, true, length, IfOk, OnErr};
 ghost use Rattle.user_model.specs.Commands.{copy_target};
 ghost use Rattle.user_model.specs.declared.Command.{Command};
 ghost use Rattle.user_session.specs.Changes.{Copies, TookReply};
+ghost use Rattle.user_session.specs.Stores.{stored, Over, OfSome, Uses};
+ghost use Rattle.ctss_types.specs.declared.file.FileBody.{FileBody};
+ghost use Rattle.file_map.specs.Known.{known};
 ghost use Rattle.user_session.specs.Turns.{Obeys};
 
 use crate::file_command::DONE;
@@ -11,7 +13,7 @@ use crate::session::Session;
 use crate::{Step, Turn};
 use cmd_files::refusal_text;
 use cpu_regs::MemoryPort;
-use ctss_types::{CommonOp, FileName, LineText, NoMemory, Refusal, Reply, WordList};
+use ctss_types::{CommonOp, FileName, LineText, Reply, StepFault, WordList};
 use file_map::{FilePort, PortFault};
 use user_model::Command;
 
@@ -26,65 +28,64 @@ fn copy_target(command: Command) -> Option<FileName>
 }
 
 impl Session {
-    /// The words of a file, or why it isn't read.
-    fn words_of(&mut self, name: FileName) -> Result<Result<WordList, Refusal>, NoMemory>
-        ensures same { self.new ≡ self.old }
-        ensures told { IfOk result (λ told. told ≡ got name self.old.inner.files) }
-    {
-        match self.files.get(name) {
-            Ok(words) => Ok(Ok(words)),
-            Err(PortFault::Refused(refusal)) => Ok(Err(refusal)),
-            Err(PortFault::Disk) => unreachable!(),
-            Err(PortFault::NoMemory) => Err(NoMemory),
-        }
-    }
-
     /// COPY TO: the operation that puts the file, or why the file isn't read.
     #[tactic(auto, using(user_model::proofs::CoreLaws::recut_same))]
-    pub(crate) fn ask_copy<M: MemoryPort>(
+    pub(crate) fn ask_copy<M: MemoryPort, P: FilePort>(
         &mut self,
         core: &M,
+        files: &mut P,
         line: LineText,
         name: FileName,
         now: u64,
-    ) -> Result<Turn, NoMemory>
+    ) -> Result<Turn, StepFault>
         requires on { self.old.on ≡ true }
         requires size { length (M.words core.now) ≡ 256 * self.old.inner.blocks }
+        requires port { P.Works files.old }
         requires fits { self.old.own < 2 ^ 64 - 1 }
-        ensures row { IfOk result (λ turn. Obeys line (Command.CopyTo name) turn
-            now self.old self.new (M.words core.now)) }
+        ensures row { IfOk result (λ turn. Over (P.tells files.old)
+            (stored (M.words core.now) (P.files files.old)) (stored (M.words core.now) (P.files files.new))
+            (Obeys line (Command.CopyTo name) turn now self.old self.new)) }
         ensures account { self.new.inner.account ≡ self.old.inner.account }
         ensures err { OnErr result (self.new ≡ self.old) }
+        ensures uses { Uses P.FilePort result files.old files.new }
     {
-        match self.words_of(name)? {
+        match files.get(name) {
             Ok(words) => Ok(Turn::Asks(CommonOp::Put { name, words })),
-            Err(refusal) => {
+            Err(PortFault::Refused(refusal)) => {
                 self.say(line, Some(refusal_text(refusal)), now)?;
                 Ok(Turn::Done(DONE))
             }
+            Err(PortFault::Disk) => Err(StepFault::Disk),
+            Err(PortFault::NoMemory) => Err(StepFault::NoMemory),
         }
     }
 
     /// Words that came from the common files are put, where they are to be.
     #[tactic(auto, using(user_model::proofs::CoreLaws::recut_same))]
-    fn put_copy<M: MemoryPort>(
+    fn put_copy<M: MemoryPort, P: FilePort>(
         &mut self,
         core: &M,
+        files: &mut P,
         line: LineText,
         target: Option<FileName>,
         words: &WordList,
         now: u64,
-    ) -> Result<Step, NoMemory>
+    ) -> Result<Step, StepFault>
         requires on { self.old.on ≡ true }
         requires size { length (M.words core.now) ≡ 256 * self.old.inner.blocks }
+        requires port { P.Works files.old }
+        requires quota { P.quota files.old ≡ self.old.inner.account.tracks }
         requires fits { self.old.own < 2 ^ 64 - 1 }
-        ensures row { IfOk result (λ s. Copies line target words.now s.ending s.clock
-            now self.old self.new (M.words core.now)) }
+        ensures row { (fs : List FileBody) → known (P.tells files.old) fs ≡ P.files files.old
+            → IfOk result (λ s. OfSome (P.tells files.old) (P.files files.new) (λ has.
+            Copies line target words.now s.ending s.clock now self.old self.new
+            (stored (M.words core.now) fs) (stored (M.words core.now) has))) }
         ensures account { self.new.inner.account ≡ self.old.inner.account }
         ensures err { OnErr result (self.new ≡ self.old) }
+        ensures uses { Uses P.FilePort result files.old files.new }
     {
         match target {
-            Some(name) => self.put_file(core, line, name, words.as_slice(), now),
+            Some(name) => self.put_file(core, files, line, name, words.as_slice(), now),
             None => {
                 self.say(line, None, now)?;
                 Ok(DONE)
@@ -94,28 +95,45 @@ impl Session {
 
     /// A command that made a common operation goes on with its reply.
     #[tactic(auto, using(user_model::proofs::CoreLaws::recut_same))]
-    pub(crate) fn copy_replied<M: MemoryPort>(
+    pub(crate) fn copy_replied<M: MemoryPort, P: FilePort>(
         &mut self,
         core: &M,
+        files: &mut P,
         line: LineText,
         command: Command,
         reply: &Reply,
         now: u64,
-    ) -> Result<Step, NoMemory>
+    ) -> Result<Step, StepFault>
         requires on { self.old.on ≡ true }
         requires size { length (M.words core.now) ≡ 256 * self.old.inner.blocks }
+        requires port { P.Works files.old }
+        requires quota { P.quota files.old ≡ self.old.inner.account.tracks }
         requires fits { self.old.own < 2 ^ 64 - 1 }
-        ensures row { IfOk result (λ s. TookReply line command reply.now s.ending s.clock
-            now self.old self.new (M.words core.now)) }
+        ensures row { (fs : List FileBody) → known (P.tells files.old) fs ≡ P.files files.old
+            → IfOk result (λ s. OfSome (P.tells files.old) (P.files files.new) (λ has.
+            TookReply line command reply.now s.ending s.clock now self.old self.new
+            (stored (M.words core.now) fs) (stored (M.words core.now) has))) }
         ensures account { self.new.inner.account ≡ self.old.inner.account }
         ensures err { OnErr result (self.new ≡ self.old) }
+        ensures uses { Uses P.FilePort result files.old files.new }
     {
         match reply {
-            Reply::Done | Reply::Size(_) => {
+            Reply::Done => {
                 self.say(line, None, now)?;
                 Ok(DONE)
             }
-            Reply::Words(words) => self.put_copy(core, line, copy_target(command), words, now),
+            Reply::Size(_) => {
+                self.say(line, None, now)?;
+                Ok(DONE)
+            }
+            Reply::Words(words) => self.put_copy(
+                core,
+                files,
+                line,
+                copy_target(command),
+                words,
+                now,
+            ),
             Reply::Refused(refusal) => {
                 self.say(line, Some(refusal_text(*refusal)), now)?;
                 Ok(DONE)

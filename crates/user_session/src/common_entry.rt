@@ -1,11 +1,13 @@
 //! Supervisor entries for common files.
-ghost use Rattle.std.specs.Prelude.{◌≡◌, ◌<◌, ◌≤◌, ◌+◌, ◌-◌, ◌*◌, ◌^◌, true, Ok, Some, length, IfOk, OnErr};
+ghost use Rattle.std.specs.Prelude.{◌≡◌, ◌<◌, ◌≤◌, ◌+◌, ◌-◌, ◌*◌, ◌^◌, List, true, Ok, Some, length, IfOk, OnErr};
 ghost use Rattle.program_model.specs.declared.Call.{Call};
 ghost use Rattle.tia_entry.specs.Buffers.{HasBuffer};
 ghost use Rattle.user_model.specs.Programs.{is_common_count};
 ghost use Rattle.user_model.specs.Programs.{call_asks};
 ghost use Rattle.user_session.specs.Changes.{Answered, CallTook};
 ghost use Rattle.ctss_types.specs.declared.file.CommonOp.{CommonOp};
+ghost use Rattle.ctss_types.specs.declared.file.FileBody.{FileBody};
+ghost use Rattle.user_session.specs.Stores.{stored};
 ghost use Rattle.user_session.specs.Turns.{Enters};
 ghost use Rattle.file_model.specs.Commons.{ReplyFits};
 
@@ -40,8 +42,8 @@ impl Session {
         requires on { self.old.on ≡ true }
         requires size { length (M.words core.now) ≡ 256 * self.old.inner.blocks }
         requires fits { self.old.own < 2 ^ 64 - 1 }
-        ensures row { Enters (Ok (Call.CommonRead name at count place)) result
-            now self.old self.new (M.words core.now) (M.words core.now) }
+        ensures row { (fs : List FileBody) → Enters (Ok (Call.CommonRead name at count place)) result
+            now self.old self.new (stored (M.words core.now) fs) (stored (M.words core.now) fs) }
         ensures account { self.new.inner.account ≡ self.old.inner.account }
     {
         if !is_common_count(count) {
@@ -66,8 +68,8 @@ impl Session {
         requires size { length (M.words core.now) ≡ 256 * self.old.inner.blocks }
         requires fits { self.old.own < 2 ^ 64 - 1 }
         requires within { at + count ≤ length (M.words core.now) }
-        ensures row { IfOk result (λ turn. Enters (Ok (Call.CommonWrite name at count place)) turn
-            now self.old self.new (M.words core.now) (M.words core.now)) }
+        ensures row { (fs : List FileBody) → IfOk result (λ turn. Enters (Ok (Call.CommonWrite name at count place)) turn
+            now self.old self.new (stored (M.words core.now) fs) (stored (M.words core.now) fs)) }
         ensures account { self.new.inner.account ≡ self.old.inner.account }
         ensures err { OnErr result (self.new ≡ self.old) }
     {
@@ -97,8 +99,8 @@ impl Session {
         requires size { length (M.words core.old) ≡ 256 * self.old.inner.blocks }
         requires fits { self.old.own < 2 ^ 64 - 1 }
         requires told { ReplyFits reply.now }
-        ensures row { Answered arguments at reply.now result.ending result.clock
-            self.old self.new (M.words core.old) (M.words core.new) }
+        ensures row { (fs : List FileBody) → Answered arguments at reply.now result.ending result.clock
+            self.old self.new (stored (M.words core.old) fs) (stored (M.words core.new) fs) }
         ensures account { self.new.inner.account ≡ self.old.inner.account }
         ensures keeps { M.Keeps core.old core.new }
     {
@@ -135,18 +137,16 @@ impl Session {
         requires fits { self.old.own < 2 ^ 64 - 1 }
         requires told { ReplyFits reply.now }
         requires asks { (op : CommonOp) × (call_asks call (M.words core.old) ≡ Some op) }
-        ensures row { CallTook call reply.now result.ending result.clock
-            self.old self.new (M.words core.old) (M.words core.new) }
+        ensures row { (fs : List FileBody) → CallTook call reply.now result.ending result.clock
+            self.old self.new (stored (M.words core.old) fs) (stored (M.words core.new) fs) }
         ensures account { self.new.inner.account ≡ self.old.inner.account }
         ensures keeps { M.Keeps core.old core.new }
     {
         match call {
-            Call::CommonStat { name: _ } | Call::CommonDelete { name: _ } => self.take_answer(
-                core, 1, 0, reply,
-            ),
-            Call::CommonRead { at, .. } | Call::CommonWrite { at, .. } => self.take_answer(
-                core, 3, at, reply,
-            ),
+            Call::CommonStat { name: _ } => self.take_answer(core, 1, 0, reply),
+            Call::CommonDelete { name: _ } => self.take_answer(core, 1, 0, reply),
+            Call::CommonRead { at, .. } => self.take_answer(core, 3, at, reply),
+            Call::CommonWrite { at, .. } => self.take_answer(core, 3, at, reply),
             _ => unreachable!(),
         }
     }

@@ -1,5 +1,5 @@
 //! Supervisor entries of a program.
-ghost use Rattle.std.specs.Prelude.{◌≡◌, ◌<◌, ◌≤◌, ◌+◌, ◌-◌, ◌*◌, ◌^◌, ◌++◌, ◌∷◌, [], ◌||◌, suc, nat_eq, nat_lt, true, false, Ok, Err, None, Some, drop, length, IfOk, IfSome, OnOk, OnErr, vec_len, vec_capacity};
+ghost use Rattle.std.specs.Prelude.{◌≡◌, ◌<◌, ◌≤◌, ◌+◌, ◌-◌, ◌*◌, ◌^◌, ◌++◌, ◌∷◌, [], ◌||◌, List, suc, nat_eq, nat_lt, true, false, Ok, Err, None, Some, drop, length, IfOk, IfSome, OnOk, OnErr, vec_len, vec_capacity};
 ghost use Rattle.std.specs.List.{list_all};
 ghost use Rattle.bcd48.specs.Characters.{is_character};
 ghost use Rattle.cpu_regs.specs.Registers.{no_registers};
@@ -13,12 +13,15 @@ ghost use Rattle.time_sharing.specs.Machine.{In, Out};
 ghost use Rattle.tia_entry.specs.Buffers.{HasBuffer};
 ghost use Rattle.user_model.specs.Session.{works_in};
 ghost use Rattle.user_model.specs.Texts.{ready_text, stop_text};
+ghost use Rattle.ctss_types.specs.declared.file.FileBody.{FileBody};
+ghost use Rattle.user_session.specs.Stores.{stored, Over, Uses};
 ghost use Rattle.user_session.specs.Turns.{IsTurn, Enters};
 
 use crate::session::{Session, note};
 use crate::{Step, Turn};
 use cpu_regs::{MemoryPort, Regs};
-use ctss_types::{CommonOp, Ending, Item, LineText, NoMemory};
+use ctss_types::{CommonOp, Ending, Item, LineText, NoMemory, StepFault};
+use file_map::FilePort;
 use program_model::{Call, EntryFault, ProgramState};
 use session_text::{ready_text, stop_text};
 use tia_entry::{answer, is_line_count, line_in, read_call, store_line};
@@ -81,8 +84,8 @@ impl Session {
         requires on { self.old.on ≡ true }
         requires size { length (M.words core.now) ≡ 256 * self.old.inner.blocks }
         requires fits { self.old.own < 2 ^ 64 - 1 }
-        ensures row { IfOk result (λ turn. Enters (Err fault) turn
-            now self.old self.new (M.words core.now) (M.words core.now)) }
+        ensures row { (fs : List FileBody) → IfOk result (λ turn. Enters (Err fault) turn
+            now self.old self.new (stored (M.words core.now) fs) (stored (M.words core.now) fs)) }
         ensures account { self.new.inner.account ≡ self.old.inner.account }
         ensures err { OnErr result (self.new ≡ self.old) }
     {
@@ -144,8 +147,8 @@ impl Session {
         requires size { length (M.words core.old) ≡ 256 * self.old.inner.blocks }
         requires fits { self.old.own < 2 ^ 64 - 1 }
         requires within { HasBuffer (length (M.words core.old)) (Call.ReadLine at count) }
-        ensures row { IfOk result (λ turn. Enters (Ok (Call.ReadLine at count)) turn
-            now self.old self.new (M.words core.old) (M.words core.new)) }
+        ensures row { (fs : List FileBody) → IfOk result (λ turn. Enters (Ok (Call.ReadLine at count)) turn
+            now self.old self.new (stored (M.words core.old) fs) (stored (M.words core.new) fs)) }
         ensures account { self.new.inner.account ≡ self.old.inner.account }
         ensures err { OnErr result (self.new ≡ self.old) }
         ensures err_core { OnErr result (M.words core.new ≡ M.words core.old) }
@@ -189,8 +192,8 @@ impl Session {
         requires size { length (M.words core.now) ≡ 256 * self.old.inner.blocks }
         requires fits { self.old.own < 2 ^ 64 - 1 }
         requires within { HasBuffer (length (M.words core.now)) (Call.WriteLine at count) }
-        ensures row { IfOk result (λ turn. Enters (Ok (Call.WriteLine at count)) turn
-            now self.old self.new (M.words core.now) (M.words core.now)) }
+        ensures row { (fs : List FileBody) → IfOk result (λ turn. Enters (Ok (Call.WriteLine at count)) turn
+            now self.old self.new (stored (M.words core.now) fs) (stored (M.words core.now) fs)) }
         ensures account { self.new.inner.account ≡ self.old.inner.account }
         ensures err { OnErr result (self.new ≡ self.old) }
     {
@@ -216,8 +219,8 @@ impl Session {
         requires on { self.old.on ≡ true }
         requires size { length (M.words core.now) ≡ 256 * self.old.inner.blocks }
         requires fits { self.old.own < 2 ^ 64 - 1 }
-        ensures row { Enters (Ok (Call.SetMemory blocks)) result
-            now self.old self.new (M.words core.now) (M.words core.now) }
+        ensures row { (fs : List FileBody) → Enters (Ok (Call.SetMemory blocks)) result
+            now self.old self.new (stored (M.words core.now) fs) (stored (M.words core.now) fs) }
         ensures account { self.new.inner.account ≡ self.old.inner.account }
     {
         if self.is_no_size(blocks) {
@@ -250,7 +253,8 @@ impl Session {
         requires size { length (M.words core.now) ≡ 256 * self.old.inner.blocks }
         requires fits { self.old.own < 2 ^ 64 - 1 }
         requires time { now < 2 ^ 35 }
-        ensures row { Enters (Ok Call.GetTime) result now self.old self.new (M.words core.now) (M.words core.now) }
+        ensures row { (fs : List FileBody) → Enters (Ok Call.GetTime) result now self.old self.new (stored (M.words core.now) fs) (stored (M.words core.now) fs) }
+        ensures account { self.new.inner.account ≡ self.old.inner.account }
     {
         self.reply(0, 0, Some(now));
         Turn::Done(Step {
@@ -265,7 +269,7 @@ impl Session {
         requires on { self.old.on ≡ true }
         requires size { length (M.words core.now) ≡ 256 * self.old.inner.blocks }
         requires fits { self.old.own < 2 ^ 64 - 1 }
-        ensures row { Enters (Ok Call.GetMemory) result now self.old self.new (M.words core.now) (M.words core.now) }
+        ensures row { (fs : List FileBody) → Enters (Ok Call.GetMemory) result now self.old self.new (stored (M.words core.now) fs) (stored (M.words core.now) fs) }
         ensures account { self.new.inner.account ≡ self.old.inner.account }
     {
         let words = 256 * u64::from(self.blocks());
@@ -282,8 +286,8 @@ impl Session {
         requires on { self.old.on ≡ true }
         requires size { length (M.words core.now) ≡ 256 * self.old.inner.blocks }
         requires fits { self.old.own < 2 ^ 64 - 1 }
-        ensures row { IfOk result (λ turn. Enters (Ok Call.Dead) turn
-            now self.old self.new (M.words core.now) (M.words core.now)) }
+        ensures row { (fs : List FileBody) → IfOk result (λ turn. Enters (Ok Call.Dead) turn
+            now self.old self.new (stored (M.words core.now) fs) (stored (M.words core.now) fs)) }
         ensures account { self.new.inner.account ≡ self.old.inner.account }
         ensures err { OnErr result (self.new ≡ self.old) }
     {
@@ -307,8 +311,8 @@ impl Session {
         requires on { self.old.on ≡ true }
         requires size { length (M.words core.now) ≡ 256 * self.old.inner.blocks }
         requires fits { self.old.own < 2 ^ 64 - 1 }
-        ensures row { IfOk result (λ turn. Enters (Ok Call.Dormant) turn
-            now self.old self.new (M.words core.now) (M.words core.now)) }
+        ensures row { (fs : List FileBody) → IfOk result (λ turn. Enters (Ok Call.Dormant) turn
+            now self.old self.new (stored (M.words core.now) fs) (stored (M.words core.now) fs)) }
         ensures account { self.new.inner.account ≡ self.old.inner.account }
         ensures err { OnErr result (self.new ≡ self.old) }
     {
@@ -324,46 +328,51 @@ impl Session {
     }
 
     /// A call that can be done.
-    fn answer_call<M: MemoryPort>(
+    fn answer_call<M: MemoryPort, P: FilePort>(
         &mut self,
         core: &mut M,
+        files: &mut P,
         call: Call,
         now: u64,
-    ) -> Result<Turn, NoMemory>
+    ) -> Result<Turn, StepFault>
         requires on { self.old.on ≡ true }
         requires size { length (M.words core.old) ≡ 256 * self.old.inner.blocks }
+        requires port { P.Works files.old }
+        requires quota { P.quota files.old ≡ self.old.inner.account.tracks }
         requires fits { self.old.own < 2 ^ 64 - 1 }
         requires within { HasBuffer (length (M.words core.old)) call }
         requires time { now < 2 ^ 35 }
-        ensures row { IfOk result (λ turn. Enters (Ok call) turn
-            now self.old self.new (M.words core.old) (M.words core.new)) }
+        ensures row { IfOk result (λ turn. Over (P.tells files.old)
+            (stored (M.words core.old) (P.files files.old)) (stored (M.words core.new) (P.files files.new))
+            (Enters (Ok call) turn now self.old self.new)) }
         ensures account { self.new.inner.account ≡ self.old.inner.account }
         ensures err { OnErr result (self.new ≡ self.old) }
         ensures err_core { OnErr result (M.words core.new ≡ M.words core.old) }
         ensures keeps { M.Keeps core.old core.new }
+        ensures uses { Uses P.FilePort result files.old files.new }
     {
         match call {
-            Call::ReadLine { at, count } => self.read_line(core, at, count, now),
-            Call::WriteLine { at, count } => self.write_line(core, at, count, now),
+            Call::ReadLine { at, count } => Ok(self.read_line(core, at, count, now)?),
+            Call::WriteLine { at, count } => Ok(self.write_line(core, at, count, now)?),
             Call::GetTime => Ok(self.tell_time(core, now)),
             Call::GetMemory => Ok(self.tell_memory(core, now)),
             Call::SetMemory { blocks } => Ok(self.set_memory(core, blocks, now)),
-            Call::FileStat { name } => Ok(self.tell_file(core, name, now)),
+            Call::FileStat { name } => Ok(self.tell_file(core, files, name, now)),
             Call::ReadFile {
                 name,
                 at,
                 count,
                 place,
-            } => self.read_file(core, name, at, count, place, now),
+            } => self.read_file(core, files, name, at, count, place, now),
             Call::WriteFile {
                 name,
                 at,
                 count,
                 place,
-            } => self.write_file(core, name, at, count, place, now),
-            Call::DeleteFile { name } => self.delete_file(core, name, now),
-            Call::RenameFile { name, to } => self.rename_file(core, name, to, now),
-            Call::ChangeMode { name, mode } => self.change_mode(core, name, mode, now),
+            } => self.write_file(core, files, name, at, count, place, now),
+            Call::DeleteFile { name } => self.delete_file(core, files, name, now),
+            Call::RenameFile { name, to } => self.rename_file(core, files, name, to, now),
+            Call::ChangeMode { name, mode } => self.change_mode(core, files, name, mode, now),
             Call::CommonStat { name } => Ok(Turn::Asks(CommonOp::Stat(name))),
             Call::CommonRead {
                 name,
@@ -376,37 +385,43 @@ impl Session {
                 at,
                 count,
                 place,
-            } => self.ask_write(core, name, at, count, place, now),
+            } => Ok(self.ask_write(core, name, at, count, place, now)?),
             Call::CommonDelete { name } => Ok(Turn::Asks(CommonOp::Delete(name))),
-            Call::Dead => self.end_dead(core, now),
-            Call::Dormant => self.end_dormant(core, now),
+            Call::Dead => Ok(self.end_dead(core, now)?),
+            Call::Dormant => Ok(self.end_dormant(core, now)?),
         }
     }
 
     /// A supervisor entry.
     #[tactic(auto, using(crate::proofs::Enters::entered))]
-    pub(crate) fn enter<M: MemoryPort>(
+    pub(crate) fn enter<M: MemoryPort, P: FilePort>(
         &mut self,
         core: &mut M,
+        files: &mut P,
         name: Word,
         now: u64,
-    ) -> Result<Turn, NoMemory>
+    ) -> Result<Turn, StepFault>
         requires on { self.old.on ≡ true }
         requires works { works_in self.old.inner.state ≡ true }
         requires filled { self.old.inner.fill ≡ None }
         requires at { table self.old.inner.regs (M.words core.old) ≡ entry name }
         requires size { length (M.words core.old) ≡ 256 * self.old.inner.blocks }
+        requires port { P.Works files.old }
+        requires quota { P.quota files.old ≡ self.old.inner.account.tracks }
         requires fits { self.old.own < 2 ^ 64 - 1 }
         requires time { now < 2 ^ 35 }
-        ensures turn { IfOk result (λ turn. IsTurn turn now self.old self.new (M.words core.old) (M.words core.new)) }
+        ensures turn { IfOk result (λ turn. Over (P.tells files.old)
+            (stored (M.words core.old) (P.files files.old)) (stored (M.words core.new) (P.files files.new))
+            (IsTurn turn now self.old self.new)) }
         ensures account { self.new.inner.account ≡ self.old.inner.account }
         ensures err { OnErr result (self.new ≡ self.old) }
         ensures err_core { OnErr result (M.words core.new ≡ M.words core.old) }
         ensures keeps { M.Keeps core.old core.new }
+        ensures uses { Uses P.FilePort result files.old files.new }
     {
         match read_call(&self.regs, core, name) {
-            Err(fault) => self.refuse(core, fault, now),
-            Ok(call) => self.answer_call(core, call, now),
+            Err(fault) => Ok(self.refuse(core, fault, now)?),
+            Ok(call) => self.answer_call(core, files, call, now),
         }
     }
 }

@@ -1,5 +1,5 @@
 //! Commands on a user's files.
-ghost use Rattle.std.specs.Prelude.{◌≡◌, ◌<◌, ◌≤◌, ◌+◌, ◌-◌, ◌*◌, ◌^◌, ◌++◌, ◌∷◌, [], suc, true, Some, None, length, drop, option_to_list, IfOk, OnOk, OnErr, IsErrOf, vec_len, vec_capacity};
+ghost use Rattle.std.specs.Prelude.{◌≡◌, ◌<◌, ◌≤◌, ◌+◌, ◌-◌, ◌*◌, ◌^◌, ◌++◌, ◌∷◌, [], List, suc, true, Some, None, length, drop, option_to_list, IfOk, OnOk, OnErr, vec_len, vec_capacity};
 ghost use Rattle.file_model.specs.Files.{got};
 ghost use Rattle.time_sharing.specs.Machine.{In, Out};
 ghost use Rattle.time_sharing.specs.Rows.{out_all};
@@ -7,13 +7,16 @@ ghost use Rattle.user_model.specs.declared.Command.{Command};
 ghost use Rattle.user_model.specs.Texts.{time_text, ready_text};
 ghost use Rattle.user_model.specs.Commands.{printed};
 ghost use Rattle.user_model.specs.Answers.{DidCommand};
-ghost use Rattle.user_session.specs.Changes.{change_text, DidPut};
+ghost use Rattle.user_session.specs.Changes.{DidPut};
+ghost use Rattle.user_session.specs.Stores.{stored, Over, OfSome, Uses, Reads};
+ghost use Rattle.ctss_types.specs.declared.file.FileBody.{FileBody};
+ghost use Rattle.file_map.specs.Known.{known};
 
 use crate::Step;
 use crate::session::{Session, note};
 use cmd_files::{listing, refusal_text};
 use cpu_regs::MemoryPort;
-use ctss_types::{Ending, FileName, Item, LineList, LineText, NoMemory, Refusal, Sequence};
+use ctss_types::{Ending, FileName, Item, LineList, LineText, NoMemory, Sequence, StepFault};
 use file_map::{FilePort, PortFault};
 use session_text::{ready_text, time_text};
 use std::alloc::Global;
@@ -82,21 +85,6 @@ fn one_line(alloc: Global, line: LineText) -> Result<LineList, NoMemory>
     Ok(lines)
 }
 
-/// Why a change of the directory is refused, if it is.
-pub(crate) fn text_of(done: Result<(), PortFault>) -> Result<Option<LineText>, NoMemory>
-    requires { ¬ IsErrOf done PortFault.Disk }
-    ensures text { IfOk result (λ text. text ≡ change_text done) }
-    ensures memory { OnErr result (IsErrOf done PortFault.NoMemory) }
-    ensures some { OnOk result (¬ IsErrOf done PortFault.NoMemory) }
-{
-    match done {
-        Ok(()) => Ok(None),
-        Err(PortFault::Refused(refusal)) => Ok(Some(refusal_text(refusal))),
-        Err(PortFault::Disk) => unreachable!(),
-        Err(PortFault::NoMemory) => Err(NoMemory),
-    }
-}
-
 impl Session {
     /// The first unread line is taken as a command.
     pub(crate) fn take_command(&mut self)
@@ -138,161 +126,224 @@ impl Session {
     }
 
     /// A command that replaces a file's content, or says why it doesn't.
-    #[tactic(auto, using(user_model::proofs::CoreLaws::recut_same, crate::proofs::Files::leaves_told))]
-    pub(crate) fn put_file<M: MemoryPort>(
+    #[tactic(auto, using(user_model::proofs::CoreLaws::recut_same))]
+    pub(crate) fn put_file<M: MemoryPort, P: FilePort>(
         &mut self,
         core: &M,
+        files: &mut P,
         line: LineText,
         name: FileName,
         words: &[Word],
         now: u64,
-    ) -> Result<Step, NoMemory>
+    ) -> Result<Step, StepFault>
         requires size { length (M.words core.now) ≡ 256 * self.old.inner.blocks }
+        requires port { P.Works files.old }
+        requires quota { P.quota files.old ≡ self.old.inner.account.tracks }
         requires fits { self.old.own < 2 ^ 64 - 1 }
-        ensures row { IfOk result (λ s. DidPut line name words.now s.ending s.clock
-            now self.old self.new (M.words core.now)) }
+        ensures row { (fs : List FileBody) → known (P.tells files.old) fs ≡ P.files files.old
+            → IfOk result (λ s. OfSome (P.tells files.old) (P.files files.new) (λ has.
+            DidPut line name words.now s.ending s.clock now self.old self.new
+            (stored (M.words core.now) fs) (stored (M.words core.now) has))) }
         ensures account { self.new.inner.account ≡ self.old.inner.account }
         ensures err { OnErr result (self.new ≡ self.old) }
+        ensures uses { Uses P.FilePort result files.old files.new }
     {
         self.items.reserve(4)?;
-        let done = self.files.put(name, words);
-        let text = text_of(done)?;
-        note_command(&mut self.items, line, text, now);
-        self.take_command();
-        Ok(DONE)
+        match files.put(name, words) {
+            Ok(()) => {
+                note_command(&mut self.items, line, None, now);
+                self.take_command();
+                Ok(DONE)
+            }
+            Err(PortFault::Refused(refusal)) => {
+                note_command(&mut self.items, line, Some(refusal_text(refusal)), now);
+                self.take_command();
+                Ok(DONE)
+            }
+            Err(PortFault::Disk) => Err(StepFault::Disk),
+            Err(PortFault::NoMemory) => Err(StepFault::NoMemory),
+        }
     }
 
     /// LISTF: the files are listed.
     #[tactic(auto, using(user_model::proofs::CoreLaws::recut_same))]
-    pub(crate) fn list_files<M: MemoryPort>(
+    pub(crate) fn list_files<M: MemoryPort, P: FilePort>(
         &mut self,
         core: &M,
+        files: &P,
         line: LineText,
         now: u64,
     ) -> Result<Step, NoMemory>
         requires on { self.old.on ≡ true }
         requires size { length (M.words core.now) ≡ 256 * self.old.inner.blocks }
+        requires port { P.Works files.now }
+        requires quota { P.quota files.now ≡ self.old.inner.account.tracks }
         requires fits { self.old.own < 2 ^ 64 - 1 }
-        ensures row { IfOk result (λ s. DidCommand line Command.List s.ending s.clock
-            now self.old self.new (M.words core.now) (M.words core.now)) }
+        ensures row { IfOk result (λ s. DidCommand line Command.List s.ending s.clock now self.old self.new
+            (stored (M.words core.now) (P.files files.now)) (stored (M.words core.now) (P.files files.now))) }
         ensures account { self.new.inner.account ≡ self.old.inner.account }
         ensures err { OnErr result (self.new ≡ self.old) }
     {
-        let lines = listing(*self.items.allocator(), &self.files)?;
+        let lines = listing(*self.items.allocator(), files)?;
         self.say_all(line, lines.as_slice(), now)?;
         Ok(DONE)
     }
 
     /// A file's words as lines, or why there are none.
-    fn lines_of(&mut self, name: FileName) -> Result<LineList, NoMemory>
-        ensures same { self.new ≡ self.old }
-        ensures lines { IfOk result (λ lines. lines ≡ printed (got name self.old.inner.files)) }
+    fn lines_of<P: FilePort>(&self, files: &mut P, name: FileName) -> Result<LineList, StepFault>
+        requires port { P.Works files.old }
+        ensures lines { IfOk result (λ lines. OfSome (P.tells files.old) (P.files files.old)
+            (λ fs. lines ≡ printed (got name fs))) }
+        ensures reads { Reads P.FilePort result files.old files.new }
     {
         let alloc = *self.items.allocator();
-        match cmd_files::printed(alloc, name, &mut self.files) {
+        match cmd_files::printed(alloc, name, files) {
             Ok(lines) => Ok(lines),
-            Err(PortFault::Refused(refusal)) => one_line(alloc, refusal_text(refusal)),
-            Err(PortFault::Disk) => unreachable!(),
-            Err(PortFault::NoMemory) => Err(NoMemory),
+            Err(PortFault::Refused(refusal)) => {
+                let lines = one_line(alloc, refusal_text(refusal))?;
+                Ok(lines)
+            }
+            Err(PortFault::Disk) => Err(StepFault::Disk),
+            Err(PortFault::NoMemory) => Err(StepFault::NoMemory),
         }
     }
 
     /// PRINTF: a file's words are printed as lines.
     #[tactic(auto, using(user_model::proofs::CoreLaws::recut_same))]
-    pub(crate) fn print_file<M: MemoryPort>(
+    pub(crate) fn print_file<M: MemoryPort, P: FilePort>(
         &mut self,
         core: &M,
+        files: &mut P,
         line: LineText,
         name: FileName,
         now: u64,
-    ) -> Result<Step, NoMemory>
+    ) -> Result<Step, StepFault>
         requires on { self.old.on ≡ true }
         requires size { length (M.words core.now) ≡ 256 * self.old.inner.blocks }
+        requires port { P.Works files.old }
         requires fits { self.old.own < 2 ^ 64 - 1 }
-        ensures row { IfOk result (λ s. DidCommand line (Command.Print name) s.ending s.clock
-            now self.old self.new (M.words core.now) (M.words core.now)) }
+        ensures row { IfOk result (λ s. Over (P.tells files.old)
+            (stored (M.words core.now) (P.files files.old)) (stored (M.words core.now) (P.files files.new))
+            (DidCommand line (Command.Print name) s.ending s.clock now self.old self.new)) }
         ensures account { self.new.inner.account ≡ self.old.inner.account }
         ensures err { OnErr result (self.new ≡ self.old) }
+        ensures uses { Uses P.FilePort result files.old files.new }
     {
-        let lines = self.lines_of(name)?;
+        let lines = self.lines_of(files, name)?;
         self.say_all(line, lines.as_slice(), now)?;
         Ok(DONE)
     }
 
     /// RENAME: a file gets another name.
     #[tactic(auto, using(user_model::proofs::CoreLaws::recut_same))]
-    pub(crate) fn rename<M: MemoryPort>(
+    pub(crate) fn rename<M: MemoryPort, P: FilePort>(
         &mut self,
         core: &M,
+        files: &mut P,
         line: LineText,
         name: FileName,
         to: FileName,
         now: u64,
-    ) -> Result<Step, NoMemory>
+    ) -> Result<Step, StepFault>
         requires on { self.old.on ≡ true }
         requires size { length (M.words core.now) ≡ 256 * self.old.inner.blocks }
+        requires port { P.Works files.old }
         requires fits { self.old.own < 2 ^ 64 - 1 }
-        ensures row { IfOk result (λ s. DidCommand line (Command.Rename name to) s.ending s.clock
-            now self.old self.new (M.words core.now) (M.words core.now)) }
+        ensures row { IfOk result (λ s. DidCommand line (Command.Rename name to) s.ending s.clock now self.old self.new
+            (stored (M.words core.now) (P.files files.old)) (stored (M.words core.now) (P.files files.new))) }
         ensures account { self.new.inner.account ≡ self.old.inner.account }
         ensures err { OnErr result (self.new ≡ self.old) }
+        ensures uses { Uses P.FilePort result files.old files.new }
     {
         self.items.reserve(4)?;
-        let done = self.files.rename(name, to);
-        let text = text_of(done)?;
-        note_command(&mut self.items, line, text, now);
-        self.take_command();
-        Ok(DONE)
+        match files.rename(name, to) {
+            Ok(()) => {
+                note_command(&mut self.items, line, None, now);
+                self.take_command();
+                Ok(DONE)
+            }
+            Err(PortFault::Refused(refusal)) => {
+                note_command(&mut self.items, line, Some(refusal_text(refusal)), now);
+                self.take_command();
+                Ok(DONE)
+            }
+            Err(PortFault::Disk) => Err(StepFault::Disk),
+            Err(PortFault::NoMemory) => Err(StepFault::NoMemory),
+        }
     }
 
     /// DELETE: a file goes.
     #[tactic(auto, using(user_model::proofs::CoreLaws::recut_same))]
-    pub(crate) fn delete<M: MemoryPort>(
+    pub(crate) fn delete<M: MemoryPort, P: FilePort>(
         &mut self,
         core: &M,
+        files: &mut P,
         line: LineText,
         name: FileName,
         now: u64,
-    ) -> Result<Step, NoMemory>
+    ) -> Result<Step, StepFault>
         requires on { self.old.on ≡ true }
         requires size { length (M.words core.now) ≡ 256 * self.old.inner.blocks }
+        requires port { P.Works files.old }
         requires fits { self.old.own < 2 ^ 64 - 1 }
-        ensures row { IfOk result (λ s. DidCommand line (Command.Delete name) s.ending s.clock
-            now self.old self.new (M.words core.now) (M.words core.now)) }
+        ensures row { IfOk result (λ s. DidCommand line (Command.Delete name) s.ending s.clock now self.old self.new
+            (stored (M.words core.now) (P.files files.old)) (stored (M.words core.now) (P.files files.new))) }
         ensures account { self.new.inner.account ≡ self.old.inner.account }
         ensures err { OnErr result (self.new ≡ self.old) }
+        ensures uses { Uses P.FilePort result files.old files.new }
     {
         self.items.reserve(4)?;
-        let done = self.files.delete(name);
-        let text = text_of(done)?;
-        note_command(&mut self.items, line, text, now);
-        self.take_command();
-        Ok(DONE)
+        match files.delete(name) {
+            Ok(()) => {
+                note_command(&mut self.items, line, None, now);
+                self.take_command();
+                Ok(DONE)
+            }
+            Err(PortFault::Refused(refusal)) => {
+                note_command(&mut self.items, line, Some(refusal_text(refusal)), now);
+                self.take_command();
+                Ok(DONE)
+            }
+            Err(PortFault::Disk) => Err(StepFault::Disk),
+            Err(PortFault::NoMemory) => Err(StepFault::NoMemory),
+        }
     }
 
     /// CHMODE: a file gets another mode.
     #[tactic(auto, using(user_model::proofs::CoreLaws::recut_same))]
-    pub(crate) fn chmode<M: MemoryPort>(
+    pub(crate) fn chmode<M: MemoryPort, P: FilePort>(
         &mut self,
         core: &M,
+        files: &mut P,
         line: LineText,
         name: FileName,
         mode: u8,
         now: u64,
-    ) -> Result<Step, NoMemory>
+    ) -> Result<Step, StepFault>
         requires on { self.old.on ≡ true }
         requires size { length (M.words core.now) ≡ 256 * self.old.inner.blocks }
+        requires port { P.Works files.old }
         requires fits { self.old.own < 2 ^ 64 - 1 }
-        ensures row { IfOk result (λ s. DidCommand line (Command.ChangeMode name mode) s.ending s.clock
-            now self.old self.new (M.words core.now) (M.words core.now)) }
+        ensures row { IfOk result (λ s. DidCommand line (Command.ChangeMode name mode) s.ending s.clock now self.old self.new
+            (stored (M.words core.now) (P.files files.old)) (stored (M.words core.now) (P.files files.new))) }
         ensures account { self.new.inner.account ≡ self.old.inner.account }
         ensures err { OnErr result (self.new ≡ self.old) }
+        ensures uses { Uses P.FilePort result files.old files.new }
     {
         self.items.reserve(4)?;
-        let done = self.files.chmode(name, mode);
-        let text = text_of(done)?;
-        note_command(&mut self.items, line, text, now);
-        self.take_command();
-        Ok(DONE)
+        match files.chmode(name, mode) {
+            Ok(()) => {
+                note_command(&mut self.items, line, None, now);
+                self.take_command();
+                Ok(DONE)
+            }
+            Err(PortFault::Refused(refusal)) => {
+                note_command(&mut self.items, line, Some(refusal_text(refusal)), now);
+                self.take_command();
+                Ok(DONE)
+            }
+            Err(PortFault::Disk) => Err(StepFault::Disk),
+            Err(PortFault::NoMemory) => Err(StepFault::NoMemory),
+        }
     }
 }

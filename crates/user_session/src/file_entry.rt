@@ -1,17 +1,15 @@
 //! Supervisor entries for a user's files.
 ghost use Rattle.std.specs.Prelude.{◌≡◌, ◌<◌, ◌≤◌, ◌+◌, ◌-◌, ◌*◌, ◌^◌, suc, true, false, Ok, Err, None, Some, length, IfOk, OnOk, OnErr, IsErrOf};
-ghost use Rattle.file_map.specs.Known.{known};
 ghost use Rattle.program_model.specs.declared.Call.{Call};
-ghost use Rattle.program_model.specs.Calls.{answered};
 ghost use Rattle.tia_entry.specs.Buffers.{HasBuffer};
 ghost use Rattle.user_session.specs.Turns.{Enters};
-ghost use Rattle.user_session.specs.Changes.{change_number};
+ghost use Rattle.user_session.specs.Stores.{stored, Over, Uses};
 
 use crate::session::Session;
 use crate::{Step, Turn};
 use cmd_files::mode_within;
 use cpu_regs::MemoryPort;
-use ctss_types::{Ending, FileName, NoMemory};
+use ctss_types::{Ending, FileName, StepFault};
 use file_map::{FilePort, PortFault};
 use file_model::refusal_number;
 use program_model::Call;
@@ -24,41 +22,24 @@ pub(crate) const WENT: Step = Step {
 };
 
 impl Session {
-    /// Answers a call with so many arguments that changes the directory: done, or the number of the refusal.
-    fn answer_change(&mut self, arguments: u8, done: Result<(), PortFault>) -> Result<(), NoMemory>
-        requires arguments { arguments ≤ 3 }
-        requires disk { ¬ IsErrOf done PortFault.Disk }
-        requires fits { self.old.own < 2 ^ 64 - 1 }
-        ensures ok { OnOk result (self.new ≡ record self.old {
-          inner = record self.old.inner { regs = answered self.old.inner.regs arguments (change_number done) None };
-          own = suc self.old.own;
-        }) }
-        ensures err { OnErr result (self.new ≡ self.old) }
-        ensures memory { OnErr result (IsErrOf done PortFault.NoMemory) }
-        ensures some { OnOk result (¬ IsErrOf done PortFault.NoMemory) }
-    {
-        match done {
-            Ok(()) => self.reply(arguments, 0, None),
-            Err(PortFault::Refused(refusal)) => {
-                self.reply(arguments, refusal_number(refusal), None);
-            }
-            Err(PortFault::Disk) => unreachable!(),
-            Err(PortFault::NoMemory) => return Err(NoMemory),
-        }
-        Ok(())
-    }
-
     /// FSTAT: 4 times a file's words, and its mode.
     #[tactic(auto, using(user_model::proofs::CoreLaws::recut_same))]
-    pub(crate) fn tell_file<M: MemoryPort>(&mut self, core: &M, name: FileName, now: u64) -> Turn
+    pub(crate) fn tell_file<M: MemoryPort, P: FilePort>(
+        &mut self,
+        core: &M,
+        files: &P,
+        name: FileName,
+        now: u64,
+    ) -> Turn
         requires on { self.old.on ≡ true }
         requires size { length (M.words core.now) ≡ 256 * self.old.inner.blocks }
+        requires port { P.Works files.now }
         requires fits { self.old.own < 2 ^ 64 - 1 }
-        ensures row { Enters (Ok (Call.FileStat name)) result
-            now self.old self.new (M.words core.now) (M.words core.now) }
+        ensures row { Enters (Ok (Call.FileStat name)) result now self.old self.new
+            (stored (M.words core.now) (P.files files.now)) (stored (M.words core.now) (P.files files.now)) }
         ensures account { self.new.inner.account ≡ self.old.inner.account }
     {
-        match self.files.stat(name) {
+        match files.stat(name) {
             Ok(stat) => {
                 self.reply(1, 0, Some(4 * stat.words + u64::from(stat.mode)));
                 Turn::Done(WENT)
@@ -72,28 +53,32 @@ impl Session {
     }
 
     /// RDFILE: words of a file go to a buffer.
-    #[tactic(auto, using(user_model::proofs::CoreLaws::recut_same, crate::proofs::Files::told_over))]
-    pub(crate) fn read_file<M: MemoryPort>(
+    #[tactic(auto, using(user_model::proofs::CoreLaws::recut_same))]
+    pub(crate) fn read_file<M: MemoryPort, P: FilePort>(
         &mut self,
         core: &mut M,
+        files: &mut P,
         name: FileName,
         at: u16,
         count: u16,
         place: u64,
         now: u64,
-    ) -> Result<Turn, NoMemory>
+    ) -> Result<Turn, StepFault>
         requires on { self.old.on ≡ true }
         requires size { length (M.words core.old) ≡ 256 * self.old.inner.blocks }
+        requires port { P.Works files.old }
         requires fits { self.old.own < 2 ^ 64 - 1 }
         requires within { HasBuffer (length (M.words core.old)) (Call.ReadFile name at count place) }
-        ensures row { IfOk result (λ turn. Enters (Ok (Call.ReadFile name at count place)) turn now self.old self.new
-            (M.words core.old) (M.words core.new)) }
+        ensures row { IfOk result (λ turn. Over (P.tells files.old)
+            (stored (M.words core.old) (P.files files.old)) (stored (M.words core.new) (P.files files.new))
+            (Enters (Ok (Call.ReadFile name at count place)) turn now self.old self.new)) }
         ensures account { self.new.inner.account ≡ self.old.inner.account }
         ensures err { OnErr result (self.new ≡ self.old) }
         ensures err_core { OnErr result (M.words core.new ≡ M.words core.old) }
         ensures keeps { M.Keeps core.old core.new }
+        ensures uses { Uses P.FilePort result files.old files.new }
     {
-        match self.files.read(name, place, count) {
+        match files.read(name, place, count) {
             Ok(words) => {
                 store_words(core, at, words.as_slice());
                 self.reply(3, 0, None);
@@ -103,99 +88,149 @@ impl Session {
                 self.reply(3, refusal_number(refusal), None);
                 Ok(Turn::Done(WENT))
             }
-            Err(PortFault::Disk) => unreachable!(),
-            Err(PortFault::NoMemory) => Err(NoMemory),
+            Err(PortFault::Disk) => Err(StepFault::Disk),
+            Err(PortFault::NoMemory) => Err(StepFault::NoMemory),
         }
     }
 
     /// WRFILE: a buffer goes to a file.
-    #[tactic(auto, using(user_model::proofs::CoreLaws::recut_same, crate::proofs::Files::leaves_told))]
-    pub(crate) fn write_file<M: MemoryPort>(
+    #[tactic(auto, using(user_model::proofs::CoreLaws::recut_same))]
+    pub(crate) fn write_file<M: MemoryPort, P: FilePort>(
         &mut self,
         core: &M,
+        files: &mut P,
         name: FileName,
         at: u16,
         count: u16,
         place: u64,
         now: u64,
-    ) -> Result<Turn, NoMemory>
+    ) -> Result<Turn, StepFault>
         requires on { self.old.on ≡ true }
         requires size { length (M.words core.now) ≡ 256 * self.old.inner.blocks }
+        requires port { P.Works files.old }
+        requires quota { P.quota files.old ≡ self.old.inner.account.tracks }
         requires fits { self.old.own < 2 ^ 64 - 1 }
         requires within { HasBuffer (length (M.words core.now)) (Call.WriteFile name at count place) }
-        ensures row { IfOk result (λ turn. Enters (Ok (Call.WriteFile name at count place)) turn now self.old self.new
-            (M.words core.now) (M.words core.now)) }
+        ensures row { IfOk result (λ turn. Over (P.tells files.old)
+            (stored (M.words core.now) (P.files files.old)) (stored (M.words core.now) (P.files files.new))
+            (Enters (Ok (Call.WriteFile name at count place)) turn now self.old self.new)) }
         ensures account { self.new.inner.account ≡ self.old.inner.account }
         ensures err { OnErr result (self.new ≡ self.old) }
+        ensures uses { Uses P.FilePort result files.old files.new }
     {
         let words = words_in(*self.items.allocator(), core, at, count)?;
-        let done = self.files.write(name, place, &words);
-        self.answer_change(3, done)?;
-        Ok(Turn::Done(WENT))
+        match files.write(name, place, &words) {
+            Ok(()) => {
+                self.reply(3, 0, None);
+                Ok(Turn::Done(WENT))
+            }
+            Err(PortFault::Refused(refusal)) => {
+                self.reply(3, refusal_number(refusal), None);
+                Ok(Turn::Done(WENT))
+            }
+            Err(PortFault::Disk) => Err(StepFault::Disk),
+            Err(PortFault::NoMemory) => Err(StepFault::NoMemory),
+        }
     }
 
     /// DELETE: a file goes.
     #[tactic(auto, using(user_model::proofs::CoreLaws::recut_same))]
-    pub(crate) fn delete_file<M: MemoryPort>(
+    pub(crate) fn delete_file<M: MemoryPort, P: FilePort>(
         &mut self,
         core: &M,
+        files: &mut P,
         name: FileName,
         now: u64,
-    ) -> Result<Turn, NoMemory>
+    ) -> Result<Turn, StepFault>
         requires on { self.old.on ≡ true }
         requires size { length (M.words core.now) ≡ 256 * self.old.inner.blocks }
+        requires port { P.Works files.old }
         requires fits { self.old.own < 2 ^ 64 - 1 }
-        ensures row { IfOk result (λ turn. Enters (Ok (Call.DeleteFile name)) turn
-            now self.old self.new (M.words core.now) (M.words core.now)) }
+        ensures row { IfOk result (λ turn. Enters (Ok (Call.DeleteFile name)) turn now self.old self.new
+            (stored (M.words core.now) (P.files files.old)) (stored (M.words core.now) (P.files files.new))) }
         ensures account { self.new.inner.account ≡ self.old.inner.account }
         ensures err { OnErr result (self.new ≡ self.old) }
+        ensures uses { Uses P.FilePort result files.old files.new }
     {
-        let done = self.files.delete(name);
-        self.answer_change(1, done)?;
-        Ok(Turn::Done(WENT))
+        match files.delete(name) {
+            Ok(()) => {
+                self.reply(1, 0, None);
+                Ok(Turn::Done(WENT))
+            }
+            Err(PortFault::Refused(refusal)) => {
+                self.reply(1, refusal_number(refusal), None);
+                Ok(Turn::Done(WENT))
+            }
+            Err(PortFault::Disk) => Err(StepFault::Disk),
+            Err(PortFault::NoMemory) => Err(StepFault::NoMemory),
+        }
     }
 
     /// RENAME: a file gets another name.
     #[tactic(auto, using(user_model::proofs::CoreLaws::recut_same))]
-    pub(crate) fn rename_file<M: MemoryPort>(
+    pub(crate) fn rename_file<M: MemoryPort, P: FilePort>(
         &mut self,
         core: &M,
+        files: &mut P,
         name: FileName,
         to: FileName,
         now: u64,
-    ) -> Result<Turn, NoMemory>
+    ) -> Result<Turn, StepFault>
         requires on { self.old.on ≡ true }
         requires size { length (M.words core.now) ≡ 256 * self.old.inner.blocks }
+        requires port { P.Works files.old }
         requires fits { self.old.own < 2 ^ 64 - 1 }
-        ensures row { IfOk result (λ turn. Enters (Ok (Call.RenameFile name to)) turn
-            now self.old self.new (M.words core.now) (M.words core.now)) }
+        ensures row { IfOk result (λ turn. Enters (Ok (Call.RenameFile name to)) turn now self.old self.new
+            (stored (M.words core.now) (P.files files.old)) (stored (M.words core.now) (P.files files.new))) }
         ensures account { self.new.inner.account ≡ self.old.inner.account }
         ensures err { OnErr result (self.new ≡ self.old) }
+        ensures uses { Uses P.FilePort result files.old files.new }
     {
-        let done = self.files.rename(name, to);
-        self.answer_change(2, done)?;
-        Ok(Turn::Done(WENT))
+        match files.rename(name, to) {
+            Ok(()) => {
+                self.reply(2, 0, None);
+                Ok(Turn::Done(WENT))
+            }
+            Err(PortFault::Refused(refusal)) => {
+                self.reply(2, refusal_number(refusal), None);
+                Ok(Turn::Done(WENT))
+            }
+            Err(PortFault::Disk) => Err(StepFault::Disk),
+            Err(PortFault::NoMemory) => Err(StepFault::NoMemory),
+        }
     }
 
     /// CHMODE: a file gets another mode.
     #[tactic(auto, using(user_model::proofs::CoreLaws::recut_same))]
-    pub(crate) fn change_mode<M: MemoryPort>(
+    pub(crate) fn change_mode<M: MemoryPort, P: FilePort>(
         &mut self,
         core: &M,
+        files: &mut P,
         name: FileName,
         mode: u16,
         now: u64,
-    ) -> Result<Turn, NoMemory>
+    ) -> Result<Turn, StepFault>
         requires on { self.old.on ≡ true }
         requires size { length (M.words core.now) ≡ 256 * self.old.inner.blocks }
+        requires port { P.Works files.old }
         requires fits { self.old.own < 2 ^ 64 - 1 }
-        ensures row { IfOk result (λ turn. Enters (Ok (Call.ChangeMode name mode)) turn
-            now self.old self.new (M.words core.now) (M.words core.now)) }
+        ensures row { IfOk result (λ turn. Enters (Ok (Call.ChangeMode name mode)) turn now self.old self.new
+            (stored (M.words core.now) (P.files files.old)) (stored (M.words core.now) (P.files files.new))) }
         ensures account { self.new.inner.account ≡ self.old.inner.account }
         ensures err { OnErr result (self.new ≡ self.old) }
+        ensures uses { Uses P.FilePort result files.old files.new }
     {
-        let done = self.files.chmode(name, mode_within(mode));
-        self.answer_change(2, done)?;
-        Ok(Turn::Done(WENT))
+        match files.chmode(name, mode_within(mode)) {
+            Ok(()) => {
+                self.reply(2, 0, None);
+                Ok(Turn::Done(WENT))
+            }
+            Err(PortFault::Refused(refusal)) => {
+                self.reply(2, refusal_number(refusal), None);
+                Ok(Turn::Done(WENT))
+            }
+            Err(PortFault::Disk) => Err(StepFault::Disk),
+            Err(PortFault::NoMemory) => Err(StepFault::NoMemory),
+        }
     }
 }

@@ -5,13 +5,14 @@ ghost use Rattle.time_sharing.specs.Rows.{out_all};
 ghost use Rattle.user_model.specs.Texts.{time_text, ready_text};
 ghost use Rattle.user_model.specs.declared.Command.{Command};
 ghost use Rattle.user_model.specs.Answers.{DidCommand, DidInput};
+ghost use Rattle.user_session.specs.Stores.{stored, Over, Uses};
 
 use crate::Step;
 use crate::file_command::{DONE, note_command, note_taken};
 use crate::session::{Session, note};
 use cmd_files::{line_words, refusal_text};
 use cpu_regs::MemoryPort;
-use ctss_types::{Ending, FileName, Item, LineText, NoMemory, Refusal};
+use ctss_types::{Ending, FileName, Item, LineText, Refusal, StepFault};
 use file_map::{FilePort, PortFault};
 use session_text::ready_text;
 
@@ -35,24 +36,29 @@ fn note_end(items: &mut Vec<Item>, line: LineText, text: Option<LineText>, n: u6
 
 impl Session {
     /// INPUT: an empty file is made, and the lines that come go to it.
-    #[tactic(auto, using(user_model::proofs::CoreLaws::recut_same, crate::proofs::Files::input_there, crate::proofs::Files::input_absent, crate::proofs::Files::leaves_told))]
-    pub(crate) fn begin_input<M: MemoryPort>(
+    #[tactic(auto, using(user_model::proofs::CoreLaws::recut_same, crate::proofs::Files::input_there, crate::proofs::Files::input_absent))]
+    pub(crate) fn begin_input<M: MemoryPort, P: FilePort>(
         &mut self,
         core: &M,
+        files: &mut P,
         line: LineText,
         name: FileName,
         now: u64,
-    ) -> Result<Step, NoMemory>
+    ) -> Result<Step, StepFault>
         requires on { self.old.on ≡ true }
         requires size { length (M.words core.now) ≡ 256 * self.old.inner.blocks }
+        requires port { P.Works files.old }
+        requires quota { P.quota files.old ≡ self.old.inner.account.tracks }
         requires fits { self.old.own < 2 ^ 64 - 1 }
-        ensures row { IfOk result (λ s. DidCommand line (Command.Input name) s.ending s.clock
-            now self.old self.new (M.words core.now) (M.words core.now)) }
+        ensures row { IfOk result (λ s. Over (P.tells files.old)
+            (stored (M.words core.now) (P.files files.old)) (stored (M.words core.now) (P.files files.new))
+            (DidCommand line (Command.Input name) s.ending s.clock now self.old self.new)) }
         ensures account { self.new.inner.account ≡ self.old.inner.account }
         ensures err { OnErr result (self.new ≡ self.old) }
+        ensures uses { Uses P.FilePort result files.old files.new }
     {
         self.items.reserve(4)?;
-        match self.files.stat(name) {
+        match files.stat(name) {
             Ok(_) => {
                 let text = refusal_text(Refusal::NameUsed);
                 note_command(&mut self.items, line, Some(text), now);
@@ -62,7 +68,7 @@ impl Session {
             Err(PortFault::Refused(_)) => {}
             Err(PortFault::Disk | PortFault::NoMemory) => unreachable!(),
         }
-        match self.files.put(name, &[]) {
+        match files.put(name, &[]) {
             Ok(()) => {
                 note_taken(&mut self.items, line, now);
                 self.input = Some(name);
@@ -74,8 +80,8 @@ impl Session {
                 self.take_command();
                 Ok(DONE)
             }
-            Err(PortFault::Disk) => unreachable!(),
-            Err(PortFault::NoMemory) => Err(NoMemory),
+            Err(PortFault::Disk) => Err(StepFault::Disk),
+            Err(PortFault::NoMemory) => Err(StepFault::NoMemory),
         }
     }
 
@@ -90,21 +96,26 @@ impl Session {
     }
 
     /// A line of INPUT: its 14 words go to the file. An empty line, or a refusal, ends it.
-    #[tactic(auto, using(user_model::proofs::CoreLaws::recut_same, crate::proofs::Files::leaves_told))]
-    pub(crate) fn type_line<M: MemoryPort>(
+    #[tactic(auto, using(user_model::proofs::CoreLaws::recut_same))]
+    pub(crate) fn type_line<M: MemoryPort, P: FilePort>(
         &mut self,
         core: &M,
+        files: &mut P,
         line: LineText,
         name: FileName,
         now: u64,
-    ) -> Result<Step, NoMemory>
+    ) -> Result<Step, StepFault>
         requires on { self.old.on ≡ true }
         requires size { length (M.words core.now) ≡ 256 * self.old.inner.blocks }
+        requires port { P.Works files.old }
+        requires quota { P.quota files.old ≡ self.old.inner.account.tracks }
         requires fits { self.old.own < 2 ^ 64 - 1 }
-        ensures row { IfOk result (λ s. DidInput line name s.ending s.clock
-            self.old self.new (M.words core.now) (M.words core.now)) }
+        ensures row { IfOk result (λ s. Over (P.tells files.old)
+            (stored (M.words core.now) (P.files files.old)) (stored (M.words core.now) (P.files files.new))
+            (DidInput line name s.ending s.clock self.old self.new)) }
         ensures account { self.new.inner.account ≡ self.old.inner.account }
         ensures err { OnErr result (self.new ≡ self.old) }
+        ensures uses { Uses P.FilePort result files.old files.new }
     {
         self.items.reserve(3)?;
         let n = self.own + 1 - self.before;
@@ -114,7 +125,7 @@ impl Session {
             self.take_typed();
             return Ok(TYPED);
         }
-        match self.files.append(name, &line_words(&line)) {
+        match files.append(name, &line_words(&line)) {
             Ok(()) => {
                 note(&mut self.items, Item::In(line));
                 self.take_typed();
@@ -126,8 +137,8 @@ impl Session {
                 self.take_typed();
                 Ok(TYPED)
             }
-            Err(PortFault::Disk) => unreachable!(),
-            Err(PortFault::NoMemory) => Err(NoMemory),
+            Err(PortFault::Disk) => Err(StepFault::Disk),
+            Err(PortFault::NoMemory) => Err(StepFault::NoMemory),
         }
     }
 }

@@ -1,16 +1,14 @@
 //! Steps of a program that works, and one step of a user.
-ghost use Rattle.std.specs.Prelude.{◌≡◌, ◌<◌, ◌≤◌, ◌+◌, ◌-◌, ◌*◌, ◌^◌, suc, true, false, None, Some, length, IfOk, OnOk, OnErr};
-ghost use Rattle.file_model.specs.Files.{got};
-ghost use Rattle.program_model.specs.Decks.{words_got};
-ghost use Rattle.program_model.specs.Fills.{fill_name, filled_core, filled_regs, StartsInCore};
+ghost use Rattle.std.specs.Prelude.{◌≡◌, ◌<◌, ◌≤◌, ◌+◌, ◌-◌, ◌*◌, ◌^◌, List, true, false, None, Some, length, IfOk, OnOk, OnErr};
+ghost use Rattle.program_model.specs.Fills.{StartsInCore};
 ghost use Rattle.program_model.specs.declared.Fill.{Fill};
 ghost use Rattle.user_model.specs.Session.{works_in};
 ghost use Rattle.user_model.specs.Runs.{HaveGone, IsAtWork};
 ghost use Rattle.ctss_types.specs.declared.file.CommonOp.{CommonOp};
-ghost use Rattle.machine_model.specs.Machine.{table};
-ghost use Rattle.user_model.specs.Programs.{step_asks};
-ghost use Rattle.user_model.specs.User.{in_core};
-ghost use Rattle.user_session.specs.Turns.{Asked, IsReplied, IsTurn};
+ghost use Rattle.ctss_types.specs.declared.file.FileBody.{FileBody};
+ghost use Rattle.user_session.specs.Changes.{IsStored, IsEntryFor};
+ghost use Rattle.user_session.specs.Stores.{stored, Over, OfSome, IsToMake, Uses, Reads};
+ghost use Rattle.user_session.specs.Turns.{IsReplied, IsTurn};
 ghost use Rattle.file_model.specs.Commons.{ReplyFits};
 
 use crate::entry::note_stop;
@@ -20,59 +18,61 @@ use cmd_program::fill;
 use command_table::command_of;
 use cpu_regs::MemoryPort;
 use cpu_step::{Stepped, run, step};
-use ctss_types::{Ending, NoMemory, Reply};
+use ctss_types::{Ending, Reply, StepFault};
+use file_map::FilePort;
 use program_model::Fill;
 use tia_entry::read_call;
 
 impl Session {
     /// A program is filled with the words of its file.
-    fn store<M: MemoryPort>(&mut self, core: &mut M, with: Fill) -> Result<(), NoMemory>
+    fn store<M: MemoryPort, P: FilePort>(
+        &mut self,
+        core: &mut M,
+        files: &mut P,
+        with: Fill,
+    ) -> Result<(), StepFault>
         requires start { StartsInCore with }
+        requires port { P.Works files.old }
         requires fits { self.old.own < 2 ^ 64 - 1 }
-        ensures ok { OnOk result (self.new ≡ record self.old {
-          inner = record self.old.inner {
-            regs = filled_regs with (words_got (got (fill_name with) self.old.inner.files)) self.old.inner.regs;
-            fill = None;
-          };
-          own = suc self.old.own;
-        }) }
-        ensures words { OnOk result (M.words core.new ≡ filled_core with (words_got (got (fill_name with)
-            self.old.inner.files)) (M.words core.old)) }
+        ensures ok { OnOk result (OfSome (P.tells files.old) (P.files files.old)
+            (λ fs. IsStored with fs self.old self.new (M.words core.old) (M.words core.new))) }
         ensures given { self.old.given ≡ 0 }
         ensures err { OnErr result (self.new ≡ self.old) }
         ensures err_core { OnErr result (M.words core.new ≡ M.words core.old) }
         ensures keeps { M.Keeps core.old core.new }
+        ensures reads { Reads P.FilePort result files.old files.new }
     {
-        match fill(&with, &mut self.regs, core, &mut self.files) {
-            Ok(()) => {
-                self.fill = None;
-                self.own += 1;
-                Ok(())
-            }
-            Err(_) => Err(NoMemory),
-        }
+        fill(&with, &mut self.regs, core, files)?;
+        self.fill = None;
+        self.own += 1;
+        Ok(())
     }
 
     /// A program that has its core is filled.
-    fn fill_core<M: MemoryPort>(
+    fn fill_core<M: MemoryPort, P: FilePort>(
         &mut self,
         core: &mut M,
+        files: &mut P,
         with: Fill,
         now: u64,
-    ) -> Result<Turn, NoMemory>
+    ) -> Result<Turn, StepFault>
         requires on { self.old.on ≡ true }
         requires works { works_in self.old.inner.state ≡ true }
         requires waits { self.old.inner.fill ≡ Some with }
         requires start { StartsInCore with }
         requires size { length (M.words core.old) ≡ 256 * self.old.inner.blocks }
+        requires port { P.Works files.old }
         requires fits { self.old.own < 2 ^ 64 - 1 }
-        ensures turn { IfOk result (λ turn. IsTurn turn now self.old self.new (M.words core.old) (M.words core.new)) }
+        ensures turn { IfOk result (λ turn. Over (P.tells files.old)
+            (stored (M.words core.old) (P.files files.old)) (stored (M.words core.new) (P.files files.new))
+            (IsTurn turn now self.old self.new)) }
         ensures account { self.new.inner.account ≡ self.old.inner.account }
         ensures err { OnErr result (self.new ≡ self.old) }
         ensures err_core { OnErr result (M.words core.new ≡ M.words core.old) }
         ensures keeps { M.Keeps core.old core.new }
+        ensures uses { Uses P.FilePort result files.old files.new }
     {
-        self.store(core, with)?;
+        self.store(core, files, with)?;
         Ok(Turn::Done(Step {
             ending: Ending::Went,
             clock: false,
@@ -80,18 +80,28 @@ impl Session {
     }
 
     /// The next instruction of a program.
-    fn run<M: MemoryPort>(&mut self, core: &mut M, now: u64) -> Result<Turn, NoMemory>
+    fn run<M: MemoryPort, P: FilePort>(
+        &mut self,
+        core: &mut M,
+        files: &mut P,
+        now: u64,
+    ) -> Result<Turn, StepFault>
         requires on { self.old.on ≡ true }
         requires works { works_in self.old.inner.state ≡ true }
         requires filled { self.old.inner.fill ≡ None }
         requires size { length (M.words core.old) ≡ 256 * self.old.inner.blocks }
+        requires port { P.Works files.old }
+        requires quota { P.quota files.old ≡ self.old.inner.account.tracks }
         requires fits { self.old.own < 2 ^ 64 - 1 }
         requires time { now < 2 ^ 35 }
-        ensures turn { IfOk result (λ turn. IsTurn turn now self.old self.new (M.words core.old) (M.words core.new)) }
+        ensures turn { IfOk result (λ turn. Over (P.tells files.old)
+            (stored (M.words core.old) (P.files files.old)) (stored (M.words core.new) (P.files files.new))
+            (IsTurn turn now self.old self.new)) }
         ensures account { self.new.inner.account ≡ self.old.inner.account }
         ensures err { OnErr result (self.new ≡ self.old) }
         ensures err_core { OnErr result (M.words core.new ≡ M.words core.old) }
         ensures keeps { M.Keeps core.old core.new }
+        ensures uses { Uses P.FilePort result files.old files.new }
     {
         self.items.reserve(2)?;
         let place = self.regs.ic;
@@ -104,7 +114,7 @@ impl Session {
                     clock: false,
                 }))
             }
-            Stepped::Entry(name) => self.enter(core, name, now),
+            Stepped::Entry(name) => self.enter(core, files, name, now),
             Stepped::Halt => {
                 note_stop(&mut self.items, b"HALT", place, n);
                 self.stop();
@@ -160,12 +170,13 @@ impl Session {
         requires on { self.old.on ≡ true }
         requires works { works_in self.old.inner.state ≡ true }
         requires filled { self.old.inner.fill ≡ None }
-        requires asks { (op : CommonOp) × (step_asks (table self.old.inner.regs
-            (M.words core.old)) (in_core (M.words core.old) self.old).inner ≡ Some op) }
+        requires asks { (op : CommonOp) × IsEntryFor op self.old (M.words core.old) }
         requires size { length (M.words core.old) ≡ 256 * self.old.inner.blocks }
         requires fits { self.old.own < 2 ^ 64 - 1 }
         requires told { ReplyFits reply.now }
-        ensures step { IsReplied result reply.now now self.old self.new (M.words core.old) (M.words core.new) }
+        ensures step { (op : CommonOp) (fs : List FileBody) → IsEntryFor op self.old (M.words core.old)
+            → IsReplied result op reply.now now self.old self.new (stored (M.words core.old) fs)
+            (stored (M.words core.new) fs) }
         ensures account { self.new.inner.account ≡ self.old.inner.account }
         ensures keeps { M.Keeps core.old core.new }
     {
@@ -181,22 +192,30 @@ impl Session {
     }
 
     /// A step that made a common operation goes on with its reply, and is done.
-    pub fn take_reply<M: MemoryPort>(
+    pub fn take_reply<M: MemoryPort, P: FilePort>(
         &mut self,
         core: &mut M,
+        files: &mut P,
         reply: &Reply,
         now: u64,
-    ) -> Result<Step, NoMemory>
-        requires asks { Asked self.old (M.words core.old) }
+    ) -> Result<Step, StepFault>
+        requires asks { (op : CommonOp) × IsToMake (P.tells files.old)
+            (stored (M.words core.old) (P.files files.old)) op self.old }
         requires size { length (M.words core.old) ≡ 256 * self.old.inner.blocks }
+        requires port { P.Works files.old }
+        requires quota { P.quota files.old ≡ self.old.inner.account.tracks }
         requires fits { self.old.own < 2 ^ 64 - 1 }
         requires told { ReplyFits reply.now }
-        ensures step { IfOk result (λ s. IsReplied s reply.now
-            now self.old self.new (M.words core.old) (M.words core.new)) }
+        ensures step { (op : CommonOp) → IsToMake (P.tells files.old)
+            (stored (M.words core.old) (P.files files.old)) op self.old
+            → IfOk result (λ s. Over (P.tells files.old)
+            (stored (M.words core.old) (P.files files.old)) (stored (M.words core.new) (P.files files.new))
+            (IsReplied s op reply.now now self.old self.new)) }
         ensures account { self.new.inner.account ≡ self.old.inner.account }
         ensures err { OnErr result (self.new ≡ self.old) }
         ensures err_core { OnErr result (M.words core.new ≡ M.words core.old) }
         ensures keeps { M.Keeps core.old core.new }
+        ensures uses { Uses P.FilePort result files.old files.new }
     {
         let _ = &self.account;
         if self.works() {
@@ -205,32 +224,42 @@ impl Session {
         let Some(line) = self.first_line() else {
             unreachable!()
         };
-        self.copy_replied(core, line, command_of(&line), reply, now)
+        self.copy_replied(core, files, line, command_of(&line), reply, now)
     }
 
     /// A step at a tick, if one can be done: the first unread line as a command or in INPUT, or the next step of a program.
     ///
-    /// The port is to the words of the user's program. Where a step gives the program another size or another program,
+    /// One port is to the words of the user's program, the other to its directory. Where a step gives the program another size or another program,
     /// `blocks` is the new size, and the caller cuts, extends or clears the words.
-    pub fn step<M: MemoryPort>(&mut self, core: &mut M, now: u64) -> Result<Turn, NoMemory>
+    pub fn step<M: MemoryPort, P: FilePort>(
+        &mut self,
+        core: &mut M,
+        files: &mut P,
+        now: u64,
+    ) -> Result<Turn, StepFault>
         requires size { length (M.words core.old) ≡ 256 * self.old.inner.blocks }
+        requires port { P.Works files.old }
+        requires quota { P.quota files.old ≡ self.old.inner.account.tracks }
         requires fits { self.old.own < 2 ^ 64 - 1 }
         requires time { now < 2 ^ 35 }
-        ensures turn { IfOk result (λ turn. IsTurn turn now self.old self.new (M.words core.old) (M.words core.new)) }
+        ensures turn { IfOk result (λ turn. Over (P.tells files.old)
+            (stored (M.words core.old) (P.files files.old)) (stored (M.words core.new) (P.files files.new))
+            (IsTurn turn now self.old self.new)) }
         ensures account { self.new.inner.account ≡ self.old.inner.account }
         ensures err { OnErr result (self.new ≡ self.old) }
         ensures err_core { OnErr result (M.words core.new ≡ M.words core.old) }
         ensures keeps { M.Keeps core.old core.new }
+        ensures uses { Uses P.FilePort result files.old files.new }
     {
         if !self.is_open() {
             return Ok(Turn::Waits);
         }
         if !self.works() {
-            return self.take_line(core, now);
+            return self.take_line(core, files, now);
         }
         match self.fill {
-            Some(fill) => self.fill_core(core, fill, now),
-            None => self.run(core, now),
+            Some(fill) => self.fill_core(core, files, fill, now),
+            None => self.run(core, files, now),
         }
     }
 }

@@ -1,9 +1,11 @@
 //! Commands on a program that stopped, and on saved programs.
-ghost use Rattle.std.specs.Prelude.{◌≡◌, ◌<◌, ◌≤◌, ◌-◌, ◌*◌, ◌^◌, true, length, IfOk, OnErr};
+ghost use Rattle.std.specs.Prelude.{◌≡◌, ◌<◌, ◌≤◌, ◌-◌, ◌*◌, ◌^◌, List, true, length, IfOk, OnErr};
 ghost use Rattle.file_model.specs.Files.{got};
 ghost use Rattle.program_model.specs.Saved.{saved_name, saved_of};
 ghost use Rattle.user_model.specs.Answers.{DidCommand};
 ghost use Rattle.user_model.specs.Commands.{is_dormant};
+ghost use Rattle.ctss_types.specs.declared.file.FileBody.{FileBody};
+ghost use Rattle.user_session.specs.Stores.{stored, Over, OfSome, Uses, Reads};
 ghost use Rattle.user_model.specs.declared.Command.{Command};
 
 use crate::Step;
@@ -11,7 +13,8 @@ use crate::file_command::{DONE, note_taken};
 use crate::session::Session;
 use cmd_program::{PrepareFault, prepare_saved, register_lines, saved_words, word_line};
 use cpu_regs::MemoryPort;
-use ctss_types::{Ending, FileName, LineText, NoMemory, name_word};
+use ctss_types::{Ending, FileName, LineText, NoMemory, StepFault, name_word};
+use file_map::FilePort;
 use program_model::{Fill, LoadFault, ProgramState};
 use session_text::load_text;
 use word36::Word;
@@ -45,8 +48,8 @@ impl Session {
         requires on { self.old.on ≡ true }
         requires size { length (M.words core.now) ≡ 256 * self.old.inner.blocks }
         requires fits { self.old.own < 2 ^ 64 - 1 }
-        ensures row { IfOk result (λ s. DidCommand line Command.Start s.ending s.clock
-            now self.old self.new (M.words core.now) (M.words core.now)) }
+        ensures row { (fs : List FileBody) → IfOk result (λ s. DidCommand line Command.Start s.ending s.clock
+            now self.old self.new (stored (M.words core.now) fs) (stored (M.words core.now) fs)) }
         ensures account { self.new.inner.account ≡ self.old.inner.account }
         ensures err { OnErr result (self.new ≡ self.old) }
     {
@@ -66,62 +69,76 @@ impl Session {
 
     /// SAVE: the program that stopped goes to a file.
     #[tactic(auto, using(user_model::proofs::CoreLaws::recut_same))]
-    pub(crate) fn save<M: MemoryPort>(
+    pub(crate) fn save<M: MemoryPort, P: FilePort>(
         &mut self,
         core: &M,
+        files: &mut P,
         line: LineText,
         name: Word,
         now: u64,
-    ) -> Result<Step, NoMemory>
+    ) -> Result<Step, StepFault>
         requires on { self.old.on ≡ true }
         requires size { length (M.words core.now) ≡ 256 * self.old.inner.blocks }
+        requires port { P.Works files.old }
+        requires quota { P.quota files.old ≡ self.old.inner.account.tracks }
         requires fits { self.old.own < 2 ^ 64 - 1 }
-        ensures row { IfOk result (λ s. DidCommand line (Command.Save name) s.ending s.clock
-            now self.old self.new (M.words core.now) (M.words core.now)) }
+        ensures row { IfOk result (λ s. Over (P.tells files.old)
+            (stored (M.words core.now) (P.files files.old)) (stored (M.words core.now) (P.files files.new))
+            (DidCommand line (Command.Save name) s.ending s.clock now self.old self.new)) }
         ensures account { self.new.inner.account ≡ self.old.inner.account }
         ensures err { OnErr result (self.new ≡ self.old) }
+        ensures uses { Uses P.FilePort result files.old files.new }
     {
         if !self.is_dormant() {
             self.say_why(line, b"NO PROGRAM", now)?;
             return Ok(DONE);
         }
         let words = saved_words(*self.items.allocator(), self.blocks, &self.regs, core)?;
-        self.put_file(core, line, saved_name(name), &words, now)
+        self.put_file(core, files, line, saved_name(name), &words, now)
     }
 
     /// The blocks of a saved program of this name, or why there is none.
-    fn read_saved(&mut self, name: Word) -> Result<Result<u8, LoadFault>, NoMemory>
-        ensures same { self.new ≡ self.old }
-        ensures told { IfOk result (λ told. told ≡ saved_of self.old.inner.account.blocks (got (saved_name name)
-            self.old.inner.files)) }
-        ensures blocks { IfOk result (λ told. IfOk told (λ b. b ≤ self.old.inner.account.blocks)) }
+    fn read_saved<P: FilePort>(
+        &self,
+        files: &mut P,
+        name: Word,
+    ) -> Result<Result<u8, LoadFault>, StepFault>
+        requires port { P.Works files.old }
+        ensures told { IfOk result (λ told. OfSome (P.tells files.old) (P.files files.old)
+            (λ fs. told ≡ saved_of self.now.inner.account.blocks (got (saved_name name) fs))) }
+        ensures blocks { IfOk result (λ told. IfOk told (λ b. b ≤ self.now.inner.account.blocks)) }
+        ensures reads { Reads P.FilePort result files.old files.new }
     {
-        match prepare_saved(saved_name(name), self.account.blocks, &mut self.files) {
+        match prepare_saved(saved_name(name), self.account.blocks, files) {
             Ok(blocks) => Ok(Ok(blocks)),
             Err(PrepareFault::Load(fault)) => Ok(Err(fault)),
-            Err(PrepareFault::Disk) => unreachable!(),
-            Err(PrepareFault::NoMemory) => Err(NoMemory),
+            Err(PrepareFault::Disk) => Err(StepFault::Disk),
+            Err(PrepareFault::NoMemory) => Err(StepFault::NoMemory),
         }
     }
 
     /// RESUME: a saved program takes the place of the one before, or why there is none.
     #[tactic(auto, using(user_model::proofs::CoreLaws::recut_same))]
-    pub(crate) fn resume<M: MemoryPort>(
+    pub(crate) fn resume<M: MemoryPort, P: FilePort>(
         &mut self,
         core: &M,
+        files: &mut P,
         line: LineText,
         name: Word,
         now: u64,
-    ) -> Result<Step, NoMemory>
+    ) -> Result<Step, StepFault>
         requires on { self.old.on ≡ true }
         requires size { length (M.words core.now) ≡ 256 * self.old.inner.blocks }
+        requires port { P.Works files.old }
         requires fits { self.old.own < 2 ^ 64 - 1 }
-        ensures row { IfOk result (λ s. DidCommand line (Command.Resume name) s.ending s.clock
-            now self.old self.new (M.words core.now) (M.words core.now)) }
+        ensures row { IfOk result (λ s. Over (P.tells files.old)
+            (stored (M.words core.now) (P.files files.old)) (stored (M.words core.now) (P.files files.new))
+            (DidCommand line (Command.Resume name) s.ending s.clock now self.old self.new)) }
         ensures account { self.new.inner.account ≡ self.old.inner.account }
         ensures err { OnErr result (self.new ≡ self.old) }
+        ensures uses { Uses P.FilePort result files.old files.new }
     {
-        match self.read_saved(name)? {
+        match self.read_saved(files, name)? {
             Ok(blocks) => {
                 let fill = Fill::Saved {
                     name: saved_name(name),
@@ -150,8 +167,8 @@ impl Session {
         requires on { self.old.on ≡ true }
         requires size { length (M.words core.now) ≡ 256 * self.old.inner.blocks }
         requires fits { self.old.own < 2 ^ 64 - 1 }
-        ensures row { IfOk result (λ s. DidCommand line Command.Registers s.ending s.clock
-            now self.old self.new (M.words core.now) (M.words core.now)) }
+        ensures row { (fs : List FileBody) → IfOk result (λ s. DidCommand line Command.Registers s.ending s.clock
+            now self.old self.new (stored (M.words core.now) fs) (stored (M.words core.now) fs)) }
         ensures account { self.new.inner.account ≡ self.old.inner.account }
         ensures err { OnErr result (self.new ≡ self.old) }
     {
@@ -176,8 +193,8 @@ impl Session {
         requires on { self.old.on ≡ true }
         requires size { length (M.words core.now) ≡ 256 * self.old.inner.blocks }
         requires fits { self.old.own < 2 ^ 64 - 1 }
-        ensures row { IfOk result (λ s. DidCommand line (Command.WordAt place) s.ending s.clock
-            now self.old self.new (M.words core.now) (M.words core.now)) }
+        ensures row { (fs : List FileBody) → IfOk result (λ s. DidCommand line (Command.WordAt place) s.ending s.clock
+            now self.old self.new (stored (M.words core.now) fs) (stored (M.words core.now) fs)) }
         ensures account { self.new.inner.account ≡ self.old.inner.account }
         ensures err { OnErr result (self.new ≡ self.old) }
     {

@@ -1,8 +1,4 @@
 ghost use Rattle.std.specs.Prelude.{◌≡◌, ◌<◌, ◌≤◌, ◌+◌, ◌-◌, ◌^◌, ◌++◌, ◌∷◌, ◌↔◌, [], ℕ, true, false, OnOk, OnErr, IfOk, vec_len, vec_capacity, slice_get};
-ghost use Rattle.file_model.specs.Files.{tracks_of};
-ghost use Rattle.file_map.specs.Directory.{NamesDiffer};
-ghost use Rattle.std.specs.List.{All};
-ghost use Rattle.ctss_types.specs.declared.file.FileBody.{FileBody};
 ghost use Rattle.user_model.specs.Session.{first_state, works_in};
 ghost use Rattle.user_model.specs.Inner.{blocks_of};
 ghost use Rattle.user_model.specs.User.{typed, opened, cut};
@@ -10,24 +6,20 @@ ghost use Rattle.time_sharing.specs.Machine.{Quit, Hang, Spent};
 ghost use Rattle.time_sharing.specs.Rows.{some_line};
 
 use cpu_regs::Regs;
-use ctss_types::{
-    Account, FileBody, FileList, FileName, Item, Items, LineText, NoMemory, Sequence,
-};
-use file_map::{FilePort, Files};
+use ctss_types::{Account, FileName, Item, Items, LineText, NoMemory, Sequence};
 use line_buffer::{Lines, Put};
 use program_model::{Fill, ProgramState};
 use session_text::{logged_in_text, ready_text};
 use std::alloc::Global;
 use std::marker::Model;
 
-/// A user's state: account, files, session, lines typed ahead, transcript, own steps, and its program but for the words
-/// of its core. It lasts over all sessions of the user.
+/// A user's state: account, session, lines typed ahead, transcript, own steps, and its program but for the words of its
+/// core. It lasts over all sessions of the user.
 ///
-/// In clauses it is the user of the definitions with no word in core; `in_core` adds the words.
+/// In clauses it is the user of the definitions with no word in core and no file; `in_store` adds them.
 #[derive(Drop)]
 pub struct Session {
     pub(crate) account: Account,
-    pub(crate) files: Files,
     pub(crate) on: bool,
     pub(crate) lines: Lines,
     pub(crate) items: Vec<Item>,
@@ -51,7 +43,7 @@ impl Model for Session {
     ghost view = { λ s. record {
       inner = record {
         account = s.account;
-        files = s.files.files;
+        files = [];
         state = s.state;
         regs = s.regs;
         blocks = s.blocks;
@@ -69,7 +61,7 @@ impl Model for Session {
     } };
 
     ghost invariant = { λ s. (s.before ≤ s.own) × (s.regs.ic < 2 ^ 15) × (s.blocks ≤ s.account.blocks)
-        × (s.account.blocks ≤ 128) × IfSome s.fill (λ f. StartsInCore f) × (s.files.quota ≡ s.account.tracks) };
+        × (s.account.blocks ≤ 128) × IfSome s.fill (λ f. StartsInCore f) };
 }
 
 /// An item more, where there is room.
@@ -93,19 +85,14 @@ pub(crate) fn works_in(state: ProgramState) -> bool
 }
 
 impl Session {
-    /// A user of this account with its first files, that never logged in. It takes the room for the lines typed ahead.
-    pub fn new(alloc: Global, account: &Account, files: &[FileBody]) -> Result<Session, NoMemory>
+    /// A user of this account, that never logged in. It takes the room for the lines typed ahead.
+    pub fn new(alloc: Global, account: &Account) -> Result<Session, NoMemory>
         requires blocks { account.now.blocks ≤ 128 }
-        requires names { NamesDiffer files.now }
-        requires modes { All (λ (f : FileBody). f.mode ≤ 3) files.now }
-        requires tracks { tracks_of files.now ≤ account.now.tracks }
-        ensures { IfOk result (λ s. s ≡ first_state account.now files.now) }
+        ensures { IfOk result (λ s. s ≡ first_state account.now []) }
     {
         let lines = Lines::new(alloc)?;
-        let files = Files::with_first(alloc, account.tracks, files)?;
         Ok(Session {
             account: *account,
-            files,
             on: false,
             lines,
             items: Vec::new(alloc),
@@ -149,6 +136,13 @@ impl Session {
         self.blocks
     }
 
+    /// The quota of tracks that its directory must have.
+    pub fn tracks(&self) -> u16
+        ensures { result ≡ self.now.inner.account.tracks }
+    {
+        self.account.tracks
+    }
+
     /// How many lines were typed in the session.
     pub fn line_count(&self) -> u16
         ensures { result ≡ self.now.lines }
@@ -177,13 +171,11 @@ impl Session {
         &self.items
     }
 
-    /// The whole transcript and the files.
-    pub fn into_parts(self) -> Result<(Items, FileList), NoMemory>
-        ensures items { IfOk result (λ p. p.0 ≡ self.transcript) }
-        ensures files { IfOk result (λ p. p.1 ≡ self.inner.files) }
+    /// The whole transcript.
+    pub fn into_items(self) -> Items
+        ensures { result ≡ self.transcript }
     {
-        let files = self.files.into_list()?;
-        Ok((Sequence::from_vec(self.items), files))
+        Sequence::from_vec(self.items)
     }
 
     /// A line is typed.
@@ -232,7 +224,7 @@ impl Session {
         Ok(())
     }
 
-    /// A hang: the session is over. Its program and its files of mode 0 go.
+    /// A hang: the session is over, and its program goes. Its files of mode 0 go too, but they lie outside.
     #[tactic(auto, unfolding(user_model::specs::User::cut))]
     pub fn hang(&mut self) -> Result<(), NoMemory>
         ensures ok { OnOk result (self.new ≡ cut Hang self.old) }
@@ -240,7 +232,6 @@ impl Session {
     {
         self.items.reserve(1)?;
         note(&mut self.items, Item::Hang);
-        self.files.drop_temporary();
         self.on = false;
         self.lines.drop_all();
         self.state = ProgramState::Dead;

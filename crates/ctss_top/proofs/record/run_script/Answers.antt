@@ -1,44 +1,49 @@
-use Rattle.std.proofs.Common.{◌≡◌, ◌≤◌, ℕ, List, ◌∷◌, map, refl, sym, ap, subst, ◌∙◌}
-use Rattle.std.specs.Prelude.{⊤}
-use Rattle.ctss_types.specs.declared.script.Account.{Account}
-use Rattle.time_sharing.specs.System.{Entry}
-use Rattle.drum_slots.specs.Keys.{quota_of}
-use Rattle.system_model.specs.Run.{Run}
-use Rattle.supervisor.specs.Counts.{IsCounted}
-use Rattle.supervisor.specs.Steps.{Ends}
-use Rattle.ctss_top.specs.Played.{Reaches, IsPart, Stops}
-use Rattle.live_run.proofs.Starts.{quota_most}
-use Rattle.ctss_top.proofs.Playing.{has_cores, no_entry}
-use Rattle.system_model.specs.Record.{start_of}
+use Rattle.std.proofs.Common.{◌≤◌, Bool, List, length, is_some, sym, ap, subst, ◌∙◌}
+use Rattle.std.specs.List.{All}
+use Rattle.image_map.specs.State.{DrumState}
+use Rattle.image_map.specs.Image.{state}
+use Rattle.plan_model.specs.Loads.{no_places}
+use Rattle.directories.specs.Memory.{state_of}
+use Rattle.user_cores.specs.Backing.{back_of}
+use Rattle.user_cores.specs.Works.{cores_in}
+use Rattle.time_sharing.specs.System.{Timed}
+use Rattle.system_model.specs.Run.{given_all}
+use Rattle.supervisor.specs.Seen.{Bare, run_with}
+use Rattle.supervisor.specs.Whole.{whole_of, Agrees}
+use Rattle.live_run.specs.Starts.{Begins}
+use Rattle.ctss_top.proofs.Runs.{HasConsole, all_seated, start_is, agrees_at_start, no_entry}
 use Rattle.ctss_top.proofs.record.run_script.Goals as goal
 
-pub run_to-ended-requires-clause-most : goal.run_to-ended-requires-clause-most
-run_to-ended-requires-clause-most g c = λ u.
-    let are : c.in_ok-slots.slots.quotas.items ≡ 0 ∷ map (λ (a : Account). a.blocks) c.args.script.now.accounts =
-    c.in_ok-slots.ensures.quotas ∙ ap (λ (ns : List ℕ). 0 ∷ ns) (c.deref.ensures.value ∙ c.in_ok-quotas.ensures ∙ ap (map (λ (a : Account). a.blocks)) c.as_slice-accounts.ensures) in
-    subst (λ (ns : List ℕ). quota_of ns u ≤ 128) (sym are) (quota_most c.args.script.now.accounts c.requires.range.blocks u)
+pub give_all-requires : goal.give_all-requires
+give_all-requires g c =
+    record {
+      seats =
+          all_seated c.as_slice.result.now c.into_parts-supervisor.result.0
+          (subst (λ (b : Bare). 32 ≤ length b.consoles) (sym c.into_parts-supervisor.ensures.supervisor) c.in_ok-run.ensures.ready.seats)
+          (subst (All HasConsole) (sym c.as_slice.ensures) c.requires.range.seats);
+    }
 
-pub run_to-ended-requires-clause-cores : goal.run_to-ended-requires-clause-cores
-run_to-ended-requires-clause-cores g c =
-    let are : c.in_ok-slots.slots.quotas.items ≡ 0 ∷ map (λ (a : Account). a.blocks) c.args.script.now.accounts =
-    c.in_ok-slots.ensures.quotas ∙ ap (λ (ns : List ℕ). 0 ∷ ns) (c.deref.ensures.value ∙ c.in_ok-quotas.ensures ∙ ap (map (λ (a : Account). a.blocks)) c.as_slice-accounts.ensures) in
-    has_cores c.args.script.now c.in_ok-supervisor.supervisor c.in_ok-slots.slots.quotas.items (map (λ (a : Account). a.blocks) c.args.script.now.accounts) c.in_ok-supervisor.ensures.run are refl
+pub advance-ended-requires-clause-agrees : goal.advance-ended-requires-clause-agrees
+advance-ended-requires-clause-agrees g c =
+    agrees_at_start c.as_slice.result.now c.into_parts-supervisor.result.0 c.give_all.new.supervisor (back_of (cores_in (state c.into_parts-supervisor.result.1.cores)) (state_of c.into_parts-supervisor.result.1.files))
+    (c.in_ok-give_all.ensures.given no_places)
+    (subst (λ (b : Bare). Agrees (whole_of b (back_of (cores_in (state c.into_parts-supervisor.result.1.cores)) (state_of c.into_parts-supervisor.result.1.files)))) (sym c.into_parts-supervisor.ensures.supervisor)
+    (subst (λ x. Agrees (whole_of c.in_ok-run.run'.supervisor (back_of (cores_in (state x.cores)) (state_of x.files)))) (sym c.into_parts-supervisor.ensures.cores) c.in_ok-run.ensures.ready.agrees))
 
-pub returns-clause-ended : goal.returns-clause-ended
-returns-clause-ended g c = λ told.
-    let new = c.run_to-ended.new.supervisor in
-    let had = g.D.Medium.calls c.args.drum.now in
-    let has = g.D.Medium.calls c.run_to-ended.new.drum in
-    let end = c.args.script.now.end in
-    subst (λ (texts : List (List ℕ)). Ends c.run_to-ended.result (Reaches end (start_of c.args.script.now) texts new) (IsPart end (start_of c.args.script.now) texts new) (Stops end (start_of c.args.script.now) texts new had has))
-    c.in_ok-supervisor.ensures.texts
-    (subst (λ (r : Run). Ends c.run_to-ended.result (Reaches end r c.in_ok-supervisor.supervisor.texts new) (IsPart end r c.in_ok-supervisor.supervisor.texts new) (Stops end r c.in_ok-supervisor.supervisor.texts new had has))
-    c.in_ok-supervisor.ensures.run (c.run_to-ended.ensures.ended told))
-
-pub returns-clause-counted : goal.returns-clause-counted
-returns-clause-counted g c =
-    let new = c.run_to-ended.new.supervisor in
-    let had = g.D.Medium.calls c.args.drum.now in
-    let has = g.D.Medium.calls c.run_to-ended.new.drum in
-    subst (λ (es : List Entry). Ends c.run_to-ended.result (IsCounted es new.entries had has) (IsCounted es new.entries had has) ⊤)
-    (no_entry c.args.script.now c.in_ok-supervisor.supervisor c.in_ok-supervisor.ensures.run) c.run_to-ended.ensures.counted
+pub returns-clause-ran : goal.returns-clause-ran
+returns-clause-ran g c =
+    let told : Bool = is_some (g.D.Medium.rows c.args.drum.now) in
+    let back = back_of (cores_in (state c.into_parts-supervisor.result.1.cores)) (state_of c.into_parts-supervisor.result.1.files) in
+    let begins : Begins c.args.script.now told (whole_of c.into_parts-supervisor.result.0 back) =
+    subst (λ (b : Bare). Begins c.args.script.now told (whole_of b back)) (sym c.into_parts-supervisor.ensures.supervisor)
+    (subst (λ x. Begins c.args.script.now told (whole_of c.in_ok-run.run'.supervisor (back_of (cores_in (state x.cores)) (state_of x.files)))) (sym c.into_parts-supervisor.ensures.cores) c.in_ok-run.ensures.begins) in
+    record {
+      start = whole_of c.give_all.new.supervisor back;
+      begun = start_is c.args.script.now c.into_parts-supervisor.result.0 c.give_all.new.supervisor back (λ places. c.in_ok-give_all.ensures.given places ∙ ap (λ (es : List Timed). given_all es (run_with places c.into_parts-supervisor.result.0)) c.as_slice.ensures) begins.run;
+      entries = no_entry c.as_slice.result.now c.into_parts-supervisor.result.0 c.give_all.new.supervisor (c.in_ok-give_all.ensures.given no_places) begins.entries;
+      texts = c.in_ok-give_all.ensures.texts ∙ begins.texts;
+      tells_are = begins.tells;
+      calls_are = ap (λ x. (state x.cores).drum.calls) c.into_parts-supervisor.ensures.cores ∙ ap (λ (d : DrumState). d.calls) c.in_ok-run.ensures.seen;
+      faults_are = ap (λ x. (state x.cores).drum.faults) c.into_parts-supervisor.ensures.cores ∙ ap (λ (d : DrumState). d.faults) c.in_ok-run.ensures.seen;
+      ran = c.advance-ended.ensures.advances;
+    }

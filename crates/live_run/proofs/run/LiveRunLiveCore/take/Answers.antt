@@ -3,7 +3,7 @@ use Rattle.live_run.proofs.run.LiveRunLiveCore.take.Goals as goal
 
 pub returns-clause-ok : goal.returns-clause-ok
 returns-clause-ok g c =
-    takes_if c.take.result c.args.event c.args.self.now.supervisor c.take.new.self _ _ (g.met.C.Cores.stays c.args.self.now.cores) c.take.ensures.ok c.take.ensures.texts c.take.ensures.same
+    takes_if c.take.result c.args.event c.args.self.now.supervisor c.take.new.self _ _ (g.met.C.Backing.stays c.args.self.now.cores) c.take.ensures.ok c.take.ensures.texts c.take.ensures.same
 
 pub returns-clause-sound : goal.returns-clause-sound
 returns-clause-sound g c =

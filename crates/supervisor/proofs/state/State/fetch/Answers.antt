@@ -8,7 +8,7 @@ use Rattle.system_model.specs.Cases.{user_at, brought}
 use Rattle.system_model.specs.Joined.{moved, at_places}
 use Rattle.system_model.proofs.JoinedLaws.{brought_is}
 use Rattle.system_model.proofs.SwapLaws.{moved_moves}
-use Rattle.user_cores.specs.Memory.{Memory}
+use Rattle.user_cores.specs.Backing.{Held}
 use Rattle.user_cores.specs.Swaps.{IsCutOff}
 use Rattle.supervisor.specs.Seen.{seen}
 use Rattle.supervisor.specs.Steps.{IsTied}
@@ -20,8 +20,8 @@ use Rattle.supervisor.proofs.state.State.fetch.Goals as goal
 
 pub returns-in-Ok-clause-ended : goal.returns-in-Ok-clause-ended
 returns-in-Ok-clause-ended g c =
-    let had : Memory = (g.C.Cores.state c.args.cores.now).memory in
-    let has : Memory = (g.C.Cores.state c.load.new.self).memory in
+    let had : Held = (g.C.Backing.state c.args.cores.now).held in
+    let has : Held = (g.C.Backing.state c.load.new.self).held in
     let old : Run = seen had.places c.args.self.now in
     let users : List User = c.args.self.now.sessions.items in
     let u : ℕ = c.args.v.user in
@@ -41,32 +41,32 @@ returns-in-Ok-clause-ended g c =
     ∙ brought_is u c.in-Ok.plan.dumped c.in-Ok.plan.read c.in-Ok.plan.fresh old dumped read fresh in
     does_brought c.args.v old (seen has.places c.bring.new.self) had has c.requires.user
     (ap not (ap (is_loaded had.places u) (sym size) ∙ c.requires.absent))
-    is (λ t x pos. c.in-Ok.ensures.loads.done.words x pos) c.in-Ok.ensures.loads.done.tells
+    is (λ t x pos. c.in-Ok.ensures.loads.done.stores x pos) c.in-Ok.ensures.loads.done.tells
 
 pub returns-in-Ok-clause-tied : goal.returns-in-Ok-clause-tied
 returns-in-Ok-clause-tied g c =
-    let had : Memory = (g.C.Cores.state c.args.cores.now).memory in
-    let has : Memory = (g.C.Cores.state c.load.new.self).memory in
+    let had : Held = (g.C.Backing.state c.args.cores.now).held in
+    let has : Held = (g.C.Backing.state c.load.new.self).held in
     let are : c.bring.new.self.sessions.items ≡ c.args.self.now.sessions.items = ap (λ (r : Run). r.system.users) (c.bring.ensures had.places) ∙ moved_users c.of-user.result c.in-Ok.plan.dumped c.in-Ok.plan.read c.in-Ok.plan.fresh _ in
-    subst (λ (us : List User). IsTied us has) (sym are) (tied_same c.args.self.now.sessions.items 0 had has (resized_none 0 had has c.load.ensures.loads.sizes c.load.ensures.loads.quotas) c.requires.held.tied)
+    subst (λ (us : List User). IsTied us has) (sym are) (tied_same c.args.self.now.sessions.items 0 had has (resized_none 0 had has c.load.ensures.loads.sizes c.load.ensures.loads.rules) c.requires.held.tied)
 
 pub returns-in-Err-clause-ended : goal.returns-in-Err-clause-ended
 returns-in-Err-clause-ended g c =
-    let had : Memory = (g.C.Cores.state c.args.cores.now).memory in
+    let had : Held = (g.C.Backing.state c.args.cores.now).held in
     let users : List User = c.args.self.now.sessions.items in
     let u : ℕ = c.args.v.user in
     let sizes : size_of had.sizes c.of-user.result ≡ blocks_of (user_at u users).inner =
     ap (size_of had.sizes) c.of-user.ensures ∙ c.requires.held.tied.has u c.requires.user.some c.requires.user.within in (
       search rules,
       search rules,
-      subst (λ (most : ℕ). IsCutOff (g.C.Cores.state c.args.cores.now).calls (g.C.Cores.state c.load.new.self).calls most)
+      subst (λ (most : ℕ). IsCutOff (g.C.Backing.state c.args.cores.now).calls (g.C.Backing.state c.load.new.self).calls most)
           (λ j. count_below (sizes j) (is_dumped had.places (c.of-user.ensures j)) + count_below (sizes j) (is_read had.places (c.of-user.ensures j)))
           c.in-Err.ensures.loads.fails.calls,
     )
 
 pub returns-in-Ok-clause-counted : goal.returns-in-Ok-clause-counted
 returns-in-Ok-clause-counted g c =
-    let had : Memory = (g.C.Cores.state c.args.cores.now).memory in
+    let had : Held = (g.C.Backing.state c.args.cores.now).held in
     let old : Run = seen had.places c.args.self.now in
     let u : ℕ = c.of-user.result in
     let dumped : ℕ = c.in-Ok.plan.dumped in

@@ -4,8 +4,8 @@ use Rattle.user_model.specs.User.{User}
 use Rattle.plan_model.specs.Loads.{Places}
 use Rattle.system_model.specs.Run.{Run, taken}
 use Rattle.system_model.proofs.SwapLaws.{taken_moves}
-use Rattle.system_model.specs.Joined.{with_core}
-use Rattle.user_cores.specs.Memory.{Memory}
+use Rattle.system_model.specs.Joined.{hung_up}
+use Rattle.user_cores.specs.Backing.{Held}
 use Rattle.supervisor.specs.Seen.{seen}
 use Rattle.supervisor.specs.Steps.{IsTied, IsResized}
 use Rattle.supervisor.proofs.Counting.{counted_same, counted_none}
@@ -16,27 +16,27 @@ use Rattle.supervisor.proofs.state.State.hear.Goals as goal
 
 pub returns-in_err-cut-clause-err : goal.returns-in_err-cut-clause-err
 returns-in_err-cut-clause-err g c =
-    on_err c.from_residual.result _ (stays_same _ _ _ _ (c.in_err-cut.ensures.err (g.C.Cores.state c.args.cores.now).memory.places) (λ t u h. refl) refl)
+    on_err c.from_residual.result _ (stays_same _ _ _ _ (c.in_err-cut.ensures.err (g.C.Backing.state c.args.cores.now).held.places) (λ t u h. refl) refl)
 
 pub returns-in_err-cut-clause-tied : goal.returns-in_err-cut-clause-tied
 returns-in_err-cut-clause-tied g c =
-    let had : Memory = (g.C.Cores.state c.args.cores.now).memory in
+    let had : Held = (g.C.Backing.state c.args.cores.now).held in
     subst (λ (us : List User). IsTied us had) (ap (λ (r : Run). r.system.users) (sym (c.in_err-cut.ensures.err had.places))) c.requires.held.tied
 
 pub returns-clause-ok : goal.returns-clause-ok
 returns-clause-ok g c =
-    let had : Memory = (g.C.Cores.state c.args.cores.now).memory in
-    let has : Memory = (g.C.Cores.state c.give_up.new.cores).memory in
+    let had : Held = (g.C.Backing.state c.args.cores.now).held in
+    let has : Held = (g.C.Backing.state c.give_up.new.cores).held in
     let left = c.give_up.ensures.left in
     does_taken c.args.e (seen had.places c.args.self.now) (seen has.places c.take_event.new.self) had has c.requires.seat c.requires.held.sound
     (ap (λ (p : Places). seen p c.take_event.new.self) left.places ∙ c.in_ok-cut.ensures.ok had.places)
-    (λ t u h. left.words t u h ∙ ap (λ (k : ℕ). with_core k [] had.words u) c.in_ok-cut.ensures.cut)
+    (λ t u h. left.stores t u h ∙ ap (λ (k : ℕ). hung_up k had.stores u) c.in_ok-cut.ensures.cut)
     left.tells
 
 pub returns-clause-tied : goal.returns-clause-tied
 returns-clause-tied g c =
-    let had : Memory = (g.C.Cores.state c.args.cores.now).memory in
-    let has : Memory = (g.C.Cores.state c.give_up.new.cores).memory in
+    let had : Held = (g.C.Backing.state c.args.cores.now).held in
+    let has : Held = (g.C.Backing.state c.give_up.new.cores).held in
     let left = c.give_up.ensures.left in
     let is = ap (λ (p : Places). seen p c.take_event.new.self) left.places ∙ c.in_ok-cut.ensures.ok had.places in
     subst (λ (us : List User). IsTied us has) (ap (λ (r : Run). r.system.users) (sym is))
@@ -44,13 +44,13 @@ returns-clause-tied g c =
 
 pub returns-in_err-cut-clause-counted : goal.returns-in_err-cut-clause-counted
 returns-in_err-cut-clause-counted g c =
-    let had : Memory = (g.C.Cores.state c.args.cores.now).memory in
+    let had : Held = (g.C.Backing.state c.args.cores.now).held in
     counted_same _ _ _ _ (ap (λ (r : Run). r.system.entries) (c.in_err-cut.ensures.err had.places)) refl
 
 pub returns-clause-counted : goal.returns-clause-counted
 returns-clause-counted g c =
-    let had : Memory = (g.C.Cores.state c.args.cores.now).memory in
-    let has : Memory = (g.C.Cores.state c.give_up.new.cores).memory in
+    let had : Held = (g.C.Backing.state c.args.cores.now).held in
+    let has : Held = (g.C.Backing.state c.give_up.new.cores).held in
     let old : Run = seen had.places c.args.self.now in
     counted_none old (taken c.args.e old) (seen has.places c.take_event.new.self) _ _
     (ap (λ (p : Places). seen p c.take_event.new.self) c.give_up.ensures.left.places ∙ c.in_ok-cut.ensures.ok had.places)

@@ -1,7 +1,7 @@
 use Rattle.std.proofs.Common.{List, refl, sym, ap, subst, ◌∙◌}
 use Rattle.user_model.specs.User.{User}
 use Rattle.system_model.specs.Run.{Run}
-use Rattle.user_cores.specs.Memory.{Memory}
+use Rattle.user_cores.specs.Backing.{Held}
 use Rattle.supervisor.specs.Seen.{seen}
 use Rattle.supervisor.specs.Steps.{IsTied}
 use Rattle.image_map.proofs.Calls.{on_err}
@@ -17,31 +17,31 @@ use Rattle.supervisor.proofs.state.State.preempt.Goals as goal
 
 pub returns-in_err-end_service-clause-err : goal.returns-in_err-end_service-clause-err
 returns-in_err-end_service-clause-err g c =
-    on_err c.from_residual.result _ (stays_same _ _ _ _ (c.in_err-end_service.ensures.err (g.C.Cores.state c.args.cores.now).memory.places) (λ t u h. refl) refl)
+    on_err c.from_residual.result _ (stays_same _ _ _ _ (c.in_err-end_service.ensures.err (g.C.Backing.state c.args.cores.now).held.places) (λ t u h. refl) refl)
 
 pub returns-in_err-end_service-clause-tied : goal.returns-in_err-end_service-clause-tied
 returns-in_err-end_service-clause-tied g c =
-    let had : Memory = (g.C.Cores.state c.args.cores.now).memory in
+    let had : Held = (g.C.Backing.state c.args.cores.now).held in
     subst (λ (us : List User). IsTied us had) (ap (λ (r : Run). r.system.users) (sym (c.in_err-end_service.ensures.err had.places))) c.requires.held.tied
 
 pub returns-clause-ok : goal.returns-clause-ok
 returns-clause-ok g c =
-    let had : Memory = (g.C.Cores.state c.args.cores.now).memory in
+    let had : Held = (g.C.Backing.state c.args.cores.now).held in
     let old : Run = seen had.places c.args.self.now in
     does_apart (served Preempt c.args.v) old (seen had.places c.end_service.new.self) had had (c.in_ok-end_service.ensures.ok had.places) (λ w. served_joined w Preempt c.args.v old) (λ t u h. refl) refl
 
 pub returns-clause-tied : goal.returns-clause-tied
 returns-clause-tied g c =
-    let had : Memory = (g.C.Cores.state c.args.cores.now).memory in
+    let had : Held = (g.C.Backing.state c.args.cores.now).held in
     subst (λ (us : List User). IsTied us had) (sym (ap (λ (r : Run). r.system.users) (c.in_ok-end_service.ensures.ok had.places) ∙ served_users Preempt c.args.v (seen had.places c.args.self.now))) c.requires.held.tied
 
 pub returns-in_err-end_service-clause-counted : goal.returns-in_err-end_service-clause-counted
 returns-in_err-end_service-clause-counted g c =
-    let had : Memory = (g.C.Cores.state c.args.cores.now).memory in
+    let had : Held = (g.C.Backing.state c.args.cores.now).held in
     counted_same _ _ _ _ (ap (λ (r : Run). r.system.entries) (c.in_err-end_service.ensures.err had.places)) refl
 
 pub returns-clause-counted : goal.returns-clause-counted
 returns-clause-counted g c =
-    let had : Memory = (g.C.Cores.state c.args.cores.now).memory in
+    let had : Held = (g.C.Backing.state c.args.cores.now).held in
     let old : Run = seen had.places c.args.self.now in
     counted_none old (served Preempt c.args.v old) (seen had.places c.end_service.new.self) _ _ (c.in_ok-end_service.ensures.ok had.places) (served_moves Preempt c.args.v old) refl

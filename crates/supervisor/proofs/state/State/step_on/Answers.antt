@@ -1,5 +1,5 @@
 use Rattle.system_model.specs.Run.{Run}
-use Rattle.user_cores.specs.Memory.{Memory}
+use Rattle.user_cores.specs.Backing.{Held}
 use Rattle.supervisor.specs.Seen.{seen}
 use Rattle.supervisor.proofs.Doing.{does_none}
 use Rattle.supervisor.proofs.Serving.{ends_map}
@@ -7,10 +7,11 @@ use Rattle.supervisor.proofs.state.State.step_on.Goals as goal
 
 pub returns-clause-ended : goal.returns-clause-ended
 returns-clause-ended g c =
-    let had : Memory = (g.C.Cores.state c.args.cores.now).memory in
-    let has : Memory = (g.C.Cores.state c.go_on.new.cores).memory in
+    let had : Held = (g.C.Backing.state c.args.cores.now).held in
+    let has : Held = (g.C.Backing.state c.go_on.new.cores).held in
     let old : Run = seen had.places c.args.self.now in
-    ends_map c.go_on.result _ _ _ _ _ _
+    ends_map c.go_on.result _ _ _ _ _ _ _ _
     (does_none c.args.limit old (seen has.places c.go_on.new.self) had has c.requires.quiet) (λ h. h)
     (λ f. (f.0, f.1, record { next = record { quiet = c.requires.quiet; due = f.2.due }; cut = f.2.cut }))
+    (λ h. h)
     c.go_on.ensures.ended

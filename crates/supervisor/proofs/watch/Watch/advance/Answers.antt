@@ -3,12 +3,12 @@ use Rattle.console_texts.specs.Parts.{Shown}
 use Rattle.system_model.specs.Run.{Run}
 use Rattle.system_model.specs.Sound.{Sound}
 use Rattle.plan_model.specs.Loads.{no_places}
-use Rattle.user_cores.specs.Memory.{Memory}
+use Rattle.user_cores.specs.Backing.{Held}
 use Rattle.supervisor.specs.Seen.{seen}
 use Rattle.supervisor.proofs.Counting.{counted_same, counted_on}
 use Rattle.supervisor.proofs.Doing.{does_fall}
-use Rattle.supervisor.proofs.Serving.{fails_map, fails_both, fails_to}
-use Rattle.supervisor.proofs.Running.{sound_places, leads_on, part_on, part_none, run_done, held_on, part_shown, sound_still, stops_at_load}
+use Rattle.supervisor.proofs.Serving.{fails_map, fails_both, fails_to, rose_on}
+use Rattle.supervisor.proofs.Running.{sound_places, leads_on, part_on, part_none, run_done, held_on, part_shown, sound_files, sound_still, stops_at_load}
 use Rattle.supervisor.specs.Steps.{IsHeld}
 use Rattle.supervisor.specs.Shows.{texts_of, rows_of}
 use Rattle.supervisor.proofs.Passing.{pass_leads, pass_part, pass_falls, pass_held, pass_told, pass_texts_lead, pass_texts_part, pass_grow}
@@ -21,9 +21,9 @@ pub steps-init : goal.steps-init
 steps-init g c =
     record {
       leads = λ told. refl;
-      part = part_none c.args.limit (seen (g.C.Cores.state c.args.cores.now).memory.places c.args.self.now.state) (g.C.Cores.state c.args.cores.now).memory;
+      part = part_none c.args.limit (seen (g.C.Backing.state c.args.cores.now).held.places c.args.self.now.state) (g.C.Backing.state c.args.cores.now).held;
       lead = λ told. refl;
-      texts = texts_none c.args.limit (seen (g.C.Cores.state c.args.cores.now).memory.places c.args.self.now.state) (g.C.Cores.state c.args.cores.now).memory (texts_of c.args.self.now.state.sessions.items c.args.self.now.texts);
+      texts = texts_none c.args.limit (seen (g.C.Backing.state c.args.cores.now).held.places c.args.self.now.state) (g.C.Backing.state c.args.cores.now).held (texts_of c.args.self.now.state.sessions.items c.args.self.now.texts);
       grows = grow_none _;
       seats = refl;
       told = c.requires.told;
@@ -33,29 +33,30 @@ steps-init g c =
       works = c.requires.works;
       keeps = search rules;
       kept = omega arith;
+      disk = omega arith;
     }
 
 pub run-requires-clause-held : goal.run-requires-clause-held
 run-requires-clause-held g c =
-    let had : Memory = (g.C.Cores.state c.steps.cores).memory in
-    let mid : Memory = (g.C.Cores.state c.step.new.cores).memory in
+    let had : Held = (g.C.Backing.state c.steps.cores).held in
+    let mid : Held = (g.C.Backing.state c.step.new.cores).held in
     held_on c.args.limit (seen had.places c.steps.self.state) (seen mid.places c.step.new.self.state) had mid c.steps-test.true c.steps.invariant.held c.in-Ok.ensures.tied c.in-Ok.ensures.ended
 
 pub steps-smaller : goal.steps-smaller
 steps-smaller g c =
-    let had : Memory = (g.C.Cores.state c.steps.cores).memory in
-    let mid : Memory = (g.C.Cores.state c.step.new.cores).memory in
-    let has : Memory = (g.C.Cores.state c.run.new.cores).memory in
+    let had : Held = (g.C.Backing.state c.steps.cores).held in
+    let mid : Held = (g.C.Backing.state c.step.new.cores).held in
+    let has : Held = (g.C.Backing.state c.run.new.cores).held in
     let down = does_fall c.args.limit (seen had.places c.steps.self.state) (seen mid.places c.step.new.self.state) had mid c.steps-test.true c.in-Ok.ensures.ended in
     let more = pass_falls c.args.limit (seen mid.places c.step.new.self.state) (seen has.places c.run.new.self) mid has c.run.ensures.many in
     omega (arith, down, more)
 
 pub steps-preserved : goal.steps-preserved
 steps-preserved g c =
-    let first : Memory = (g.C.Cores.state c.args.cores.now).memory in
-    let had : Memory = (g.C.Cores.state c.steps.cores).memory in
-    let mid : Memory = (g.C.Cores.state c.step.new.cores).memory in
-    let has : Memory = (g.C.Cores.state c.run.new.cores).memory in
+    let first : Held = (g.C.Backing.state c.args.cores.now).held in
+    let had : Held = (g.C.Backing.state c.steps.cores).held in
+    let mid : Held = (g.C.Backing.state c.step.new.cores).held in
+    let has : Held = (g.C.Backing.state c.run.new.cores).held in
     let start : Run = seen first.places c.args.self.now.state in
     let old : Run = seen had.places c.steps.self.state in
     let next : Run = seen mid.places c.step.new.self.state in
@@ -83,67 +84,74 @@ steps-preserved g c =
       tells = many.tells ∙ tells;
       held = pass_held c.args.limit next new mid has many held c.run.ensures.tied;
       works = c.run.ensures.works;
-      keeps = g.met.C.Cores.goes_on _ _ _ (g.met.C.Cores.goes_on _ _ _ inv.keeps c.in-Ok.ensures.keeps) c.run.ensures.keeps;
+      keeps = g.met.C.Backing.goes_on _ _ _ (g.met.C.Backing.goes_on _ _ _ inv.keeps c.in-Ok.ensures.keeps) c.run.ensures.keeps;
       kept = let a = inv.kept in let b = c.in-Ok.ensures.kept in let e = c.run.ensures.faults in omega (arith, a, b, e);
+      disk = let a = inv.disk in let b = c.in-Ok.ensures.disk in let e = c.run.ensures.disk in omega (arith, a, b, e);
     }
 
 pub returns-in-Err-clause-ended : goal.returns-in-Err-clause-ended
 returns-in-Err-clause-ended g c =
-    let first : Memory = (g.C.Cores.state c.args.cores.now).memory in
-    let had : Memory = (g.C.Cores.state c.steps.cores).memory in
-    let has : Memory = (g.C.Cores.state c.step.new.cores).memory in
+    let first : Held = (g.C.Backing.state c.args.cores.now).held in
+    let had : Held = (g.C.Backing.state c.steps.cores).held in
+    let has : Held = (g.C.Backing.state c.step.new.cores).held in
     let start : Run = seen first.places c.args.self.now.state in
     let old : Run = seen had.places c.steps.self.state in
     let new : Run = seen has.places c.step.new.self.state in
     let inv = c.steps.invariant in
-    fails_map c.in-Err.fault _ _ _ _
+    fails_map c.in-Err.fault _ _ _ _ _ _
     (λ s. part_shown c.args.limit start old (seen no_places c.step.new.self.state) first had inv.part (ap (λ (r : Run). r.system.entries) s.run) (ap (λ (r : Run). r.system.users) s.run) (ap (λ (r : Run). r.system.clock) s.run))
     (λ f. (stops_at_load c.args.limit start old (seen no_places c.step.new.self.state) first had _ _ _ inv.part c.steps-test.true inv.held.sound inv.counted f.2 (ap (λ (r : Run). r.system.entries) f.0) (ap (λ (r : Run). r.system.users) f.0) (ap (λ (r : Run). r.system.clock) f.0), search rules))
+    (λ d. (
+      part_shown c.args.limit start old (seen no_places c.step.new.self.state) first had inv.part (ap (λ (r : Run). r.system.entries) d.0) (ap (λ (r : Run). r.system.users) d.0) (ap (λ (r : Run). r.system.clock) d.0),
+      rose_on _ _ _ inv.disk d.1,
+    ))
     c.in-Err.ensures.ended
 
 pub returns-clause-ended : goal.returns-clause-ended
 returns-clause-ended g c =
-    let first : Memory = (g.C.Cores.state c.args.cores.now).memory in
-    let had : Memory = (g.C.Cores.state c.steps.cores).memory in
+    let first : Held = (g.C.Backing.state c.args.cores.now).held in
+    let had : Held = (g.C.Backing.state c.steps.cores).held in
     run_done c.args.limit (seen first.places c.args.self.now.state) (seen had.places c.steps.self.state) first had (omega (arith, c.steps-test.false)) c.steps.invariant.leads
 
 pub returns-in-Err-clause-sound : goal.returns-in-Err-clause-sound
 returns-in-Err-clause-sound g c =
-    let had : Memory = (g.C.Cores.state c.steps.cores).memory in
-    let has : Memory = (g.C.Cores.state c.step.new.cores).memory in
+    let had : Held = (g.C.Backing.state c.steps.cores).held in
+    let has : Held = (g.C.Backing.state c.step.new.cores).held in
     let old : Run = seen had.places c.steps.self.state in
     let new : Run = seen has.places c.step.new.self.state in
     let held = c.steps.invariant.held in
-    fails_to c.in-Err.fault _ _ _
+    fails_to c.in-Err.fault _ _ _ _
     (λ s. sound_places no_places new (sound_still old new had has held.sound s))
     (λ f. subst Sound (sym f.0) (sound_places no_places old held.sound))
+    (λ d. sound_places no_places new (subst Sound (sym d.0) (sound_files new.system.files old held.sound)))
     c.in-Err.ensures.ended
 
 pub returns-clause-sound : goal.returns-clause-sound
-returns-clause-sound g c = sound_places no_places (seen (g.C.Cores.state c.steps.cores).memory.places c.steps.self.state) c.steps.invariant.held.sound
+returns-clause-sound g c = sound_places no_places (seen (g.C.Backing.state c.steps.cores).held.places c.steps.self.state) c.steps.invariant.held.sound
 
 pub returns-in-Err-clause-counted : goal.returns-in-Err-clause-counted
 returns-in-Err-clause-counted g c =
-    fails_map c.in-Err.fault _ _ _ _ (λ m. counted_on _ _ _ _ _ _ c.steps.invariant.counted m) (λ u. u) c.in-Err.ensures.counted
+    fails_map c.in-Err.fault _ _ _ _ _ _ (λ m. counted_on _ _ _ _ _ _ c.steps.invariant.counted m) (λ u. u) (λ m. counted_on _ _ _ _ _ _ c.steps.invariant.counted m) c.in-Err.ensures.counted
 
 pub returns-clause-texts : goal.returns-clause-texts
 returns-clause-texts g c =
-    let first : Memory = (g.C.Cores.state c.args.cores.now).memory in
-    let had : Memory = (g.C.Cores.state c.steps.cores).memory in
+    let first : Held = (g.C.Backing.state c.args.cores.now).held in
+    let had : Held = (g.C.Backing.state c.steps.cores).held in
     texts_end c.args.limit (seen first.places c.args.self.now.state) (seen had.places c.steps.self.state) first had _ _ (omega (arith, c.steps-test.false)) c.steps.invariant.lead
 
 pub returns-in-Err-clause-texts : goal.returns-in-Err-clause-texts
 returns-in-Err-clause-texts g c =
-    let first : Memory = (g.C.Cores.state c.args.cores.now).memory in
-    let had : Memory = (g.C.Cores.state c.steps.cores).memory in
-    let has : Memory = (g.C.Cores.state c.step.new.cores).memory in
+    let first : Held = (g.C.Backing.state c.args.cores.now).held in
+    let had : Held = (g.C.Backing.state c.steps.cores).held in
+    let has : Held = (g.C.Backing.state c.step.new.cores).held in
     let start : Run = seen first.places c.args.self.now.state in
     let old : Run = seen had.places c.steps.self.state in
     let new : Run = seen has.places c.step.new.self.state in
     let inv = c.steps.invariant in
-    fails_both c.in-Err.fault _ _ _ _ _ _
+    fails_both c.in-Err.fault _ _ _ _ _ _ _ _ _
     (λ s same. texts_stop c.args.limit start old (seen no_places c.step.new.self.state) first had _ _ _ inv.texts same (ap (λ (r : Run). r.system.entries) s.run) (ap (λ (r : Run). r.system.users) s.run) (ap (λ (r : Run). r.system.clock) s.run))
     (λ f same. texts_stop c.args.limit start old (seen no_places c.step.new.self.state) first had _ _ _ inv.texts same (ap (λ (r : Run). r.system.entries) f.0) (ap (λ (r : Run). r.system.users) f.0) (ap (λ (r : Run). r.system.clock) f.0))
+    (λ d same. texts_stop c.args.limit start old (seen no_places c.step.new.self.state) first had _ _ _ inv.texts same (ap (λ (r : Run). r.system.entries) d.0) (ap (λ (r : Run). r.system.users) d.0) (ap (λ (r : Run). r.system.clock) d.0))
     c.in-Err.ensures.ended c.in-Err.ensures.texts
 
 pub returns-in-Err-clause-grows : goal.returns-in-Err-clause-grows
@@ -151,4 +159,4 @@ returns-in-Err-clause-grows g c = grow_trans _ _ _ c.steps.invariant.grows (same
 
 pub returns-in-Err-clause-seats : goal.returns-in-Err-clause-seats
 returns-in-Err-clause-seats g c =
-    fails_to c.in-Err.fault _ _ _ (λ s. ap (λ (r : Run). length r.system.consoles) s.run) (λ f. ap (λ (r : Run). length r.system.consoles) f.0) c.in-Err.ensures.ended ∙ c.steps.invariant.seats
+    fails_to c.in-Err.fault _ _ _ _ (λ s. ap (λ (r : Run). length r.system.consoles) s.run) (λ f. ap (λ (r : Run). length r.system.consoles) f.0) (λ d. ap (λ (r : Run). length r.system.consoles) d.0) c.in-Err.ensures.ended ∙ c.steps.invariant.seats

@@ -2,7 +2,7 @@ use Rattle.std.proofs.Common.{◌≡◌, ◌≤◌, ℕ, List, length, map, sym,
 use Rattle.time_sharing.specs.System.{Console}
 use Rattle.user_model.specs.User.{User}
 use Rattle.system_model.specs.Run.{Run}
-use Rattle.user_cores.specs.Memory.{Memory}
+use Rattle.user_cores.specs.Backing.{Held}
 use Rattle.console_texts.specs.Parts.{Shown, text_of}
 use Rattle.console_texts.specs.Following.{AreShown, followed}
 use Rattle.console_texts.specs.Watching.{transcripts_of, refused_by}
@@ -14,15 +14,15 @@ use Rattle.supervisor.proofs.watch.Watch.hear.Goals as goal
 
 pub lengths-after-requires : goal.lengths-after-requires
 lengths-after-requires g c =
-    let had : Memory = (g.C.Cores.state c.args.cores.now).memory in
-    let has : Memory = (g.C.Cores.state c.step_at.new.cores).memory in
+    let had : Held = (g.C.Backing.state c.args.cores.now).held in
+    let has : Held = (g.C.Backing.state c.step_at.new.cores).held in
     subst (λ (us : List User). length us ≤ 30) (sym c.as_slice-2.ensures.value)
     (does_sound c.args.limit (seen had.places c.args.self.now.state) (seen has.places c.step_at.new.self) had has c.requires.before c.requires.held.sound c.in-Ok.ensures.ended).few
 
 pub returns-clause-texts : goal.returns-clause-texts
 returns-clause-texts g c =
-    let had : Memory = (g.C.Cores.state c.args.cores.now).memory in
-    let has : Memory = (g.C.Cores.state c.step_at.new.cores).memory in
+    let had : Held = (g.C.Backing.state c.args.cores.now).held in
+    let has : Held = (g.C.Backing.state c.step_at.new.cores).held in
     let old : Run = seen had.places c.args.self.now.state in
     let new : Run = seen has.places c.step_at.new.self in
     let rows : List Shown = rows_of c.args.self.now.texts in
@@ -43,8 +43,8 @@ returns-clause-texts g c =
 
 pub returns-clause-told : goal.returns-clause-told
 returns-clause-told g c =
-    let had : Memory = (g.C.Cores.state c.args.cores.now).memory in
-    let has : Memory = (g.C.Cores.state c.step_at.new.cores).memory in
+    let had : Held = (g.C.Backing.state c.args.cores.now).held in
+    let has : Held = (g.C.Backing.state c.step_at.new.cores).held in
     let old : Run = seen had.places c.args.self.now.state in
     let new : Run = seen has.places c.step_at.new.self in
     let rows : List Shown = rows_of c.args.self.now.texts in

@@ -4,25 +4,30 @@ use Rattle.user_model.specs.User.{User}
 use Rattle.machine_model.specs.Machine.{table}
 use Rattle.user_model.proofs.CoreLaws.{recut_same}
 use Rattle.user_model.proofs.RowTurns.{row_turn}
+use Rattle.user_session.proofs.Enters.{over_these}
 use Rattle.user_session.proofs.Turns.{stopped_so, refused_so}
 use Rattle.user_session.proofs.session.Session.run.Goals as goal
 
 pub returns-in-Went-clause-turn : goal.returns-in-Went-clause-turn
 returns-in-Went-clause-turn g c =
-    row_turn c.args.now c.args.self.now _ _ _ _ _ _ c.requires.works c.requires.filled (ap (λ (u : User). table u.inner.regs (g.M.MemoryPort.words c.args.core.now)) (sym c.self.view_is) ∙ sym c.in-Went.ensures.table) c.requires.on (ap (λ (u : User). u.given) (sym c.self.view_is))
-    (refl, search rules, recut_same _ _ (g.met.M.MemoryPort.same_size _ _ c.in-Went.ensures.keeps ∙ c.requires.size), refl, refl)
+    let are = g.met.P.FilePort.is_known c.args.files.now c.requires.port in
+    over_these _ _ _ _ are are (row_turn c.args.now c.args.self.now _ _ _ _ _ _ c.requires.works c.requires.filled (ap (λ (u : User). table u.inner.regs (g.M.MemoryPort.words c.args.core.now)) (sym c.self.view_is) ∙ sym c.in-Went.ensures.table) c.requires.on (ap (λ (u : User). u.given) (sym c.self.view_is))
+    (refl, search rules, recut_same _ _ (g.met.M.MemoryPort.same_size _ _ c.in-Went.ensures.keeps ∙ c.requires.size), refl, refl, refl))
 
 pub returns-in-Halt-clause-turn : goal.returns-in-Halt-clause-turn
 returns-in-Halt-clause-turn g c =
-    row_turn c.args.now c.args.self.now _ _ _ _ _ _ c.requires.works c.requires.filled (ap (λ (u : User). table u.inner.regs (g.M.MemoryPort.words c.args.core.now)) (sym c.self.view_is) ∙ sym c.in-Halt.ensures.table) c.requires.on (ap (λ (u : User). u.given) (sym c.self.view_is))
-    (refl, stopped_so _ _ _ _ _ _ _ c.self.view_is c.in_ok-reserve.ensures.items c.note_stop.ensures c.stop.ensures, recut_same _ _ (g.met.M.MemoryPort.same_size _ _ c.in-Halt.ensures.keeps ∙ c.requires.size), refl, refl)
+    let are = g.met.P.FilePort.is_known c.args.files.now c.requires.port in
+    over_these _ _ _ _ are are (row_turn c.args.now c.args.self.now _ _ _ _ _ _ c.requires.works c.requires.filled (ap (λ (u : User). table u.inner.regs (g.M.MemoryPort.words c.args.core.now)) (sym c.self.view_is) ∙ sym c.in-Halt.ensures.table) c.requires.on (ap (λ (u : User). u.given) (sym c.self.view_is))
+    (refl, stopped_so _ _ _ _ _ _ _ c.self.view_is c.in_ok-reserve.ensures.items c.note_stop.ensures c.stop.ensures, recut_same _ _ (g.met.M.MemoryPort.same_size _ _ c.in-Halt.ensures.keeps ∙ c.requires.size), refl, refl, refl))
 
 pub returns-in-Illegal-clause-turn : goal.returns-in-Illegal-clause-turn
 returns-in-Illegal-clause-turn g c =
-    row_turn c.args.now c.args.self.now _ _ _ _ _ _ c.requires.works c.requires.filled (ap (λ (u : User). table u.inner.regs (g.M.MemoryPort.words c.args.core.now)) (sym c.self.view_is) ∙ sym c.in-Illegal.ensures.table) c.requires.on (ap (λ (u : User). u.given) (sym c.self.view_is))
-    (refl, refused_so _ _ _ _ _ _ _ c.self.view_is c.in_ok-reserve.ensures.items c.note_stop-in-Illegal.ensures c.stop-in-Illegal.ensures c.in-Illegal.ensures.stays.0, ap (recut c.args.self.now.inner.blocks) c.in-Illegal.ensures.stays.1 ∙ recut_same _ _ c.requires.size, refl, refl)
+    let are = g.met.P.FilePort.is_known c.args.files.now c.requires.port in
+    over_these _ _ _ _ are are (row_turn c.args.now c.args.self.now _ _ _ _ _ _ c.requires.works c.requires.filled (ap (λ (u : User). table u.inner.regs (g.M.MemoryPort.words c.args.core.now)) (sym c.self.view_is) ∙ sym c.in-Illegal.ensures.table) c.requires.on (ap (λ (u : User). u.given) (sym c.self.view_is))
+    (refl, refused_so _ _ _ _ _ _ _ c.self.view_is c.in_ok-reserve.ensures.items c.note_stop-in-Illegal.ensures c.stop-in-Illegal.ensures c.in-Illegal.ensures.stays.0, ap (recut c.args.self.now.inner.blocks) c.in-Illegal.ensures.stays.1 ∙ recut_same _ _ c.requires.size, refl, refl, refl))
 
 pub returns-in-Outside-clause-turn : goal.returns-in-Outside-clause-turn
 returns-in-Outside-clause-turn g c =
-    row_turn c.args.now c.args.self.now _ _ _ _ _ _ c.requires.works c.requires.filled (ap (λ (u : User). table u.inner.regs (g.M.MemoryPort.words c.args.core.now)) (sym c.self.view_is) ∙ sym c.in-Outside.ensures.table) c.requires.on (ap (λ (u : User). u.given) (sym c.self.view_is))
-    (refl, refused_so _ _ _ _ _ _ _ c.self.view_is c.in_ok-reserve.ensures.items c.note_stop-in-Outside.ensures c.stop-in-Outside.ensures c.in-Outside.ensures.stays.0, ap (recut c.args.self.now.inner.blocks) c.in-Outside.ensures.stays.1 ∙ recut_same _ _ c.requires.size, refl, refl)
+    let are = g.met.P.FilePort.is_known c.args.files.now c.requires.port in
+    over_these _ _ _ _ are are (row_turn c.args.now c.args.self.now _ _ _ _ _ _ c.requires.works c.requires.filled (ap (λ (u : User). table u.inner.regs (g.M.MemoryPort.words c.args.core.now)) (sym c.self.view_is) ∙ sym c.in-Outside.ensures.table) c.requires.on (ap (λ (u : User). u.given) (sym c.self.view_is))
+    (refl, refused_so _ _ _ _ _ _ _ c.self.view_is c.in_ok-reserve.ensures.items c.note_stop-in-Outside.ensures c.stop-in-Outside.ensures c.in-Outside.ensures.stays.0, ap (recut c.args.self.now.inner.blocks) c.in-Outside.ensures.stays.1 ∙ recut_same _ _ c.requires.size, refl, refl, refl))

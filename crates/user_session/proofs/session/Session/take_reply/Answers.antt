@@ -1,44 +1,60 @@
-use Rattle.std.proofs.Common.{◌≡◌, ◌∙◌, Bool, true, false, None, Some, sym, ap}
-use Rattle.time_sharing.specs.Machine.{Line, CommonOp}
+use Rattle.std.proofs.Common.{◌≡◌, ◌∙◌, Bool, true, false, List, [], None, Some, sym, ap}
+use Rattle.ctss_types.specs.declared.file.FileBody.{FileBody}
+use Rattle.ctss_types.specs.declared.file.CommonOp.{CommonOp}
+use Rattle.machine_model.specs.Machine.{table}
 use Rattle.user_model.specs.declared.Command.{Command}
 use Rattle.user_model.specs.Commands.{command_asks}
 use Rattle.user_model.specs.Session.{works_in}
-use Rattle.user_model.specs.User.{User, in_core}
+use Rattle.user_model.specs.User.{User, in_store}
 use Rattle.user_model.proofs.AskedLaws.{asked_on, asked_filled, asked_first, asked_command}
-use Rattle.user_session.specs.declared.turn.Step.{Step}
-use Rattle.user_session.specs.Changes.{TookReply}
-use Rattle.user_session.specs.Turns.{IsReplied}
-use Rattle.user_session.proofs.Enters.{command_took, ok_map}
+use Rattle.user_session.specs.Stores.{stored}
+use Rattle.user_session.proofs.Enters.{asks_anywhere, command_took, ok_map}
 use Rattle.user_session.proofs.session.Session.take_reply.Goals as goal
 
 pub entry_replied-requires-clause-on : goal.entry_replied-requires-clause-on
-entry_replied-requires-clause-on g c = asked_on (in_core (g.M.MemoryPort.words c.args.core.now) c.args.self.now) c.requires.asks.can
+entry_replied-requires-clause-on g c = asked_on (in_store (stored (g.M.MemoryPort.words c.args.core.now) c.requires.asks.1.had) c.args.self.now) c.requires.asks.1.can
 
 pub entry_replied-requires-clause-filled : goal.entry_replied-requires-clause-filled
 entry_replied-requires-clause-filled g c =
-    (asked_filled (in_core (g.M.MemoryPort.words c.args.core.now) c.args.self.now) c.requires.asks.op (sym c.works.ensures ∙ c.if-works.true) c.requires.asks.makes).0
+    (asked_filled (in_store (stored (g.M.MemoryPort.words c.args.core.now) c.requires.asks.1.had) c.args.self.now) c.requires.asks.0 (sym c.works.ensures ∙ c.if-works.true) c.requires.asks.1.makes).0
 
 pub entry_replied-requires-clause-asks : goal.entry_replied-requires-clause-asks
 entry_replied-requires-clause-asks g c =
-    (c.requires.asks.op, (asked_filled (in_core (g.M.MemoryPort.words c.args.core.now) c.args.self.now) c.requires.asks.op (sym c.works.ensures ∙ c.if-works.true) c.requires.asks.makes).1)
+    let core = g.M.MemoryPort.words c.args.core.now in (
+      c.requires.asks.0,
+      asks_anywhere (table c.args.self.now.inner.regs core) core [] c.requires.asks.1.had c.args.self.now
+          ∙ (asked_filled (in_store (stored core c.requires.asks.1.had) c.args.self.now) c.requires.asks.0 (sym c.works.ensures ∙ c.if-works.true) c.requires.asks.1.makes).1,
+    )
+
+pub returns-then-works-clause-step : goal.returns-then-works-clause-step
+returns-then-works-clause-step g c = λ op asks.
+    let core = g.M.MemoryPort.words c.args.core.now in
+    let is = asks_anywhere (table c.args.self.now.inner.regs core) core [] asks.had c.args.self.now
+    ∙ (asked_filled (in_store (stored core asks.had) c.args.self.now) op (sym c.works.ensures ∙ c.if-works.true) asks.makes).1 in
+    record { had = asks.had; has = asks.had; was = asks.was; now = asks.was; does = c.entry_replied.ensures.step op asks.had is }
 
 pub unreachable-requires : goal.unreachable-requires
 unreachable-requires g c =
-    let first = asked_first (in_core (g.M.MemoryPort.words c.args.core.now) c.args.self.now) (sym c.works.ensures ∙ c.if-works.false) c.requires.asks.can in
+    let first = asked_first (in_store (stored (g.M.MemoryPort.words c.args.core.now) c.requires.asks.1.had) c.args.self.now) (sym c.works.ensures ∙ c.if-works.false) c.requires.asks.1.can in
     let none : None ≡ Some first.0 = c.in_default.ensures ∙ first.1 in
     cc
 
 pub copy_replied-requires-clause-on : goal.copy_replied-requires-clause-on
-copy_replied-requires-clause-on g c = asked_on (in_core (g.M.MemoryPort.words c.args.core.now) c.args.self.now) c.requires.asks.can
+copy_replied-requires-clause-on g c = asked_on (in_store (stored (g.M.MemoryPort.words c.args.core.now) c.requires.asks.1.had) c.args.self.now) c.requires.asks.1.can
 
 pub returns-clause-step : goal.returns-clause-step
-returns-clause-step g c =
+returns-clause-step g c = λ op asks.
     let core = g.M.MemoryPort.words c.args.core.now in
-    let p : User = in_core core c.args.self.now in
+    let p : User = in_store (stored core asks.had) c.args.self.now in
     let idle : works_in c.args.self.now.inner.state ≡ false = sym c.works.ensures ∙ c.if-works.false in
-    let asked = asked_command p c.requires.asks.op c.in-Some.line idle (sym c.in-Some.ensures) c.requires.asks.makes in
-    let makes : command_asks c.command_of.result p.inner ≡ Some c.requires.asks.op = ap (λ (d : Command). command_asks d p.inner) c.command_of.ensures ∙ asked.1 in
-    ok_map (λ (s : Step). TookReply c.in-Some.line c.command_of.result c.args.reply.now s.ending s.clock c.args.now c.args.self.now c.copy_replied.new.self core)
-    (λ (s : Step). IsReplied s c.args.reply.now c.args.now c.args.self.now c.copy_replied.new.self core core) c.copy_replied.result
-    (λ s row. command_took c.args.now c.args.reply.now c.args.self.now c.copy_replied.new.self core c.in-Some.line c.command_of.result c.requires.asks.op s idle asked.0 (sym c.in-Some.ensures) (sym c.command_of.ensures) (asked_on p c.requires.asks.can) (ap (λ (u : User). u.given) (sym c.self.view_is)) (makes, row))
-    c.copy_replied.ensures.row
+    let asked = asked_command p op c.in-Some.line idle (sym c.in-Some.ensures) asks.makes in
+    let makes : command_asks c.command_of.result p.inner ≡ Some op = ap (λ (d : Command). command_asks d p.inner) c.command_of.ensures ∙ asked.1 in
+    ok_map _ _ c.copy_replied.result
+    (λ s row. record {
+      had = asks.had;
+      has = row.0;
+      was = asks.was;
+      now = row.1;
+      does = command_took c.args.now c.args.reply.now c.args.self.now c.copy_replied.new.self (stored core asks.had) (stored core row.0) c.in-Some.line c.command_of.result op s idle asked.0 (sym c.in-Some.ensures) (sym c.command_of.ensures) (asked_on p asks.can) (ap (λ (u : User). u.given) (sym c.self.view_is)) (makes, row.2);
+    })
+    (c.copy_replied.ensures.row asks.had asks.was)

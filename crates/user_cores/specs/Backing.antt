@@ -1,0 +1,150 @@
+-- proof: what lies behind the users' sessions, cores and directories together, and what each call does to it.
+use Rattle.std.specs.Prelude.{◌≡◌, ◌≢◌, ℕ, ◌≤◌, ◌+◌, ◌*◌, Bool, true, ◌&&◌, List, length, slice_set, Option, Result, IfOk, OnErr}
+use Rattle.faults.specs.Faults.{Rose}
+use Rattle.medium.specs.Medium.{CallList}
+use Rattle.onion_swap.specs.declared.Plan.{Plan}
+use Rattle.plan_model.specs.Loads.{Places, loaded, given_up, count_below, is_dumped, is_read, is_fresh}
+use Rattle.image_map.specs.Images.{size_of}
+use Rattle.user_model.specs.Inner.{Stored, recut, zeros}
+use Rattle.user_model.specs.User.{hung}
+use Rattle.user_session.specs.Stores.{stored}
+use Rattle.directories.specs.Directories.{DirectoriesState}
+use Rattle.user_cores.specs.Cores.{CoresState}
+use Rattle.user_cores.specs.Swaps.{IsMade, IsCutOff}
+
+pub record Held : Type 0 where
+  -- the words of each user's program and its files, where drum and disk tell their records
+  pub stores : ℕ → Stored
+  pub tells : Bool
+  pub places : Places
+  -- how many blocks each user has, and may have, behind those of number 0, which is nobody's; how many tracks it may have; and how
+  -- many users have directories
+  pub sizes : List ℕ
+  pub quotas : List ℕ
+  pub tracks : ℕ → ℕ
+  pub users : ℕ
+
+-- what each user has, what a user whose blocks are all in core has there and in its directory, the calls of the drum where told, how many of
+-- them failed, whether the disk tells its records, and how many of its calls failed
+pub record BackState : Type 0 where
+  pub held : Held
+  pub window : ℕ → Stored
+  pub calls : Option CallList
+  pub faults : ℕ
+  pub disk_tells : Bool
+  pub disk_faults : ℕ
+
+-- cores beside directories
+abbrev pub back_of : CoresState → DirectoriesState → BackState
+back_of c d =
+    record {
+      held = record {
+        stores = λ u. stored (c.memory.words u) (d.own u);
+        tells = c.memory.tells && d.tells;
+        places = c.memory.places;
+        sizes = c.memory.sizes;
+        quotas = c.memory.quotas;
+        tracks = d.may;
+        users = d.count;
+      };
+      window = λ u. stored (c.window u) (d.own u);
+      calls = c.calls;
+      faults = c.faults;
+      disk_tells = d.tells;
+      disk_faults = d.faults;
+    }
+
+abbrev pub size : BackState → ℕ → ℕ
+size s user = size_of s.held.sizes user
+
+-- how many blocks a load of a user dumps, reads and makes fresh
+abbrev pub to_dump : BackState → ℕ → ℕ
+to_dump s user = count_below (size s user) (is_dumped s.held.places user)
+
+abbrev pub to_read : BackState → ℕ → ℕ
+to_read s user = count_below (size s user) (is_read s.held.places user)
+
+abbrev pub to_clear : BackState → ℕ → ℕ
+to_clear s user = count_below (size s user) (is_fresh s.held.places user)
+
+-- a load that is done
+pub record Loaded (user : ℕ) (plan : Plan) (old new : BackState) : Type 0 where
+  pub stores : (u : ℕ) → 1 ≤ u → new.held.stores u ≡ old.held.stores u
+  pub tells : new.held.tells ≡ old.held.tells
+  pub places : new.held.places ≡ loaded old.held.places user (size old user)
+  pub dumped : plan.dumped ≡ to_dump old user
+  pub read : plan.read ≡ to_read old user
+  pub fresh : plan.fresh ≡ to_clear old user
+  pub calls : IsMade old.calls new.calls plan.dumped plan.read
+
+-- a load that the drum didn't do
+pub record LoadFails (user : ℕ) (old new : BackState) : Type 0 where
+  pub calls : IsCutOff old.calls new.calls (to_dump old user + to_read old user)
+  pub cause : Rose old.faults new.faults
+
+-- how many blocks and tracks users may have stays, and how many have directories
+pub record KeepsRules (had has : Held) : Type 0 where
+  pub quotas : has.quotas ≡ had.quotas
+  pub tracks : (u : ℕ) → has.tracks u ≡ had.tracks u
+  pub users : has.users ≡ had.users
+
+-- a load of a user
+pub record Loads (user : ℕ) {E : Type 0} (result : Result Plan E) (old new : BackState) : Type 0 where
+  pub rules : KeepsRules old.held new.held
+  pub sizes : new.held.sizes ≡ old.held.sizes
+  pub faults : old.faults ≤ new.faults
+  pub disk : new.disk_faults ≡ old.disk_faults
+  pub done : IfOk result (λ plan. Loaded user plan old new)
+  pub fails : OnErr result (LoadFails user old new)
+
+-- what a call for one user leaves as it is
+pub record LeavesRest (user : ℕ) (old new : BackState) : Type 0 where
+  pub rules : KeepsRules old.held new.held
+  pub others : (u : ℕ) → 1 ≤ u → u ≢ user → new.held.stores u ≡ old.held.stores u
+  pub tells : new.held.tells ≡ old.held.tells
+  pub calls : new.calls ≡ old.calls
+  pub faults : new.faults ≡ old.faults
+
+-- a user's words become these, and it gets so many blocks
+pub record Resizes (user blocks : ℕ) (old new : BackState) : Type 0 where
+  pub rest : LeavesRest user old new
+  pub disk : new.disk_faults ≡ old.disk_faults
+  pub mine : old.held.tells ≡ true → new.held.stores user ≡ record (old.held.stores user) { core = recut blocks (old.held.stores user).core }
+  pub sizes : new.held.sizes ≡ slice_set old.held.sizes user blocks
+  pub places : new.held.places ≡ given_up old.held.places user blocks
+
+-- a user gets so many blocks of plus zeros in place of all that it has
+pub record Replaces (user blocks : ℕ) (old new : BackState) : Type 0 where
+  pub rest : LeavesRest user old new
+  pub disk : new.disk_faults ≡ old.disk_faults
+  pub mine : old.held.tells ≡ true → new.held.stores user ≡ record (old.held.stores user) { core = zeros blocks }
+  pub sizes : new.held.sizes ≡ slice_set old.held.sizes user blocks
+  pub places : new.held.places ≡ given_up old.held.places user 0
+
+-- a user whose session is over has no core any more, and the files that last
+pub record HangsUp (user : ℕ) (old new : BackState) : Type 0 where
+  pub rest : LeavesRest user old new
+  pub disk : new.disk_faults ≡ old.disk_faults
+  pub mine : old.held.tells ≡ true → new.held.stores user ≡ hung (old.held.stores user)
+  pub sizes : new.held.sizes ≡ slice_set old.held.sizes user 0
+  pub places : new.held.places ≡ given_up old.held.places user 0
+
+-- a user's session works in its blocks, which are all in core, and in its directory
+pub record WorksIn (user : ℕ) (old new : BackState) : Type 0 where
+  pub rest : LeavesRest user old new
+  pub len : length (new.window user).core ≡ 256 * size old user
+  pub was : old.held.tells ≡ true → old.held.stores user ≡ old.window user
+  pub mine : old.held.tells ≡ true → new.held.stores user ≡ new.window user
+  pub disk : old.held.tells ≡ true → old.disk_tells ≡ true
+  pub disk_tells : new.disk_tells ≡ old.disk_tells
+  pub sizes : new.held.sizes ≡ old.held.sizes
+  pub places : new.held.places ≡ old.held.places
+
+-- a step that the disk didn't do
+pub record DiskFails (old new : BackState) : Type 0 where
+  pub rules : KeepsRules old.held new.held
+  pub sizes : new.held.sizes ≡ old.held.sizes
+  pub places : new.held.places ≡ old.held.places
+  pub calls : new.calls ≡ old.calls
+  pub faults : new.faults ≡ old.faults
+  pub cause : Rose old.disk_faults new.disk_faults

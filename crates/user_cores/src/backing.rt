@@ -1,0 +1,153 @@
+//! What the supervisor asks of all that lies behind users' sessions: their cores and their directories.
+ghost use Rattle.std.specs.Prelude.{◌≡◌, ◌<◌, ◌≤◌, ◌+◌, ◌-◌, ◌^◌, true, length, IfOk, OnOk, OnErr, IsErrOf};
+ghost use Rattle.faults.specs.Faults.{Rose};
+ghost use Rattle.ctss_types.specs.declared.file.CommonOp.{CommonOp};
+ghost use Rattle.drum_slots.specs.Keys.{quota_of};
+ghost use Rattle.plan_model.specs.Loads.{is_loaded};
+ghost use Rattle.file_model.specs.Commons.{ReplyFits};
+ghost use Rattle.user_model.specs.Inner.{blocks_of};
+ghost use Rattle.user_model.specs.Runs.{HaveGone};
+ghost use Rattle.user_session.specs.Stores.{Over, IsToMake};
+ghost use Rattle.user_session.specs.Turns.{IsReplied, IsTurn};
+ghost use Rattle.directories.specs.Directories.{lists_from};
+ghost use Rattle.user_cores.specs.Backing.{BackState, size, Loads, Resizes, Replaces, HangsUp, WorksIn, DiskFails};
+
+use ctss_types::{FileList, Reply, StepFault, UserNo};
+use image_map::{DrumFault, Plan};
+use std::alloc::Global;
+use user_session::{Session, Step, Turn};
+
+/// The cores of up to 30 users' programs, and their directories. Users count from 1.
+///
+/// In clauses `state` is what they show. After a fault of drum or disk nothing may be asked any more.
+pub trait Backing {
+    ghost state: { Self → BackState };
+
+    /// No fault has come.
+    ghost Works: { Self → Type 0 };
+
+    /// The same drum and disk.
+    ghost Keeps: { Self → Self → Type 0 };
+
+    /// Whether all of a user's blocks are in core.
+    fn is_loaded(&self, user: UserNo) -> bool
+        requires user { user < length (state self.now).held.sizes }
+        ensures { result ≡ is_loaded (state self.now).held.places user (size (state self.now) user) };
+
+    /// Brings all of a user's blocks into core, and says what that moved.
+    fn load(&mut self, user: UserNo) -> Result<Plan, DrumFault>
+        requires works { Works self.old }
+        requires user { user < length (state self.old).held.sizes }
+        ensures works { OnOk result (Works self.new) }
+        ensures keeps { Keeps self.old self.new }
+        ensures loads { Loads user result (state self.old) (state self.new) };
+
+    /// Gives a user another size: its words are cut, or extended by plus zeros.
+    fn resize(&mut self, user: UserNo, blocks: u8)
+        requires works { Works self.old }
+        requires user { user < length (state self.old).held.sizes }
+        requires quota { blocks ≤ quota_of (state self.old).held.quotas user }
+        ensures works { Works self.new }
+        ensures keeps { Keeps self.old self.new }
+        ensures resizes { Resizes user blocks (state self.old) (state self.new) };
+
+    /// Gives a user so many blocks of plus zeros in place of all that it has.
+    fn replace(&mut self, user: UserNo, blocks: u8)
+        requires works { Works self.old }
+        requires user { user < length (state self.old).held.sizes }
+        requires quota { blocks ≤ quota_of (state self.old).held.quotas user }
+        ensures works { Works self.new }
+        ensures keeps { Keeps self.old self.new }
+        ensures replaces { Replaces user blocks (state self.old) (state self.new) };
+
+    /// A user's session is over: its blocks go, and its files of mode 0.
+    fn hang_up(&mut self, user: UserNo)
+        requires works { Works self.old }
+        requires user { user < length (state self.old).held.sizes }
+        requires directory { user ≤ (state self.old).held.users }
+        ensures works { Works self.new }
+        ensures keeps { Keeps self.old self.new }
+        ensures hangs { HangsUp user (state self.old) (state self.new) };
+
+    /// A step of the session of a user whose blocks are all in core.
+    fn turn(&mut self, user: UserNo, session: &mut Session, now: u64) -> Result<Turn, StepFault>
+        requires works { Works self.old }
+        requires user { user < length (state self.old).held.sizes }
+        requires directory { user ≤ (state self.old).held.users }
+        requires loaded { is_loaded (state self.old).held.places user (size (state self.old) user) ≡ true }
+        requires size { size (state self.old) user ≡ blocks_of session.old.inner }
+        requires tracks { (state self.old).held.tracks user ≡ session.old.inner.account.tracks }
+        requires fits { session.old.own < 2 ^ 64 - 1 }
+        requires time { now < 2 ^ 35 }
+        ensures turn { IfOk result (λ turn. Over (state self.old).disk_tells
+            ((state self.old).window user) ((state self.new).window user) (IsTurn turn now session.old session.new)) }
+        ensures account { session.new.inner.account ≡ session.old.inner.account }
+        ensures err { OnErr result (session.new ≡ session.old) }
+        ensures left { IsErrOf result StepFault.NoMemory → (state self.new).window user ≡ (state self.old).window user }
+        ensures works { ¬ IsErrOf result StepFault.Disk → Works self.new }
+        ensures keeps { Keeps self.old self.new }
+        ensures worked { ¬ IsErrOf result StepFault.Disk → WorksIn user (state self.old) (state self.new) }
+        ensures kept { (state self.old).disk_faults ≤ (state self.new).disk_faults }
+        ensures fails { IsErrOf result StepFault.Disk → DiskFails (state self.old) (state self.new) };
+
+    /// A step of the session of a user whose blocks are all in core, which made a common operation, goes on with its reply.
+    fn take_reply(
+        &mut self,
+        user: UserNo,
+        session: &mut Session,
+        reply: &Reply,
+        now: u64,
+    ) -> Result<Step, StepFault>
+        requires works { Works self.old }
+        requires user { user < length (state self.old).held.sizes }
+        requires directory { user ≤ (state self.old).held.users }
+        requires loaded { is_loaded (state self.old).held.places user (size (state self.old) user) ≡ true }
+        requires size { size (state self.old) user ≡ blocks_of session.old.inner }
+        requires tracks { (state self.old).held.tracks user ≡ session.old.inner.account.tracks }
+        requires asks { (op : CommonOp)
+            × IsToMake (state self.old).disk_tells ((state self.old).window user) op session.old }
+        requires told { ReplyFits reply.now }
+        requires fits { session.old.own < 2 ^ 64 - 1 }
+        ensures step { (op : CommonOp) → IsToMake (state self.old).disk_tells ((state self.old).window user) op session.old
+            → IfOk result (λ s. Over (state self.old).disk_tells
+            ((state self.old).window user) ((state self.new).window user)
+            (IsReplied s op reply.now now session.old session.new)) }
+        ensures account { session.new.inner.account ≡ session.old.inner.account }
+        ensures err { OnErr result (session.new ≡ session.old) }
+        ensures left { IsErrOf result StepFault.NoMemory → (state self.new).window user ≡ (state self.old).window user }
+        ensures works { ¬ IsErrOf result StepFault.Disk → Works self.new }
+        ensures keeps { Keeps self.old self.new }
+        ensures worked { ¬ IsErrOf result StepFault.Disk → WorksIn user (state self.old) (state self.new) }
+        ensures kept { (state self.old).disk_faults ≤ (state self.new).disk_faults }
+        ensures fails { IsErrOf result StepFault.Disk → DiskFails (state self.old) (state self.new) };
+
+    /// As many instructions as go on, at most so many, of the session of a user whose blocks are all in core; and how many
+    /// they were.
+    fn advance(&mut self, user: UserNo, session: &mut Session, most: u64) -> u64
+        requires works { Works self.old }
+        requires user { user < length (state self.old).held.sizes }
+        requires loaded { is_loaded (state self.old).held.places user (size (state self.old) user) ≡ true }
+        requires fits { session.old.own + most < 2 ^ 64 }
+        ensures most { result ≤ most }
+        ensures gone { HaveGone result session.old session.new
+            ((state self.old).window user).core ((state self.new).window user).core }
+        ensures files { ((state self.new).window user).files ≡ ((state self.old).window user).files }
+        ensures works { Works self.new }
+        ensures keeps { Keeps self.old self.new }
+        ensures worked { WorksIn user (state self.old) (state self.new) }
+        ensures disk { (state self.new).disk_faults ≡ (state self.old).disk_faults };
+
+    /// All users' files. Nothing may be asked behind it.
+    fn take_lists(&mut self, alloc: Global) -> Result<Vec<FileList>, StepFault>
+        requires works { Works self.old }
+        ensures lists { (state self.old).held.tells ≡ true → IfOk result
+            (λ lists. lists.items ≡ lists_from 1 (state self.old).held.users (λ u. ((state self.old).held.stores u).files)) }
+        ensures calls { (state self.new).calls ≡ (state self.old).calls }
+        ensures faults { (state self.new).faults ≡ (state self.old).faults }
+        ensures keeps { Keeps self.old self.new }
+        ensures cause { IsErrOf result StepFault.Disk → Rose (state self.old).disk_faults (state self.new).disk_faults };
+
+    ghost stays: { (a : Self) → Keeps a a };
+
+    ghost goes_on: { (a b c : Self) → Keeps a b → Keeps b c → Keeps a c };
+}

@@ -1,4 +1,5 @@
-//! The table of commands: what a line asks for. The definition is `Requests` of user_model.
+//! The table of commands: what a line asks for, and in which state of a program commands on a stopped one are done. The definitions
+//! are `Requests` and `Commands` of user_model.
 #![tactic(auto)]
 
 ghost use Rattle.std.specs.Prelude.{◌≡◌, ◌≤◌, ◌∷◌, [], length, drop, nat_eq, true, MatchOption, None, Some};
@@ -6,9 +7,11 @@ ghost use Rattle.std.specs.List.{list_all};
 ghost use Rattle.std.specs.Option.{unwrap_or};
 ghost use Rattle.ctss_types.specs.Words.{words_of};
 ghost use Rattle.user_model.specs.Requests.{word_name, file_in, digit_in, alone, rename_of, chmode_of, is_octal_digit, octal_from, place_in, post_mortem_of, copy_by, command_by, command_of};
+ghost use Rattle.user_model.specs.Commands.{is_dormant};
 ghost use Rattle.command_table.specs.Words.{file_first, one_name, one_file};
 
 use ctss_types::{FileName, LineText, first_word, name_word};
+use program_model::ProgramState;
 use user_model::Command;
 use word36::Word;
 
@@ -20,6 +23,16 @@ pub fn word_name(word: &[u8]) -> Option<Word>
         return None;
     }
     Some(name_word(word))
+}
+
+/// Whether a program stopped, and is there: START, SAVE and PM ask for one.
+pub fn is_dormant(state: ProgramState) -> bool
+    ensures { result ≡ is_dormant state }
+{
+    match state {
+        ProgramState::Dormant => true,
+        ProgramState::Dead | ProgramState::Working => false,
+    }
 }
 
 /// What a line asks for.

@@ -1,7 +1,7 @@
 ghost use Rattle.std.specs.Prelude.{◌≡◌, ◌≢◌, ◌<◌, ◌≤◌, ℕ, All, length};
 ghost use Rattle.core_bank.specs.Bank.{AreWords, block_at};
 ghost use Rattle.drum_slots.specs.Kept.{Serves};
-ghost use Rattle.drum_slots.specs.Table.{quota_in, records_of};
+ghost use Rattle.drum_slots.specs.Table.{records_of};
 ghost use Rattle.image_map.specs.Blocks.{first};
 ghost use Rattle.image_map.specs.Images.{size_of, image_in, where_told};
 ghost use Rattle.medium.specs.Damages.{IsDamage};
@@ -16,70 +16,27 @@ use std::process::Abort;
 use std::test::Fail;
 use word36::Word;
 
-/// Gives a user an image of so many blocks of plus zeros.
-fn give<D: Medium>(rt: &impl Abort, image: &mut Image<'_, D>, user: UserNo, blocks: u8)
-    requires user { user < length image.old.tables.sizes.items }
-    requires quota { blocks ≤ quota_in image.old.tables.kept.slots user }
-    requires words { AreWords image.old.bank }
-    requires serves { Serves (D.rows image.old.tables.kept.drum.now)
-        (D.record_count image.old.tables.kept.drum.now)
-        (D.words_each image.old.tables.kept.drum.now) (records_of image.old.tables.kept.slots) }
-    ensures same { image.new.tables.kept.drum.ghost_name ≡ image.old.tables.kept.drum.ghost_name }
-    ensures words { AreWords image.new.bank }
-    ensures serves { Serves (D.rows image.new.tables.kept.drum.now)
-        (D.record_count image.new.tables.kept.drum.now)
-        (D.words_each image.new.tables.kept.drum.now) (records_of image.new.tables.kept.slots) }
-    ensures quotas { image.new.tables.kept.slots.quotas ≡ image.old.tables.kept.slots.quotas }
-    ensures users { length image.new.tables.sizes.items ≡ length image.old.tables.sizes.items }
-{
-    assert!(rt; !image.failed());
-    image.replace_user(user, blocks);
+/// What is done with a user's image. A word is written as a small number.
+#[derive(Clone, Copy, Debug)]
+enum Action {
+    /// Gives the user an image of so many blocks of plus zeros.
+    Give(u8),
+    /// Gives the user another size.
+    Resize(u8),
+    /// Loads the user, where this moves so many blocks to the drum, from it, and up as plus zeros.
+    Load(u8, u8, u8),
+    /// Puts a word at an address of the user, which is loaded.
+    Put(u16, i8),
+    /// Gets the word at an address of the user.
+    Get(u16, Result<i8, Outside>),
+    /// Asks whether the user is resident.
+    Resident(bool),
 }
 
-/// Gives a user another size.
-fn resize<D: Medium>(rt: &impl Abort, image: &mut Image<'_, D>, user: UserNo, blocks: u8)
-    requires user { user < length image.old.tables.sizes.items }
-    requires quota { blocks ≤ quota_in image.old.tables.kept.slots user }
-    requires words { AreWords image.old.bank }
-    requires serves { Serves (D.rows image.old.tables.kept.drum.now)
-        (D.record_count image.old.tables.kept.drum.now)
-        (D.words_each image.old.tables.kept.drum.now) (records_of image.old.tables.kept.slots) }
-    ensures same { image.new.tables.kept.drum.ghost_name ≡ image.old.tables.kept.drum.ghost_name }
-    ensures words { AreWords image.new.bank }
-    ensures serves { Serves (D.rows image.new.tables.kept.drum.now)
-        (D.record_count image.new.tables.kept.drum.now)
-        (D.words_each image.new.tables.kept.drum.now) (records_of image.new.tables.kept.slots) }
-    ensures quotas { image.new.tables.kept.slots.quotas ≡ image.old.tables.kept.slots.quotas }
-    ensures users { length image.new.tables.sizes.items ≡ length image.old.tables.sizes.items }
-{
-    assert!(rt; !image.failed());
-    image.resize_user(user, blocks);
-}
+use Action::{Get, Give, Load, Put, Resident, Resize};
 
-/// Loads a user after no load has failed.
-fn load<D: Medium>(
-    rt: &impl Abort,
-    image: &mut Image<'_, D>,
-    user: UserNo,
-) -> Result<Plan, DrumFault>
-    requires user { user < length image.old.tables.sizes.items }
-    requires words { AreWords image.old.bank }
-    requires serves { Serves (D.rows image.old.tables.kept.drum.now)
-        (D.record_count image.old.tables.kept.drum.now)
-        (D.words_each image.old.tables.kept.drum.now) (records_of image.old.tables.kept.slots) }
-    ensures same { image.new.tables.kept.drum.ghost_name ≡ image.old.tables.kept.drum.ghost_name }
-    ensures words { AreWords image.new.bank }
-    ensures serves { Serves (D.rows image.new.tables.kept.drum.now)
-        (D.record_count image.new.tables.kept.drum.now)
-        (D.words_each image.new.tables.kept.drum.now) (records_of image.new.tables.kept.slots) }
-    ensures quotas { image.new.tables.kept.slots.quotas ≡ image.old.tables.kept.slots.quotas }
-    ensures users { length image.new.tables.sizes.items ≡ length image.old.tables.sizes.items }
-{
-    assert!(rt; !image.failed());
-    let plan = image.load_user(user);
-    assert_eq!(rt; image.failed(), plan.is_err());
-    plan
-}
+/// A user's number, and what is done with its image.
+type Step = (u8, Action);
 
 /// Puts a word at an address of a user that is loaded: its image is what stands in core then, and
 /// the other images stay.
@@ -129,101 +86,159 @@ fn get<D: Medium>(image: &mut Image<'_, D>, user: UserNo, address: u16) -> Resul
     word_at(image.bank_mut(), blocks, address)
 }
 
-/// What a load moved.
-fn moved(dumped: u8, read: u8, fresh: u8) -> Plan {
-    Plan {
-        dumped,
-        read,
-        fresh,
+/// The word of a small number.
+fn word(number: i8) -> Word {
+    Word::signed(number < 0, u64::from(number.unsigned_abs()))
+}
+
+/// Does a step after no load has failed, and compares what it gives. It fails where a load does.
+fn does<D: Medium>(
+    rt: &impl Abort,
+    image: &mut Image<'_, D>,
+    quotas: &[u8],
+    step: Step,
+) -> Result<(), DrumFault>
+    requires quotas { image.old.tables.kept.slots.quotas.items ≡ quotas.now }
+    requires words { AreWords image.old.bank }
+    requires serves { Serves (D.rows image.old.tables.kept.drum.now)
+        (D.record_count image.old.tables.kept.drum.now)
+        (D.words_each image.old.tables.kept.drum.now) (records_of image.old.tables.kept.slots) }
+    ensures same { image.new.tables.kept.drum.ghost_name ≡ image.old.tables.kept.drum.ghost_name }
+    ensures words { AreWords image.new.bank }
+    ensures serves { Serves (D.rows image.new.tables.kept.drum.now)
+        (D.record_count image.new.tables.kept.drum.now)
+        (D.words_each image.new.tables.kept.drum.now) (records_of image.new.tables.kept.slots) }
+    ensures quotas { image.new.tables.kept.slots.quotas ≡ image.old.tables.kept.slots.quotas }
+{
+    let (number, action) = step;
+    assert!(rt; !image.failed() && 1 <= number && number <= 30);
+    assert!(rt; (number as usize) < quotas.len());
+    let (user, quota) = (UserNo::of(number), quotas[number as usize]);
+    match action {
+        Give(blocks) => {
+            assert!(rt; blocks <= quota);
+            image.replace_user(user, blocks);
+        }
+        Resize(blocks) => {
+            assert!(rt; blocks <= quota);
+            image.resize_user(user, blocks);
+        }
+        Load(dumped, read, fresh) => {
+            let plan = image.load_user(user);
+            assert_eq!(rt; image.failed(), plan.is_err(), "{step:?}");
+            let moved = Plan {
+                dumped,
+                read,
+                fresh,
+            };
+            assert_eq!(rt; plan?, moved, "{step:?}");
+        }
+        Put(address, number) => {
+            assert_eq!(rt;
+                put(rt, image, user, address, word(number)),
+                Ok(()),
+                "{step:?}"
+            );
+        }
+        Get(address, number) => {
+            assert_eq!(rt; get(image, user, address), number.map(word), "{step:?}");
+        }
+        Resident(is) => assert_eq!(rt; image.resident(user), is, "{step:?}"),
     }
-}
-
-#[test]
-fn loads_users_in_turn(rt: HostRuntime) -> Result<(), Fail> {
-    let (one, two, three) = (UserNo::of(1), UserNo::of(2), UserNo::of(3));
-    let mut drum = MemoryMedium::new(rt.alloc(), 19, 256, &[], &[], 0)?;
-    let mut image = Image::new(rt.alloc(), &mut drum, 19, &[8, 3, 8])?;
-    give(&rt, &mut image, one, 8);
-    give(&rt, &mut image, two, 3);
-    give(&rt, &mut image, three, 8);
-    assert_eq!(rt; load(&rt, &mut image, one), Ok(moved(0, 0, 8)));
-    assert_eq!(rt;
-        put(&rt, &mut image, one, 2047, Word::signed(true, 5)),
-        Ok(())
-    );
-    assert_eq!(rt; load(&rt, &mut image, two), Ok(moved(3, 0, 3)));
-    assert!(rt; image.resident(two) && !image.resident(one));
-    // Five of these blocks were still the first user's.
-    assert_eq!(rt; load(&rt, &mut image, three), Ok(moved(8, 0, 8)));
-    assert_eq!(rt; get(&mut image, three, 2047), Ok(Word::default()));
-    assert_eq!(rt; load(&rt, &mut image, one), Ok(moved(8, 8, 0)));
-    assert_eq!(rt; get(&mut image, one, 2047), Ok(Word::signed(true, 5)));
-    assert_eq!(rt; get(&mut image, one, 2048), Err(Outside));
-    let _ = image.back();
     Ok(())
 }
 
-#[test]
-fn cuts_and_extends(rt: HostRuntime) -> Result<(), Fail> {
-    let (one, two) = (UserNo::of(1), UserNo::of(2));
-    let mut drum = MemoryMedium::new(rt.alloc(), 16, 256, &[], &[], 0)?;
-    let mut image = Image::new(rt.alloc(), &mut drum, 16, &[8, 8])?;
-    give(&rt, &mut image, one, 4);
-    assert_eq!(rt; load(&rt, &mut image, one), Ok(moved(0, 0, 4)));
-    assert_eq!(rt;
-        put(&rt, &mut image, one, 600, Word::signed(false, 7)),
-        Ok(())
-    );
-    resize(&rt, &mut image, one, 2);
-    give(&rt, &mut image, two, 4);
-    assert_eq!(rt; load(&rt, &mut image, two), Ok(moved(2, 0, 4)));
-    assert_eq!(rt;
-        put(&rt, &mut image, two, 600, Word::signed(false, 5)),
-        Ok(())
-    );
-    resize(&rt, &mut image, one, 4);
-    assert_eq!(rt; load(&rt, &mut image, one), Ok(moved(4, 2, 2)));
-    assert_eq!(rt; get(&mut image, one, 600), Ok(Word::default()));
-    let _ = image.back();
-    Ok(())
-}
-
-/// Users 1, 2 and 1 in turn, of one block each, which makes two writes and one read. The word that
-/// user 1 has at address 5 then, where no load failed.
-fn word_after_turns<D: Medium>(rt: &impl Abort, image: &mut Image<'_, D>) -> Result<Word, DrumFault>
-    requires users { 2 < length image.old.tables.sizes.items }
-    requires one { 1 ≤ quota_in image.old.tables.kept.slots 1 }
-    requires two { 1 ≤ quota_in image.old.tables.kept.slots 2 }
+/// Does these steps, up to the first fault.
+fn runs<D: Medium>(
+    rt: &impl Abort,
+    image: &mut Image<'_, D>,
+    quotas: &[u8],
+    steps: &[Step],
+) -> Result<(), DrumFault>
+    requires quotas { image.old.tables.kept.slots.quotas.items ≡ quotas.now }
     requires words { AreWords image.old.bank }
     requires serves { Serves (D.rows image.old.tables.kept.drum.now)
         (D.record_count image.old.tables.kept.drum.now)
         (D.words_each image.old.tables.kept.drum.now) (records_of image.old.tables.kept.slots) }
     ensures same { image.new.tables.kept.drum.ghost_name ≡ image.old.tables.kept.drum.ghost_name }
 {
-    let (one, two) = (UserNo::of(1), UserNo::of(2));
-    give(rt, image, one, 1);
-    give(rt, image, two, 1);
-    load(rt, image, one)?;
-    assert_eq!(rt; put(rt, image, one, 5, Word::signed(false, 7)), Ok(()));
-    load(rt, image, two)?;
-    load(rt, image, one)?;
-    Ok(get(image, one, 5).unwrap_or_default())
+    'steps: for step in steps {
+        does(rt, image, quotas, *step)?;
+    }
+    Ok(())
 }
 
-/// Tries the word after these turns over a drum with these faults and damages.
+#[test]
+fn loads_users_in_turn(rt: HostRuntime) -> Result<(), Fail> {
+    static STEPS: [Step; 13] = [
+        (1, Give(8)),
+        (2, Give(3)),
+        (3, Give(8)),
+        (1, Load(0, 0, 8)),
+        (1, Put(2047, -5)),
+        (2, Load(3, 0, 3)),
+        (2, Resident(true)),
+        (1, Resident(false)),
+        // Five of these blocks were still the first user's.
+        (3, Load(8, 0, 8)),
+        (3, Get(2047, Ok(0))),
+        (1, Load(8, 8, 0)),
+        (1, Get(2047, Ok(-5))),
+        (1, Get(2048, Err(Outside))),
+    ];
+    let mut drum = MemoryMedium::new(rt.alloc(), 19, 256, &[], &[], 0)?;
+    let mut image = Image::new(rt.alloc(), &mut drum, 19, &[8, 3, 8])?;
+    assert_eq!(rt; runs(&rt, &mut image, &[0, 8, 3, 8], &STEPS), Ok(()));
+    let _ = image.back();
+    Ok(())
+}
+
+#[test]
+fn cuts_and_extends(rt: HostRuntime) -> Result<(), Fail> {
+    static STEPS: [Step; 10] = [
+        (1, Give(4)),
+        (1, Load(0, 0, 4)),
+        (1, Put(600, 7)),
+        (1, Resize(2)),
+        (2, Give(4)),
+        (2, Load(2, 0, 4)),
+        (2, Put(600, 5)),
+        (1, Resize(4)),
+        (1, Load(4, 2, 2)),
+        (1, Get(600, Ok(0))),
+    ];
+    let mut drum = MemoryMedium::new(rt.alloc(), 16, 256, &[], &[], 0)?;
+    let mut image = Image::new(rt.alloc(), &mut drum, 16, &[8, 8])?;
+    assert_eq!(rt; runs(&rt, &mut image, &[0, 8, 8], &STEPS), Ok(()));
+    let _ = image.back();
+    Ok(())
+}
+
+/// Loads users 1, 2 and 1 in turn, of one block each, over a drum with these faults and damages, which makes two writes
+/// and one read. Compares how that ends, and if no load fails the word that user 1 has at address 5 then.
 fn gives(
     rt: &impl Abort,
     alloc: Global,
     faults: &[u64],
     damages: &[Damage],
-    want: Result<Word, DrumFault>,
+    word: i8,
+    ended: Result<(), DrumFault>,
 ) -> Result<(), Fail>
     requires { All (λ damage. IsDamage 256 damage) damages.now }
 {
+    let steps = [
+        (1, Give(1)),
+        (2, Give(1)),
+        (1, Load(0, 0, 1)),
+        (1, Put(5, 7)),
+        (2, Load(1, 0, 1)),
+        (1, Load(1, 1, 0)),
+        (1, Get(5, Ok(word))),
+    ];
     let mut drum = MemoryMedium::new(alloc, 2, 256, faults, damages, 0)?;
     let mut image = Image::new(alloc, &mut drum, 2, &[1, 1])?;
-    assert_eq!(rt; word_after_turns(rt, &mut image), want);
-    assert_eq!(rt; image.failed(), want.is_err());
+    let outcome = runs(rt, &mut image, &[0, 1, 1], &steps);
+    assert_eq!(rt; (outcome, image.failed()), (ended, ended.is_err()));
     let _ = image.back();
     Ok(())
 }
@@ -235,13 +250,13 @@ fn shows_what_the_drum_gives(rt: HostRuntime) -> Result<(), Fail> {
         place: 5,
         word: 9,
     };
-    gives(&rt, rt.alloc(), &[], &[damage], Ok(Word::signed(false, 9)))
+    gives(&rt, rt.alloc(), &[], &[damage], 9, Ok(()))
 }
 
 #[test]
 fn fails_with_each_call_of_the_drum(rt: HostRuntime) -> Result<(), Fail> {
     for number in 1..4 {
-        gives(&rt, rt.alloc(), &[number], &[], Err(DrumFault))?;
+        gives(&rt, rt.alloc(), &[number], &[], 7, Err(DrumFault))?;
     }
-    gives(&rt, rt.alloc(), &[4], &[], Ok(Word::signed(false, 7)))
+    gives(&rt, rt.alloc(), &[4], &[], 7, Ok(()))
 }

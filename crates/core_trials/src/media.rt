@@ -3,51 +3,88 @@ ghost use Rattle.medium.specs.Medium.{AreWords};
 
 use faults::NoMemory;
 use medium::{Damage, Failed, Medium, MemoryMedium};
+use std::process::Abort;
 use std::test::Fail;
+
+/// What is asked of a medium.
+#[derive(Clone, Copy, Debug)]
+enum Ask {
+    /// To write the words.
+    Write,
+    /// To read the words, over ones.
+    Read,
+    /// To copy the first record, over ones, to the last.
+    CopyToLast,
+}
+
+use Ask::{CopyToLast, Read, Write};
+
+/// A call: what is asked, the number of the record, the words that are there after it, and how it ends. Of a record of
+/// one word the first of them counts, and the second is a one.
+type Call = (Ask, u16, [u8; 2], Result<(), Failed>);
 
 /// Copies the first record to the last, as a layer above does it.
 fn copy_to_last<M: Medium>(medium: &mut M, words: &mut [u64]) -> Result<(), Failed>
     requires some { 0 < M.record_count medium.old }
     requires whole { length words.old ≡ M.words_each medium.old }
     requires words { AreWords words.old }
-    ensures count { M.record_count medium.new ≡ M.record_count medium.old }
-    ensures each { M.words_each medium.new ≡ M.words_each medium.old }
 {
     medium.read(0, words)?;
     let last = medium.records() - 1;
     medium.write(last, words)
 }
 
-#[test]
-fn reads_what_was_written(rt: HostRuntime) -> Result<(), Fail> {
-    let mut drum = MemoryMedium::new(rt.alloc(), 3, 2, &[], &[], 0)?;
-    let mut words = [0; 2];
-    assert_eq!(rt; drum.records(), 3);
-    assert_eq!(rt; drum.record_words(), 2);
-    assert_eq!(rt; drum.write(1, &[5, 6]), Ok(()));
-    assert_eq!(rt; drum.read(1, &mut words), Ok(()));
-    assert!(rt; words == [5, 6]);
-    assert_eq!(rt; drum.read(2, &mut words), Ok(()));
-    assert!(rt; words == [0, 0]);
+/// Makes a call, and compares how it ends and the words that are there then.
+fn does<M: Medium>(rt: &impl Abort, medium: &mut M, call: Call) {
+    let (ask, at, words, ended) = call;
+    let count = medium.record_words() as usize;
+    assert!(rt; at < medium.records() && count <= 2);
+    let before = if matches!(ask, Write) { words } else { [1; 2] };
+    let mut found = [u64::from(before[0]), u64::from(before[1])];
+    let part = &mut found[..count];
+    let outcome = match ask {
+        Write => medium.write(at, part),
+        Read => medium.read(at, part),
+        CopyToLast => copy_to_last(medium, part),
+    };
+    let want = [u64::from(words[0]), u64::from(words[1])];
+    assert_eq!(rt; (outcome, found), (ended, want), "{call:?}");
+}
 
-    assert_eq!(rt; drum.write(0, &[7, 8]), Ok(()));
-    assert_eq!(rt; copy_to_last(&mut drum, &mut words), Ok(()));
-    words = [0; 2];
-    assert_eq!(rt; drum.read(2, &mut words), Ok(()));
-    assert!(rt; words == [7, 8]);
-    Ok(())
+/// Makes these calls of a medium.
+fn runs<M: Medium>(rt: &impl Abort, medium: &mut M, calls: &[Call]) {
+    for call in calls {
+        does(rt, medium, *call);
+    }
 }
 
 #[test]
+fn reads_what_was_written(rt: HostRuntime) -> Result<(), Fail> {
+    let mut drum = MemoryMedium::new(rt.alloc(), 3, 2, &[], &[], 0)?;
+    assert_eq!(rt; (drum.records(), drum.record_words()), (3, 2));
+    let calls = [
+        (Write, 1, [5, 6], Ok(())),
+        (Read, 1, [5, 6], Ok(())),
+        (Read, 2, [0, 0], Ok(())),
+        (Write, 0, [7, 8], Ok(())),
+        (CopyToLast, 0, [7, 8], Ok(())),
+        (Read, 2, [7, 8], Ok(())),
+    ];
+    runs(&rt, &mut drum, &calls);
+    Ok(())
+}
+
+// Records of one word: behind it stands a one.
+#[test]
 fn fails_by_the_number_of_the_call(rt: HostRuntime) -> Result<(), Fail> {
     let mut drum = MemoryMedium::new(rt.alloc(), 1, 1, &[2, 3], &[], 0)?;
-    let mut words = [1; 1];
-    assert_eq!(rt; drum.write(0, &[4]), Ok(()));
-    assert_eq!(rt; drum.write(0, &[5]), Err(Failed));
-    assert_eq!(rt; drum.read(0, &mut words), Err(Failed));
-    assert!(rt; words == [1]);
-    assert_eq!(rt; drum.read(0, &mut words), Ok(()));
-    assert!(rt; words == [4]);
+    let calls = [
+        (Write, 0, [4, 1], Ok(())),
+        (Write, 0, [5, 1], Err(Failed)),
+        (Read, 0, [1, 1], Err(Failed)),
+        (Read, 0, [4, 1], Ok(())),
+    ];
+    runs(&rt, &mut drum, &calls);
     Ok(())
 }
 
@@ -66,25 +103,25 @@ fn damages_by_the_number_of_the_read(rt: HostRuntime) -> Result<(), Fail> {
         },
     ];
     let mut drum = MemoryMedium::new(rt.alloc(), 1, 2, &[], &damages, 0)?;
-    let mut words = [0; 2];
-    assert_eq!(rt; drum.read(0, &mut words), Ok(()));
-    assert!(rt; words == [0, 7]);
-    assert_eq!(rt; drum.write(0, &[1, 1]), Ok(()));
-    assert_eq!(rt; drum.read(0, &mut words), Ok(()));
-    assert!(rt; words == [9, 7]);
-    assert_eq!(rt; drum.read(0, &mut words), Ok(()));
-    assert!(rt; words == [1, 7]);
+    let calls = [
+        (Read, 0, [0, 7], Ok(())),
+        (Write, 0, [1, 1], Ok(())),
+        (Read, 0, [9, 7], Ok(())),
+        (Read, 0, [1, 7], Ok(())),
+    ];
+    runs(&rt, &mut drum, &calls);
     Ok(())
 }
 
 #[test]
 fn works_past_the_room_for_calls(rt: HostRuntime) -> Result<(), Fail> {
     let mut drum = MemoryMedium::new(rt.alloc(), 1, 1, &[], &[], 1)?;
-    let mut words = [0; 1];
-    assert_eq!(rt; drum.write(0, &[1]), Ok(()));
-    assert_eq!(rt; drum.write(0, &[2]), Ok(()));
-    assert_eq!(rt; drum.read(0, &mut words), Ok(()));
-    assert!(rt; words == [2]);
+    let calls = [
+        (Write, 0, [1, 1], Ok(())),
+        (Write, 0, [2, 1], Ok(())),
+        (Read, 0, [2, 1], Ok(())),
+    ];
+    runs(&rt, &mut drum, &calls);
     Ok(())
 }
 

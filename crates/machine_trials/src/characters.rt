@@ -1,4 +1,5 @@
 use bcd48::{char_of, code_of, is_character, pack6, text6};
+use std::process::Abort;
 
 // Each character with its code.
 static CODES: [(u8, u8); 48] = [
@@ -52,25 +53,42 @@ static CODES: [(u8, u8); 48] = [
     (b'(', 0o74),
 ];
 
+// What codes print as: those of characters, and those that no character has.
+static PRINTED: [(u8, u8); 6] = [
+    (0o00, b'0'),
+    (0o14, b'\''),
+    (0o60, b' '),
+    (0o74, b'('),
+    (0o12, b' '),
+    (0o77, b' '),
+];
+
+static TEXTS: [(u64, [u8; 6]); 3] = [
+    (0o302543434660, *b"HELLO "),
+    (0o665126436760, *b"WRFLX "),
+    (0o122147777777, *b" AP   "),
+];
+
+/// Compares whether a byte is a character, and its code.
+fn has_code(rt: &impl Abort, byte: u8, code: Option<u8>) {
+    assert_eq!(rt;
+        (is_character(byte), code_of(byte)),
+        (code.is_some(), code),
+        "{byte}"
+    );
+}
+
 #[test]
 fn codes_are_those_of_the_table(rt: HostRuntime) {
-    for (byte, code) in CODES {
-        assert!(rt; is_character(byte));
-        assert_eq!(rt; code_of(byte), Some(code), "{byte}");
+    for (byte, code) in &CODES {
+        has_code(&rt, *byte, Some(*code));
     }
     for byte in [b'a', b'"', b'#', b'@', b'\n', 0, 255] {
-        assert!(rt; !is_character(byte));
-        assert_eq!(rt; code_of(byte), None, "{byte}");
+        has_code(&rt, byte, None);
     }
-    for (code, byte) in [
-        (0o00, b'0'),
-        (0o14, b'\''),
-        (0o60, b' '),
-        (0o74, b'('),
-        (0o12, b' '),
-        (0o77, b' '),
-    ] {
-        assert_eq!(rt; char_of(code), byte, "{code}");
+    for (code, byte) in &PRINTED {
+        assert!(rt; *code < 64);
+        assert_eq!(rt; char_of(*code), *byte, "{code}");
     }
 }
 
@@ -78,7 +96,8 @@ fn codes_are_those_of_the_table(rt: HostRuntime) {
 fn packs_and_prints(rt: HostRuntime) {
     let hello = pack6(&[0o30, 0o25, 0o43, 0o43, 0o46, 0o60]);
     assert_eq!(rt; hello, 0o302543434660);
-    assert_eq!(rt; text6(hello), *b"HELLO ");
-    assert_eq!(rt; text6(0o665126436760), *b"WRFLX ");
-    assert_eq!(rt; text6(0o122147777777), *b" AP   ");
+    for (word, text) in &TEXTS {
+        assert!(rt; *word < 1 << 36);
+        assert_eq!(rt; text6(*word), *text);
+    }
 }

@@ -4,12 +4,14 @@ use word36::Word;
 #[test]
 fn registers_begin_at_zero(rt: HostRuntime) {
     let regs = Regs::new();
-    assert!(rt; !regs.ac.negative());
-    assert_eq!(rt; regs.ac.magnitude(), 0);
-    assert_eq!(rt; regs.mq, Word::signed(false, 0));
-    assert_eq!(rt; regs.ic, 0);
-    assert!(rt; !regs.overflow && !regs.divide_check);
-    assert_eq!(rt; regs.xr(7), 0);
+    assert_eq!(rt;
+        [regs.ac.negative(), regs.overflow, regs.divide_check],
+        [false; 3]
+    );
+    assert_eq!(rt;
+        (regs.ac.magnitude(), regs.mq, regs.ic, regs.xr(7)),
+        (0, Word::signed(false, 0), 0, 0)
+    );
 }
 
 #[test]
@@ -18,10 +20,15 @@ fn tags_name_index_registers(rt: HostRuntime) {
     regs.set_xr(1, 5);
     regs.set_xr(7, 32767);
     regs.set_xr(0, 9);
-    assert_eq!(rt; regs.xr(0), 0);
-    assert_eq!(rt; regs.xr(1), 5);
-    assert_eq!(rt; regs.xr(2), 0);
-    assert_eq!(rt; regs.xr(7), 32767);
+    assert_eq!(rt;
+        [
+            regs.xr(0),
+            regs.xr(1),
+            regs.xr(2),
+            regs.xr(7),
+            IndexRegisters::new().get(3)
+        ],
+        [0, 5, 0, 32767, 0]
+    );
     assert!(rt; regs != Regs::new());
-    assert_eq!(rt; IndexRegisters::new().get(3), 0);
 }

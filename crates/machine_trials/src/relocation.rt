@@ -1,35 +1,37 @@
 use reloc_protect::{Outside, Registers};
 
+// The first block and the blocks of a program, an address, and where that lies in core.
+static ADDRESSES: [(u8, u8, u16, Result<u16, Outside>); 16] = [
+    (0, 2, 0, Ok(0)),
+    (0, 2, 511, Ok(511)),
+    (0, 2, 512, Err(Outside)),
+    (0, 2, 32767, Err(Outside)),
+    (10, 2, 0, Ok(2560)),
+    (10, 2, 511, Ok(3071)),
+    (10, 2, 512, Err(Outside)),
+    (127, 1, 0, Ok(32512)),
+    (127, 1, 255, Ok(32767)),
+    // Relocated, this address is word 0 of core.
+    (127, 1, 256, Err(Outside)),
+    (127, 1, 32767, Err(Outside)),
+    (3, 2, 0, Ok(768)),
+    (3, 2, 511, Ok(1279)),
+    (3, 2, 512, Err(Outside)),
+    (0, 128, 32767, Ok(32767)),
+    (128, 0, 0, Err(Outside)),
+];
+
 #[test]
 fn maps_addresses(rt: HostRuntime) {
-    let first = Registers::new(0, 2);
-    assert_eq!(rt; first.map(0), Ok(0));
-    assert_eq!(rt; first.map(511), Ok(511));
-    assert_eq!(rt; first.map(512), Err(Outside));
-    assert_eq!(rt; first.map(32767), Err(Outside));
-
-    let tenth = Registers::new(10, 2);
-    assert_eq!(rt; tenth.map(0), Ok(2560));
-    assert_eq!(rt; tenth.map(511), Ok(3071));
-    assert_eq!(rt; tenth.map(512), Err(Outside));
-
-    let last = Registers::new(127, 1);
-    assert_eq!(rt; last.map(0), Ok(32512));
-    assert_eq!(rt; last.map(255), Ok(32767));
-    // Relocated, this address is word 0 of core.
-    assert_eq!(rt; last.map(256), Err(Outside));
-    assert_eq!(rt; last.map(32767), Err(Outside));
-
-    let middle = Registers::new(3, 2);
-    assert_eq!(rt; middle.map(0), Ok(768));
-    assert_eq!(rt; middle.map(511), Ok(1279));
-    assert_eq!(rt; middle.map(512), Err(Outside));
-
-    let whole = Registers::new(0, 128);
-    assert_eq!(rt; whole.map(32767), Ok(32767));
-
-    let none = Registers::new(128, 0);
-    assert_eq!(rt; none.map(0), Err(Outside));
-    assert!(rt; none != Registers::new(0, 0));
-    assert!(rt; middle == Registers::new(3, 2));
+    for (base, blocks, address, at) in &ADDRESSES {
+        assert!(rt; *base <= 128 && *blocks <= 128 - *base);
+        let registers = Registers::new(*base, *blocks);
+        assert_eq!(rt;
+            registers.map(*address),
+            *at,
+            "{address} of {blocks} from {base}"
+        );
+    }
+    assert!(rt; Registers::new(128, 0) != Registers::new(0, 0));
+    assert!(rt; Registers::new(3, 2) == Registers::new(3, 2));
 }

@@ -3,67 +3,74 @@ use common_file::apply;
 use ctss_types::{CommonOp, FileName, NoMemory, Refusal, Reply, Sequence, WordList};
 use file_map::Files;
 use std::alloc::Global;
-use std::process::Abort;
 use std::test::Fail;
 use word36::Word;
+
+/// What is done with a file that goes by a number, at a place.
+#[derive(Clone, Copy)]
+enum Act {
+    /// One word, of a number, is written.
+    Write(u32),
+    /// So many words are read.
+    Read(u16),
+}
+
+/// What is replied.
+#[derive(Clone, Copy)]
+enum Want {
+    Done,
+    OverQuota,
+    Words(&'static [u32]),
+}
+
+static OF_TWO_USERS: [(u32, u64, Act, Want); 4] = [
+    (1, 0, Act::Write(1), Want::Done),
+    (1, 1, Act::Write(2), Want::Done),
+    (2, 0, Act::Write(3), Want::OverQuota),
+    (1, 0, Act::Read(2), Want::Words(&[1, 2])),
+];
 
 fn word(n: u32) -> Word {
     Word::signed(false, u64::from(n))
 }
 
-fn name(n: u32) -> FileName {
-    FileName::new(word(n), word(9))
-}
-
-/// These words.
-fn list(alloc: Global, words: &[Word]) -> Result<WordList, NoMemory> {
+/// The words of these numbers.
+fn list(alloc: Global, numbers: &[u32]) -> Result<WordList, NoMemory> {
     let mut list = Vec::new(alloc);
-    for word in words {
-        list.push(*word)?;
+    for n in numbers {
+        list.push(word(*n))?;
     }
     Ok(Sequence::from_vec(list))
 }
 
-/// Writes one word.
-fn write(alloc: Global, n: u32, place: u64, n_word: u32) -> Result<CommonOp, NoMemory> {
-    Ok(CommonOp::Write {
-        name: name(n),
-        place,
-        words: list(alloc, &[word(n_word)])?,
+fn operation(alloc: Global, n: u32, place: u64, act: Act) -> Result<CommonOp, NoMemory> {
+    let name = FileName::new(word(n), word(9));
+    Ok(match act {
+        Act::Write(number) => CommonOp::Write {
+            name,
+            place,
+            words: list(alloc, &[number])?,
+        },
+        Act::Read(count) => CommonOp::Read { name, place, count },
     })
 }
 
-fn read(n: u32, place: u64, count: u16) -> CommonOp {
-    CommonOp::Read {
-        name: name(n),
-        place,
-        count,
-    }
-}
-
-/// Tries the reply to an operation.
-fn replies(rt: &impl Abort, files: &mut Files, op: &CommonOp, want: Reply) -> Result<(), Fail> {
-    assert_eq!(rt; apply(op, files)?, want);
-    Ok(())
+fn reply(alloc: Global, want: Want) -> Result<Reply, NoMemory> {
+    Ok(match want {
+        Want::Done => Reply::Done,
+        Want::OverQuota => Reply::Refused(Refusal::Quota),
+        Want::Words(numbers) => Reply::Words(list(alloc, numbers)?),
+    })
 }
 
 /// Two users write into a file of a directory of one track, a third file doesn't fit, and both words are read.
 #[test]
 fn what_two_users_write_is_read(rt: HostRuntime) -> Result<(), Fail> {
-    let alloc = rt.alloc();
-    let mut files = Files::new(alloc, 1);
-    replies(&rt, &mut files, &write(alloc, 1, 0, 1)?, Reply::Done)?;
-    replies(&rt, &mut files, &write(alloc, 1, 1, 2)?, Reply::Done)?;
-    replies(
-        &rt,
-        &mut files,
-        &write(alloc, 2, 0, 3)?,
-        Reply::Refused(Refusal::Quota),
-    )?;
-    replies(
-        &rt,
-        &mut files,
-        &read(1, 0, 2),
-        Reply::Words(list(alloc, &[word(1), word(2)])?),
-    )
+    let mut files = Files::new(rt.alloc(), 1);
+    for (row, (n, place, act, want)) in OF_TWO_USERS.iter().enumerate() {
+        let op = operation(rt.alloc(), *n, *place, *act)?;
+        let want = reply(rt.alloc(), *want)?;
+        assert_eq!(rt; apply(&op, &mut files)?, want, "row {row}");
+    }
+    Ok(())
 }

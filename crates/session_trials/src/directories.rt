@@ -1,5 +1,3 @@
-ghost use Rattle.std.specs.Prelude.{IsErrOf};
-
 use ctss_types::{FileBody, FileName, NoMemory, Refusal, Sequence};
 use file_map::{FilePort, Files, PortFault};
 use std::alloc::Global;
@@ -7,19 +5,46 @@ use std::process::Abort;
 use std::test::Fail;
 use word36::Word;
 
-/// A change of files that go by numbers.
+/// A change of files that go by numbers, or what is asked of them.
 #[derive(Clone, Copy)]
-enum Change<'a> {
-    Write(u32, u64, &'a [Word]),
-    Append(u32, &'a [Word]),
-    Put(u32, &'a [Word]),
+enum Act {
+    Write(u32, u64),
+    Append(u32),
+    Put(u32),
     Rename(u32, u32),
     Delete(u32),
     Mode(u32, u8),
     DropTemporary,
+    /// The words stand in a file from a place on, where so many are read.
+    Reads(u32, u64, u16),
+    /// A file has just the words.
+    Gets(u32),
+    /// How many words and which mode a file has.
+    Sizes(u32, Option<(u64, u8)>),
+    /// The files are just those of the numbers, in this order.
+    Lists,
+    Tracks(u32),
+    Quota(u16),
 }
 
-type Answer = Result<(), PortFault>;
+/// The numbers of the words, or of the files that are listed.
+#[derive(Clone, Copy)]
+enum Numbers {
+    /// 863 fives and a seven, which fill two tracks.
+    TwoTracks,
+    Are(&'static [u32]),
+}
+
+const NONE: Numbers = Numbers::Are(&[]);
+
+const ONE: Numbers = Numbers::Are(&[1]);
+
+const TWO: Numbers = Numbers::Are(&[1, 2]);
+
+/// Whether what was asked is so, or the fault.
+type Answer = Result<bool, PortFault>;
+
+const DONE: Answer = Ok(true);
 
 const NO_FILE: Answer = Err(PortFault::Refused(Refusal::NoFile));
 
@@ -33,6 +58,62 @@ const PAST_END: Answer = Err(PortFault::Refused(Refusal::PastEnd));
 
 const BAD_MODE: Answer = Err(PortFault::Refused(Refusal::BadMode));
 
+type Row = (Act, Numbers, Answer);
+
+static OF_QUOTA: [Row; 8] = [
+    (Act::Write(1, 0), Numbers::TwoTracks, DONE),
+    (Act::Write(1, 864), ONE, OVER_QUOTA),
+    (Act::Write(1, 863), TWO, OVER_QUOTA),
+    (Act::Append(1), TWO, OVER_QUOTA),
+    (Act::Put(2), NONE, OVER_QUOTA),
+    (Act::Reads(1, 863, 1), Numbers::Are(&[7]), DONE),
+    (Act::Reads(1, 864, 0), NONE, DONE),
+    (Act::Reads(1, 864, 1), NONE, PAST_END),
+];
+
+static REPLACED: [Row; 6] = [
+    (Act::Append(1), Numbers::TwoTracks, DONE),
+    (Act::Put(1), Numbers::Are(&[3]), DONE),
+    (Act::Append(1), TWO, DONE),
+    (Act::Write(1, 1), Numbers::Are(&[4]), DONE),
+    (Act::Tracks(1), NONE, DONE),
+    (Act::Gets(1), Numbers::Are(&[3, 4, 2]), DONE),
+];
+
+static REFUSED: [Row; 15] = [
+    (Act::Put(1), ONE, DONE),
+    (Act::Put(2), ONE, DONE),
+    (Act::Rename(3, 4), NONE, NO_FILE),
+    (Act::Rename(1, 2), NONE, NAME_USED),
+    (Act::Rename(1, 1), NONE, DONE),
+    (Act::Write(3, 1), ONE, NO_FILE),
+    (Act::Write(1, 2), ONE, PAST_END),
+    (Act::Mode(1, 4), NONE, BAD_MODE),
+    (Act::Mode(1, 2), NONE, DONE),
+    (Act::Put(1), NONE, READ_ONLY),
+    (Act::Delete(1), NONE, READ_ONLY),
+    (Act::Mode(1, 3), NONE, DONE),
+    (Act::Mode(1, 1), NONE, READ_ONLY),
+    (Act::Sizes(1, Some((1, 3))), NONE, DONE),
+    (Act::Sizes(3, None), NONE, DONE),
+];
+
+static ORDERED: [Row; 13] = [
+    (Act::Put(1), NONE, DONE),
+    (Act::Put(2), NONE, DONE),
+    (Act::Put(3), NONE, DONE),
+    (Act::Put(4), NONE, DONE),
+    (Act::Rename(2, 5), NONE, DONE),
+    (Act::Lists, Numbers::Are(&[1, 5, 3, 4]), DONE),
+    (Act::Delete(1), NONE, DONE),
+    (Act::Lists, Numbers::Are(&[5, 3, 4]), DONE),
+    (Act::Mode(3, 0), NONE, DONE),
+    (Act::DropTemporary, NONE, DONE),
+    (Act::Lists, Numbers::Are(&[5, 4]), DONE),
+    (Act::Tracks(2), NONE, DONE),
+    (Act::Quota(9), NONE, DONE),
+];
+
 fn word(n: u32) -> Word {
     Word::signed(false, u64::from(n))
 }
@@ -41,169 +122,90 @@ fn name(n: u32) -> FileName {
     FileName::new(word(n), word(9))
 }
 
-/// 863 words of 5 and one of 7, which fill two tracks.
-fn two_tracks(alloc: Global) -> Result<Vec<Word>, NoMemory> {
+fn words_of(alloc: Global, numbers: Numbers) -> Result<Vec<Word>, NoMemory> {
+    let (fives, rest): (u16, &[u32]) = match numbers {
+        Numbers::TwoTracks => (863, &[7]),
+        Numbers::Are(rest) => (0, rest),
+    };
     let mut words = Vec::new(alloc);
-    for _ in 0..863 {
+    for _ in 0..fives {
         words.push(word(5))?;
     }
-    words.push(word(7))?;
+    for n in rest {
+        words.push(word(*n))?;
+    }
     Ok(words)
 }
 
-fn done<P: FilePort>(port: &mut P, change: &Change<'_>) -> Answer
-    requires { P.Works port.old }
-    ensures { ¬ IsErrOf result PortFault.Disk → P.Works port.new }
-{
-    match change {
-        Change::Write(n, place, words) => port.write(name(*n), *place, words),
-        Change::Append(n, words) => port.append(name(*n), words),
-        Change::Put(n, words) => port.put(name(*n), words),
-        Change::Rename(n, to) => port.rename(name(*n), name(*to)),
-        Change::Delete(n) => port.delete(name(*n)),
-        Change::Mode(n, mode) => port.chmode(name(*n), *mode),
-        Change::DropTemporary => {
-            port.drop_temporary();
-            Ok(())
-        }
-    }
-}
-
-/// Makes each change, again where memory lacked, which must be answered so. After a fault of the disk none is made.
-fn all_done<P: FilePort>(rt: &impl Abort, port: &mut P, changes: &[(Change<'_>, Answer)])
-    requires { P.Works port.old }
-{
-    for (change, answer) in changes {
-        let mut told = done(port, change);
-        if told == Err(PortFault::NoMemory) {
-            told = done(port, change);
-        }
-        assert_eq!(rt; told, *answer);
-        if told == Err(PortFault::Disk) {
-            return;
-        }
-    }
-}
-
-/// Whether a directory has just the files of these numbers, in this order.
-fn has<P: FilePort>(port: &P, numbers: &[u32]) -> Result<bool, PortFault>
-    requires { P.Works port.now }
-{
-    let rows = port.list()?;
-    let mut alike = rows.len() == numbers.len();
-    for (row, n) in rows.as_slice().iter().zip(numbers) {
-        alike = alike && row.name == name(*n);
+/// Whether the files are just those whose names begin with these words, in this order.
+fn lists(files: &Files, words: &[Word]) -> Answer {
+    let rows = files.list()?;
+    let mut alike = rows.len() == words.len();
+    for (row, first) in rows.as_slice().iter().zip(words) {
+        alike = alike && row.name == FileName::new(*first, word(9));
     }
     Ok(alike)
 }
 
-/// Whether these words stand in a file from a place on.
-fn reads<P: FilePort>(
-    port: &mut P,
-    n: u32,
-    place: u64,
-    count: u16,
-    words: &[Word],
-) -> Result<bool, PortFault>
-    requires { P.Works port.old }
-{
-    let read = port.read(name(n), place, count)?;
-    Ok(read.as_slice() == words)
+/// How many words and which mode a file has.
+fn sizes(files: &Files, n: u32) -> Option<(u64, u8)> {
+    let stat = files.stat(name(n)).ok()?;
+    Some((stat.words, stat.mode))
 }
 
-/// How many words and which mode a file has.
-fn sizes<P: FilePort>(port: &P, n: u32) -> Option<(u64, u8)>
-    requires { P.Works port.now }
-{
-    let stat = port.stat(name(n)).ok()?;
-    Some((stat.words, stat.mode))
+fn done(files: &mut Files, act: Act, words: &[Word]) -> Answer {
+    match act {
+        Act::Write(n, place) => files.write(name(n), place, words)?,
+        Act::Append(n) => files.append(name(n), words)?,
+        Act::Put(n) => files.put(name(n), words)?,
+        Act::Rename(n, to) => files.rename(name(n), name(to))?,
+        Act::Delete(n) => files.delete(name(n))?,
+        Act::Mode(n, mode) => files.chmode(name(n), mode)?,
+        Act::DropTemporary => files.drop_temporary(),
+        Act::Reads(n, place, count) => {
+            return Ok(files.read(name(n), place, count)?.as_slice() == words);
+        }
+        Act::Gets(n) => return Ok(files.get(name(n))?.as_slice() == words),
+        Act::Sizes(n, want) => return Ok(sizes(files, n) == want),
+        Act::Lists => return lists(files, words),
+        Act::Tracks(want) => return Ok(files.tracks() == want),
+        Act::Quota(want) => return Ok(files.quota() == want),
+    }
+    Ok(true)
+}
+
+/// Does each in a new directory, again where memory lacked, which must be answered so.
+fn all_done(rt: &impl Abort, alloc: Global, quota: u16, rows: &[Row]) -> Result<(), Fail> {
+    let mut files = Files::new(alloc, quota);
+    for (place, (act, numbers, answer)) in rows.iter().enumerate() {
+        let words = words_of(alloc, *numbers)?;
+        let mut told = done(&mut files, *act, &words);
+        if told == Err(PortFault::NoMemory) {
+            told = done(&mut files, *act, &words);
+        }
+        assert_eq!(rt; told, *answer, "row {place}");
+    }
+    Ok(())
 }
 
 #[test]
 fn keeps_the_quota(rt: HostRuntime) -> Result<(), Fail> {
-    let mut files = Files::new(rt.alloc(), 2);
-    let words = two_tracks(rt.alloc())?;
-    let whole = [(Change::Write(1, 0, &words), Ok(()))];
-    all_done(&rt, &mut files, &whole);
-    let two = [word(1), word(2)];
-    let changes = [
-        (Change::Write(1, 864, &two[..1]), OVER_QUOTA),
-        (Change::Write(1, 863, &two), OVER_QUOTA),
-        (Change::Append(1, &two), OVER_QUOTA),
-        (Change::Put(2, &[]), OVER_QUOTA),
-    ];
-    all_done(&rt, &mut files, &changes);
-    assert_eq!(rt; reads(&mut files, 1, 863, 1, &[word(7)]), Ok(true));
-    assert_eq!(rt; reads(&mut files, 1, 864, 0, &[]), Ok(true));
-    let past = Err(PortFault::Refused(Refusal::PastEnd));
-    assert_eq!(rt; reads(&mut files, 1, 864, 1, &[]), past);
-    Ok(())
+    all_done(&rt, rt.alloc(), 2, &OF_QUOTA)
 }
 
 #[test]
 fn replaces_and_appends(rt: HostRuntime) -> Result<(), Fail> {
-    let mut files = Files::new(rt.alloc(), 2);
-    let words = two_tracks(rt.alloc())?;
-    let changes = [
-        (Change::Append(1, &words), Ok(())),
-        (Change::Put(1, &[word(3)]), Ok(())),
-        (Change::Append(1, &[word(1), word(2)]), Ok(())),
-        (Change::Write(1, 1, &[word(4)]), Ok(())),
-    ];
-    all_done(&rt, &mut files, &changes);
-    assert_eq!(rt; files.tracks(), 1);
-    let all = files.get(name(1))?;
-    assert!(rt; all.as_slice() == [word(3), word(4), word(2)].as_slice());
-    Ok(())
+    all_done(&rt, rt.alloc(), 2, &REPLACED)
 }
 
 #[test]
-fn refuses(rt: HostRuntime) {
-    let mut files = Files::new(rt.alloc(), 9);
-    let one = [word(1)];
-    let changes = [
-        (Change::Put(1, &one), Ok(())),
-        (Change::Put(2, &one), Ok(())),
-        (Change::Rename(3, 4), NO_FILE),
-        (Change::Rename(1, 2), NAME_USED),
-        (Change::Rename(1, 1), Ok(())),
-        (Change::Write(3, 1, &one), NO_FILE),
-        (Change::Write(1, 2, &one), PAST_END),
-        (Change::Mode(1, 4), BAD_MODE),
-        (Change::Mode(1, 2), Ok(())),
-        (Change::Put(1, &[]), READ_ONLY),
-        (Change::Delete(1), READ_ONLY),
-        (Change::Mode(1, 3), Ok(())),
-        (Change::Mode(1, 1), READ_ONLY),
-    ];
-    all_done(&rt, &mut files, &changes);
-    assert_eq!(rt; sizes(&files, 1), Some((1, 3)));
-    assert_eq!(rt; sizes(&files, 3), None);
+fn refuses(rt: HostRuntime) -> Result<(), Fail> {
+    all_done(&rt, rt.alloc(), 9, &REFUSED)
 }
 
 #[test]
 fn keeps_the_order(rt: HostRuntime) -> Result<(), Fail> {
-    let mut files = Files::new(rt.alloc(), 9);
-    let changes = [
-        (Change::Put(1, &[]), Ok(())),
-        (Change::Put(2, &[]), Ok(())),
-        (Change::Put(3, &[]), Ok(())),
-        (Change::Put(4, &[]), Ok(())),
-        (Change::Rename(2, 5), Ok(())),
-    ];
-    all_done(&rt, &mut files, &changes);
-    assert_eq!(rt; has(&files, &[1, 5, 3, 4]), Ok(true));
-    all_done(&rt, &mut files, &[(Change::Delete(1), Ok(()))]);
-    assert_eq!(rt; has(&files, &[5, 3, 4]), Ok(true));
-    let changes = [
-        (Change::Mode(3, 0), Ok(())),
-        (Change::DropTemporary, Ok(())),
-    ];
-    all_done(&rt, &mut files, &changes);
-    assert_eq!(rt; has(&files, &[5, 4]), Ok(true));
-    assert_eq!(rt; files.tracks(), 2);
-    assert_eq!(rt; files.quota(), 9);
-    Ok(())
+    all_done(&rt, rt.alloc(), 9, &ORDERED)
 }
 
 #[test]
@@ -222,19 +224,11 @@ fn begins_and_ends_with_a_list(rt: HostRuntime) -> Result<(), Fail> {
 
 #[test]
 fn tells_its_faults(rt: HostRuntime) -> Result<(), Fail> {
-    let alloc = rt.alloc();
     let refused = PortFault::Refused(Refusal::NoFile);
+    let told = format!(in rt.alloc(); "{}; {}; {}", refused, PortFault::Disk, PortFault::NoMemory)?;
     assert_eq!(rt;
-        format!(in alloc; "{}", refused)?.as_str(),
-        "FILE NOT FOUND"
-    );
-    assert_eq!(rt;
-        format!(in alloc; "{}", PortFault::Disk)?.as_str(),
-        "the disk failed"
-    );
-    assert_eq!(rt;
-        format!(in alloc; "{}", PortFault::NoMemory)?.as_str(),
-        "out of memory"
+        told.as_str(),
+        "FILE NOT FOUND; the disk failed; out of memory"
     );
     Ok(())
 }

@@ -1,5 +1,6 @@
+use crate::shown::shows;
 use cpu_regs::{MemoryPort, Regs};
-use ctss_types::{FileName, LineText, name_word};
+use ctss_types::{FileName, name_word};
 use plain_core::PlainCore;
 use program_model::{Call, EntryFault};
 use std::alloc::Global;
@@ -7,6 +8,11 @@ use std::process::Abort;
 use std::test::Fail;
 use tia_entry::{answer, is_line_count, line_in, read_call, store_line, store_words, words_in};
 use word36::Word;
+
+/// The word at place 9, the name of an entry, and what a call of it from place 8 is read as.
+type Row<'a> = (Word, &'a [u8], Result<Call, EntryFault>);
+
+static IN_AND_OUT: [&str; 2] = ["HELLO, WORLD", "HELLO,"];
 
 /// Registers of a program that called from place 8.
 fn called_from_8() -> Regs {
@@ -22,97 +28,121 @@ fn counted(count: u16, address: u16) -> Word {
         .with_address(address & 0o77777)
 }
 
+/// Puts a line of three words at 250.
+fn puts_line(rt: &impl Abort, core: &mut PlainCore) {
+    assert!(rt; core.words().len() == 256);
+    store_line(core, 250, 3, b"HELLO, WORLD");
+    assert!(rt; core.words().len() == 256);
+    let loaded = (core.load(250), core.load(252));
+    assert_eq!(rt; loaded, (Ok(name_word(b"HELLO,")), Ok(name_word(b""))));
+    shows(
+        rt,
+        &[line_in(core, 250, 3), line_in(core, 250, 1)],
+        &IN_AND_OUT,
+    );
+}
+
 #[test]
 fn a_line_goes_in_and_out(rt: HostRuntime) -> Result<(), Fail> {
     let mut core = PlainCore::new(rt.alloc(), 1)?;
-    assert!(rt; core.words().len() == 256);
-    store_line(&mut core, 250, 3, b"HELLO, WORLD");
-    assert!(rt; core.words().len() == 256);
-    assert!(rt; core.load(250) == Ok(name_word(b"HELLO,")));
-    assert!(rt; core.load(252) == Ok(name_word(b"")));
-    assert!(rt; line_in(&core, 250, 3) == LineText::from_bytes(b"HELLO, WORLD")?);
-    assert!(rt; line_in(&core, 250, 1) == LineText::from_bytes(b"HELLO,")?);
+    puts_line(&rt, &mut core);
+    Ok(())
+}
+
+/// Reads each call over a core of one block with these words.
+fn all_read(
+    rt: &impl Abort,
+    alloc: Global,
+    words: &[(u16, Word)],
+    rows: &[Row<'_>],
+) -> Result<(), Fail> {
+    let mut core = PlainCore::new(alloc, 1)?;
+    for (place, word) in words {
+        assert!(rt; core.store(*place, *word).is_ok());
+    }
+    let regs = called_from_8();
+    for (row, (argument, name, want)) in rows.iter().enumerate() {
+        let _ = core.store(9, *argument);
+        assert!(rt; name.len() <= 6, "row {row}");
+        assert!(rt;
+            read_call(&regs, &core, name_word(name)) == *want,
+            "row {row}"
+        );
+    }
     Ok(())
 }
 
 #[test]
 fn calls_are_read_and_answered(rt: HostRuntime) -> Result<(), Fail> {
-    let mut core = PlainCore::new(rt.alloc(), 1)?;
     let mut regs = called_from_8();
-    let _ = core.store(9, counted(2, 254));
-    assert!(rt;
-        read_call(&regs, &core, name_word(b"WRFLX")) == Ok(Call::WriteLine { at: 254, count: 2 })
-    );
-    let _ = core.store(9, counted(2, 255));
-    assert!(rt; read_call(&regs, &core, name_word(b"RDFLX")) == Err(EntryFault::Outside(255)));
-    assert!(rt;
-        read_call(&regs, &core, name_word(b"SETMEM")) == Ok(Call::SetMemory { blocks: 255 })
-    );
-    assert!(rt; read_call(&regs, &core, name_word(b"GETTM")) == Ok(Call::GetTime));
-    assert!(rt; read_call(&regs, &core, name_word(b"RUNOFF")) == Err(EntryFault::NoSuchEntry));
     answer(&mut regs, 1, 3, Some(77));
-    assert_eq!(rt; regs.ic, 10);
-    assert!(rt; regs.ac.word() == Word::signed(false, 3));
-    assert!(rt; regs.mq == Word::signed(false, 77));
-    assert!(rt; is_line_count(14));
-    Ok(())
-}
-
-/// A core whose arguments of a call at 8 are 20, a buffer of two words at 254, and 22; a file's names stand at 20, and 5 at 22.
-fn core_with_names(rt: &impl Abort, alloc: Global) -> Result<PlainCore, Fail> {
-    let mut core = PlainCore::new(alloc, 1)?;
-    let places = [
-        (9, counted(0, 20)),
-        (10, counted(2, 254)),
-        (11, counted(0, 22)),
-        (20, name_word(b"NOTES")),
-        (21, name_word(b"TEXT")),
-        (22, Word::signed(true, 5)),
+    let answered = (regs.ic, regs.ac.word(), regs.mq, is_line_count(14));
+    let three = Word::signed(false, 3);
+    assert_eq!(rt; answered, (10, three, Word::signed(false, 77), true));
+    let inside = counted(2, 254);
+    let outside = counted(2, 255);
+    let rows: [Row<'_>; 5] = [
+        (inside, b"WRFLX", Ok(Call::WriteLine { at: 254, count: 2 })),
+        (outside, b"RDFLX", Err(EntryFault::Outside(255))),
+        (outside, b"SETMEM", Ok(Call::SetMemory { blocks: 255 })),
+        (outside, b"GETTM", Ok(Call::GetTime)),
+        (outside, b"RUNOFF", Err(EntryFault::NoSuchEntry)),
     ];
-    for (place, word) in places {
-        assert!(rt; core.store(place, word).is_ok());
-    }
-    Ok(core)
+    all_read(&rt, rt.alloc(), &[], &rows)
 }
 
+/// The arguments of a call at 8 are 20, a buffer of two words at 254, and 22; a file's names stand at 20, and 5 at 22.
 #[test]
 fn calls_for_files_are_read(rt: HostRuntime) -> Result<(), Fail> {
-    let core = core_with_names(&rt, rt.alloc())?;
-    let regs = called_from_8();
     let name = FileName::new(name_word(b"NOTES"), name_word(b"TEXT"));
-    assert!(rt; read_call(&regs, &core, name_word(b"FSTAT")) == Ok(Call::FileStat { name }));
+    let to = FileName::new(Word::default(), Word::default());
+    let names = counted(0, 20);
+    let words = [
+        (10, counted(2, 254)),
+        (11, counted(0, 22)),
+        (20, name.first),
+        (21, name.second),
+        (22, Word::signed(true, 5)),
+    ];
     let read = Call::ReadFile {
         name,
         at: 254,
         count: 2,
         place: 5,
     };
-    assert!(rt; read_call(&regs, &core, name_word(b"RDFILE")) == Ok(read));
     let write = Call::WriteFile {
         name,
         at: 254,
         count: 2,
         place: 5,
     };
-    assert!(rt; read_call(&regs, &core, name_word(b"WRFILE")) == Ok(write));
-    assert!(rt; read_call(&regs, &core, name_word(b"DELETE")) == Ok(Call::DeleteFile { name }));
-    let mode = Call::ChangeMode { name, mode: 254 };
-    assert!(rt; read_call(&regs, &core, name_word(b"CHMODE")) == Ok(mode));
-    let to = FileName::new(Word::default(), Word::default());
-    let rename = Call::RenameFile { name, to };
-    assert!(rt; read_call(&regs, &core, name_word(b"RENAME")) == Ok(rename));
-    Ok(())
+    let rows: [Row<'_>; 6] = [
+        (names, b"FSTAT", Ok(Call::FileStat { name })),
+        (names, b"RDFILE", Ok(read)),
+        (names, b"WRFILE", Ok(write)),
+        (names, b"DELETE", Ok(Call::DeleteFile { name })),
+        (names, b"CHMODE", Ok(Call::ChangeMode { name, mode: 254 })),
+        (names, b"RENAME", Ok(Call::RenameFile { name, to })),
+    ];
+    all_read(&rt, rt.alloc(), &words, &rows)
+}
+
+/// Puts two words at 254.
+fn puts_words(rt: &impl Abort, core: &mut PlainCore, words: &[Word; 2]) {
+    assert!(rt; core.words().len() == 256);
+    store_words(core, 254, words);
+    assert!(rt; core.words().len() == 256);
+    assert!(rt; core.load(255) == Ok(name_word(b"B")));
 }
 
 #[test]
 fn words_go_in_and_out(rt: HostRuntime) -> Result<(), Fail> {
     let mut core = PlainCore::new(rt.alloc(), 1)?;
+    let words = [name_word(b"A"), name_word(b"B")];
+    puts_words(&rt, &mut core, &words);
     assert!(rt; core.words().len() == 256);
-    store_words(&mut core, 254, &[name_word(b"A"), name_word(b"B")]);
-    assert!(rt; core.words().len() == 256);
-    assert!(rt; core.load(255) == Ok(name_word(b"B")));
-    let words = words_in(rt.alloc(), &core, 254, 2)?;
-    assert!(rt; words.as_slice() == [name_word(b"A"), name_word(b"B")].as_slice());
+    let read = words_in(rt.alloc(), &core, 254, 2)?;
+    assert!(rt; read.as_slice() == words.as_slice());
     assert!(rt; words_in(rt.alloc(), &core, 256, 0)?.is_empty());
     Ok(())
 }

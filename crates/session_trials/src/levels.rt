@@ -1,5 +1,6 @@
 use ctss_types::UserNo;
 use level_queues::{Charge, Chosen, Queues, level_of};
+use std::process::Abort;
 
 // The levels of programs of so many blocks, at so many words a level.
 static LEVELS: [(u8, u32, u8); 5] = [
@@ -10,82 +11,94 @@ static LEVELS: [(u8, u32, u8); 5] = [
     (128, 1, 8),
 ];
 
+/// What is done with a user, or asked of the queues.
+#[derive(Clone, Copy)]
+enum Act {
+    /// Enters with a program of so many blocks, where the queues don't hold it.
+    Enter(u8),
+    IsHeld,
+    IsOut,
+    Charge(Charge),
+    DropOut,
+    /// Is chosen, at a level and with so many ticks left.
+    IsChosen(u8, u64),
+    NoneIsChosen,
+}
+
+/// How often, by which user, and what.
+type Row = (u16, u8, Act);
+
+static SINKS: [Row; 9] = [
+    (1, 1, Act::NoneIsChosen),
+    (1, 1, Act::Enter(28)),
+    (1, 2, Act::Enter(4)),
+    (1, 1, Act::IsHeld),
+    (1, 2, Act::IsChosen(1, 200)),
+    (199, 2, Act::Charge(Charge::Goes)),
+    (1, 2, Act::IsChosen(1, 1)),
+    (1, 2, Act::Charge(Charge::Spent)),
+    (1, 2, Act::IsChosen(2, 400)),
+];
+
+static IN_ORDER: [Row; 7] = [
+    (1, 1, Act::Enter(4)),
+    (1, 2, Act::Enter(4)),
+    (1, 1, Act::Charge(Charge::Goes)),
+    (1, 1, Act::IsChosen(1, 199)),
+    (1, 1, Act::DropOut),
+    (1, 1, Act::IsOut),
+    (1, 2, Act::IsChosen(1, 200)),
+];
+
+/// Does it, and says whether it went as it must.
+fn goes(queues: &mut Queues, n: u8, act: Act) -> bool {
+    let Some(user) = UserNo::new(n) else {
+        return false;
+    };
+    match act {
+        Act::Enter(blocks) => {
+            if blocks > 128 || queues.holds(user) {
+                return false;
+            }
+            queues.enter(user, blocks);
+            true
+        }
+        Act::IsHeld => queues.holds(user),
+        Act::IsOut => !queues.holds(user),
+        Act::Charge(want) => queues.charge(user) == want,
+        Act::DropOut => {
+            queues.drop_user(user);
+            true
+        }
+        Act::IsChosen(level, left) => queues.choose() == Some(Chosen { user, level, left }),
+        Act::NoneIsChosen => queues.choose().is_none(),
+    }
+}
+
+/// Does these in queues of 1024 words and 100 ticks.
+fn all_go(rt: &impl Abort, rows: &[Row]) {
+    let mut queues = Queues::new(1024, 100);
+    for (place, (times, n, act)) in rows.iter().enumerate() {
+        for _ in 0..*times {
+            assert!(rt; goes(&mut queues, *n, *act), "row {place}");
+        }
+    }
+}
+
 #[test]
 fn levels_go_by_powers_of_two(rt: HostRuntime) {
     for (blocks, wq, level) in LEVELS {
-        assert!(rt; blocks <= 128);
-        assert!(rt; 1 <= wq);
+        assert!(rt; blocks <= 128 && 1 <= wq);
         assert_eq!(rt; level_of(blocks, wq), level, "{blocks} {wq}");
     }
 }
 
 #[test]
 fn the_lowest_row_is_served_and_sinks(rt: HostRuntime) {
-    let first = UserNo::of(1);
-    let second = UserNo::of(2);
-    let mut queues = Queues::new(1024, 100);
-    assert_eq!(rt; queues.choose(), None);
-    assert!(rt; !queues.holds(first));
-    queues.enter(first, 28);
-    assert!(rt; !queues.holds(second));
-    queues.enter(second, 4);
-    assert!(rt; queues.holds(first));
-    assert_eq!(rt;
-        queues.choose(),
-        Some(Chosen {
-            user: second,
-            level: 1,
-            left: 200
-        })
-    );
-    for _ in 0..199 {
-        assert_eq!(rt; queues.charge(second), Charge::Goes);
-    }
-    assert_eq!(rt;
-        queues.choose(),
-        Some(Chosen {
-            user: second,
-            level: 1,
-            left: 1
-        })
-    );
-    assert_eq!(rt; queues.charge(second), Charge::Spent);
-    assert_eq!(rt;
-        queues.choose(),
-        Some(Chosen {
-            user: second,
-            level: 2,
-            left: 400
-        })
-    );
+    all_go(&rt, &SINKS);
 }
 
 #[test]
 fn a_row_is_served_in_order(rt: HostRuntime) {
-    let first = UserNo::of(1);
-    let second = UserNo::of(2);
-    let mut queues = Queues::new(1024, 100);
-    assert!(rt; !queues.holds(first));
-    queues.enter(first, 4);
-    assert!(rt; !queues.holds(second));
-    queues.enter(second, 4);
-    assert_eq!(rt; queues.charge(first), Charge::Goes);
-    assert_eq!(rt;
-        queues.choose(),
-        Some(Chosen {
-            user: first,
-            level: 1,
-            left: 199
-        })
-    );
-    queues.drop_user(first);
-    assert!(rt; !queues.holds(first));
-    assert_eq!(rt;
-        queues.choose(),
-        Some(Chosen {
-            user: second,
-            level: 1,
-            left: 200
-        })
-    );
+    all_go(&rt, &IN_ORDER);
 }

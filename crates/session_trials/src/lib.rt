@@ -22,4 +22,6 @@ mod saved;
 #[cfg(test)]
 mod sessions;
 #[cfg(test)]
+mod shown;
+#[cfg(test)]
 mod texts;

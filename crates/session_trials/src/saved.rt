@@ -1,11 +1,42 @@
+use crate::shown::shows;
 use cmd_program::{PrepareFault, fill, prepare_saved, register_lines, saved_words, word_line};
 use cpu_regs::{MemoryPort, Regs};
-use ctss_types::{FileName, LineText, name_word};
+use ctss_types::{FileName, name_word};
 use file_map::{FilePort, Files};
 use plain_core::PlainCore;
 use program_model::{Fill, LoadFault};
+use std::alloc::Global;
+use std::process::Abort;
 use std::test::Fail;
 use word36::{Acc, Word};
+
+/// The first words of a saved program of the registers.
+static HEAD: [u64; 16] = [
+    1,
+    (1 << 35) + 5,
+    2,
+    (1 << 35) + 6,
+    7,
+    11,
+    12,
+    13,
+    14,
+    15,
+    16,
+    17,
+    9,
+    1,
+    0,
+    0,
+];
+
+static STOPPED: [&str; 3] = [
+    "IC 00011 AC -1000000000005 MQ 400000000006",
+    "SI 000000000007 OV 1 DC 0",
+    "XR 00013 00014 00015 00016 00017 00020 00021",
+];
+
+static WORDS: [&str; 2] = ["00377 000000000000", "PROTECTION"];
 
 fn say() -> FileName {
     FileName::new(name_word(b"SAY"), name_word(b"SAVED"))
@@ -25,73 +56,60 @@ fn registers() -> Regs {
     regs
 }
 
-#[test]
-fn a_program_is_saved_and_goes_on(rt: HostRuntime) -> Result<(), Fail> {
-    let mut core = PlainCore::new(rt.alloc(), 1)?;
+/// The words of a saved program of the registers and a core with 42 in its last place.
+fn saved(rt: &impl Abort, alloc: Global) -> Result<Vec<Word>, Fail> {
+    let mut core = PlainCore::new(alloc, 1)?;
     assert!(rt; core.store(255, Word::of(42)).is_ok());
-    let words = saved_words(rt.alloc(), 1, &registers(), &core)?;
-    assert_eq!(rt; words.len(), 272);
-    let head = [
-        1,
-        (1 << 35) + 5,
-        2,
-        (1 << 35) + 6,
-        7,
-        11,
-        12,
-        13,
-        14,
-        15,
-        16,
-        17,
-        9,
-        1,
-        0,
-        0,
-    ];
-    assert!(rt; words[..16].iter().map(|word| word.bits()).eq(head));
+    Ok(saved_words(alloc, 1, &registers(), &core)?)
+}
 
-    let mut files = Files::new(rt.alloc(), 10);
-    assert!(rt; prepare_saved(say(), 8, &mut files) == Err(PrepareFault::Load(LoadFault::NoFile)));
-    assert!(rt; files.put(say(), &words).is_ok());
-    assert!(rt; prepare_saved(say(), 8, &mut files) == Ok(1));
-    assert!(rt;
-        prepare_saved(say(), 0, &mut files) == Err(PrepareFault::Load(LoadFault::TooLarge))
+/// Prepares the file before and after it is put, and then within no block.
+fn prepares(rt: &impl Abort, files: &mut Files, words: &[Word]) {
+    let before = prepare_saved(say(), 8, files);
+    let put = files.put(say(), words);
+    let after = prepare_saved(say(), 8, files);
+    let within_none = prepare_saved(say(), 0, files);
+    let no_file = Err(PrepareFault::Load(LoadFault::NoFile));
+    let too_large = Err(PrepareFault::Load(LoadFault::TooLarge));
+    assert_eq!(rt;
+        (before, put, after, within_none),
+        (no_file, Ok(()), Ok(1), too_large)
     );
+}
 
-    let mut core = PlainCore::new(rt.alloc(), 1)?;
+/// Fills a core and the registers from the file.
+fn fills(rt: &impl Abort, alloc: Global, files: &mut Files) -> Result<(), Fail> {
+    let mut core = PlainCore::new(alloc, 1)?;
     let mut regs = Regs::new();
-    assert!(rt;
-        fill(
-            &Fill::Saved { name: say() },
-            &mut regs,
-            &mut core,
-            &mut files
-        )
-        .is_ok()
-    );
-    assert!(rt; core.load(255) == Ok(Word::of(42)));
+    let told = fill(&Fill::Saved { name: say() }, &mut regs, &mut core, files);
+    assert_eq!(rt; (told, core.load(255)), (Ok(()), Ok(Word::of(42))));
     assert!(rt; register_lines(&regs) == register_lines(&registers()));
     Ok(())
 }
 
 #[test]
-fn what_is_no_saved_program(rt: HostRuntime) -> Result<(), Fail> {
+fn a_program_is_saved_and_goes_on(rt: HostRuntime) -> Result<(), Fail> {
+    let words = saved(&rt, rt.alloc())?;
+    assert_eq!(rt; words.len(), 272);
+    assert!(rt; words[..16].iter().map(|word| word.bits()).eq(HEAD));
     let mut files = Files::new(rt.alloc(), 10);
-    let short = [Word::of(1); 271];
-    assert!(rt; files.put(say(), &short).is_ok());
-    assert!(rt; prepare_saved(say(), 8, &mut files) == Err(PrepareFault::Load(LoadFault::BadDeck)));
-    Ok(())
+    prepares(&rt, &mut files, &words);
+    fills(&rt, rt.alloc(), &mut files)
+}
+
+#[test]
+fn what_is_no_saved_program(rt: HostRuntime) {
+    let mut files = Files::new(rt.alloc(), 10);
+    let put = files.put(say(), &[Word::of(1); 271]);
+    let prepared = prepare_saved(say(), 8, &mut files);
+    let bad_deck = Err(PrepareFault::Load(LoadFault::BadDeck));
+    assert_eq!(rt; (put, prepared), (Ok(()), bad_deck));
 }
 
 #[test]
 fn a_stopped_program_is_printed(rt: HostRuntime) -> Result<(), Fail> {
     let core = PlainCore::new(rt.alloc(), 1)?;
-    let [arithmetic, indicators, indexes] = register_lines(&registers());
-    assert!(rt; arithmetic == LineText::from_bytes(b"IC 00011 AC -1000000000005 MQ 400000000006")?);
-    assert!(rt; indicators == LineText::from_bytes(b"SI 000000000007 OV 1 DC 0")?);
-    assert!(rt; indexes == LineText::from_bytes(b"XR 00013 00014 00015 00016 00017 00020 00021")?);
-    assert!(rt; word_line(&core, 255) == LineText::from_bytes(b"00377 000000000000")?);
-    assert!(rt; word_line(&core, 256) == LineText::from_bytes(b"PROTECTION")?);
+    shows(&rt, &register_lines(&registers()), &STOPPED);
+    shows(&rt, &[word_line(&core, 255), word_line(&core, 256)], &WORDS);
     Ok(())
 }

@@ -1,8 +1,6 @@
-use ctss_types::Sequence;
 use fap_assemble::{AsmFault, CardFault, Deck, FaultList, assemble};
 use fap_read::cards_of_text;
 use std::test::Fail;
-use word36::Word;
 
 const GREETING: &[u8] = b"       ORG     8\n\
     GO     TSX     PRINT,4\n\
@@ -58,21 +56,25 @@ static DECKS: [(&[u8], &[u64]); 2] = [
 
 #[test]
 fn makes_decks(rt: HostRuntime) -> Result<(), Fail> {
-    for (text, want) in DECKS {
+    for (text, want) in &DECKS {
         let cards = cards_of_text(rt.alloc(), text)?;
         assert!(rt; cards.len() < 100);
         let deck = assemble(rt.alloc(), cards.as_slice())?;
-        let mut words = Sequence::new(rt.alloc());
-        for bits in want {
-            words.push(Word::from_bits(*bits)?)?;
+        let mut bits = Vec::new(rt.alloc());
+        for word in deck.words.as_slice() {
+            bits.push(word.bits())?;
         }
-        assert_eq!(rt; deck.words.as_slice(), words.as_slice());
+        assert_eq!(rt; bits.as_slice(), *want);
     }
     Ok(())
 }
 
-// Cards at fault with their faults.
-static FOUND: [(u32, u8); 4] = [(1, 3), (2, 4), (3, 1), (4, 6)];
+static FOUND: [CardFault; 4] = [
+    CardFault { card: 1, number: 3 },
+    CardFault { card: 2, number: 4 },
+    CardFault { card: 3, number: 1 },
+    CardFault { card: 4, number: 6 },
+];
 
 fn faults_in(answer: Result<Deck, AsmFault>) -> Option<FaultList> {
     match answer {
@@ -85,12 +87,8 @@ fn faults_in(answer: Result<Deck, AsmFault>) -> Option<FaultList> {
 fn finds_faults(rt: HostRuntime) -> Result<(), Fail> {
     let cards = cards_of_text(rt.alloc(), FAULTS)?;
     assert!(rt; cards.len() < 100);
-    let mut want = Sequence::new(rt.alloc());
-    for (card, number) in FOUND {
-        want.push(CardFault { card, number })?;
-    }
     match faults_in(assemble(rt.alloc(), cards.as_slice())) {
-        Some(faults) => assert_eq!(rt; faults.as_slice(), want.as_slice()),
+        Some(faults) => assert_eq!(rt; faults.as_slice(), FOUND.as_slice()),
         None => assert!(rt; false),
     }
     Ok(())

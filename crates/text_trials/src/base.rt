@@ -1,11 +1,10 @@
-use script_read::{ScriptFault, read_base, read_script};
+use crate::script::{HEAD, Reader, Refused, refuses};
+use script_read::{read_base, read_script};
 use std::test::Fail;
-use text_model::{ScriptCause, ScriptRefusal};
-
-const HEAD: &[u8] = b"PARAM 1024 100 10 8 20 5\nUSER 1 ALFA SESAME 8 10\n";
+use text_model::ScriptCause;
 
 /// What stands behind `HEAD`, and the card and cause of its refusal.
-const REFUSED: [(&str, &[u8], u32, ScriptCause); 6] = [
+static REFUSED: [Refused; 6] = [
     (
         "an event",
         b"AT 0 1 DIAL\nEND 0\n",
@@ -40,14 +39,6 @@ fn base_scripts_have_no_events(rt: HostRuntime) -> Result<(), Fail> {
     base.extend_from_slice(b"* AT 0 1 DIAL\nFILE 1 AT TEXT 1\nT AT 0 1 DIAL\nEND 7\n")?;
     let script = read_base(rt.alloc(), &base)?;
     let same = read_script(rt.alloc(), &base)?;
-    assert!(rt; script == same);
-    assert_eq!(rt; script.end, 7);
-    for (what, cards, card, cause) in REFUSED {
-        let mut bytes = Vec::from_slice(rt.alloc(), HEAD)?;
-        bytes.extend_from_slice(cards)?;
-        let fault = read_base(rt.alloc(), &bytes).err();
-        let refusal = ScriptRefusal { card, cause };
-        assert_eq!(rt; fault, Some(ScriptFault::Refused(refusal)), "{what}");
-    }
-    Ok(())
+    assert_eq!(rt; (script == same, script.end), (true, 7));
+    refuses(&rt, rt.alloc(), Reader::Base, HEAD, &REFUSED)
 }

@@ -1,5 +1,6 @@
-use ctss_types::{Event, name_text};
+use ctss_types::{Account, Event, OwnedFile, name_text};
 use made_script::make_script;
+use std::process::Abort;
 use std::test::Fail;
 
 /// What the four users of the script of 0 are called, and the first and the third word of their programs: the blocks
@@ -49,22 +50,36 @@ fn text(event: &Event) -> &str {
     }
 }
 
+/// Tries the account and the file of a user.
+fn has_user(rt: &impl Abort, account: &Account, file: &OwnedFile, want: &(&str, &str, u64, u64)) {
+    let words = file.body.words.as_slice();
+    assert_eq!(rt; words.len(), 12, "of {}", want.0);
+    assert_eq!(rt;
+        (
+            name_text(account.name).as_str(),
+            name_text(account.password).as_str(),
+            words[0].bits(),
+            words[2].bits()
+        ),
+        *want
+    );
+}
+
 #[test]
 fn zero_makes_four_users(rt: HostRuntime) -> Result<(), Fail> {
     let script = make_script(rt.alloc(), 0)?;
-    assert_eq!(rt; script.accounts.len(), 4);
-    assert_eq!(rt; script.files.len(), 4);
-    for (account, (name, password, _, _)) in script.accounts.as_slice().iter().zip(&USERS) {
-        assert_eq!(rt; name_text(account.name).as_str(), *name);
-        assert_eq!(rt; name_text(account.password).as_str(), *password);
+    assert_eq!(rt;
+        (script.accounts.len(), script.files.len(), script.end),
+        (4, 4, 1_000_000)
+    );
+    let users = script
+        .accounts
+        .as_slice()
+        .iter()
+        .zip(script.files.as_slice());
+    for ((account, file), want) in users.zip(&USERS) {
+        has_user(&rt, account, file, want);
     }
-    for (file, (name, _, blocks, count)) in script.files.as_slice().iter().zip(&USERS) {
-        let words = file.body.words.as_slice();
-        assert_eq!(rt; words.len(), 12, "of {name}");
-        assert_eq!(rt; words[0].bits(), *blocks, "of {name}");
-        assert_eq!(rt; words[2].bits(), *count, "of {name}");
-    }
-    assert_eq!(rt; script.end, 1_000_000);
     Ok(())
 }
 
@@ -72,10 +87,11 @@ fn zero_makes_four_users(rt: HostRuntime) -> Result<(), Fail> {
 fn zero_makes_four_sessions(rt: HostRuntime) -> Result<(), Fail> {
     let script = make_script(rt.alloc(), 0)?;
     assert_eq!(rt; script.events.len(), 24);
-    for (timed, (tick, console, want)) in script.events.as_slice().iter().zip(&TYPED) {
-        assert_eq!(rt; timed.tick, *tick);
-        assert_eq!(rt; timed.console.number(), *console);
-        assert_eq!(rt; text(&timed.event), *want);
+    for (timed, want) in script.events.as_slice().iter().zip(&TYPED) {
+        assert_eq!(rt;
+            (timed.tick, timed.console.number(), text(&timed.event)),
+            *want
+        );
     }
     Ok(())
 }
@@ -83,16 +99,20 @@ fn zero_makes_four_sessions(rt: HostRuntime) -> Result<(), Fail> {
 #[test]
 fn twenty_six_makes_thirty_users(rt: HostRuntime) -> Result<(), Fail> {
     let script = make_script(rt.alloc(), 26)?;
-    assert_eq!(rt; script.accounts.len(), 30);
-    assert_eq!(rt; script.files.len(), 30);
-    assert_eq!(rt; script.events.len(), 180);
-    for (index, file) in script.files.as_slice().iter().enumerate() {
-        assert_eq!(rt; usize::from(file.owner.number()), index + 1);
-    }
-    let last = script.events.as_slice().last();
-    assert_eq!(rt;
-        last.map(|timed| (timed.tick, timed.console.number())),
-        Some((3000, 30))
+    let Some(last) = script.events.as_slice().last() else {
+        return Err(Fail::new("no events"));
+    };
+    let counts = (
+        script.accounts.len(),
+        script.files.len(),
+        script.events.len(),
     );
+    assert_eq!(rt;
+        (counts, last.tick, last.console.number()),
+        ((30, 30, 180), 3000, 30)
+    );
+    for (file, user) in script.files.as_slice().iter().zip(1..=30) {
+        assert_eq!(rt; file.owner.number(), user);
+    }
     Ok(())
 }

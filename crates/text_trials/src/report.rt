@@ -33,33 +33,23 @@ fn script(alloc: Global) -> Result<Script, Fail> {
     })
 }
 
-/// A record of that script.
-fn record(
-    alloc: Global,
-    items: Items,
-    files: FileList,
-    common: FileList,
-    entries: Entries,
-) -> Result<Record, Fail> {
-    Ok(Record {
-        entries,
-        transcripts: Sequence::from_vec(vec![in alloc; items]?),
-        files: Sequence::from_vec(vec![in alloc; files]?),
-        common,
-        clock: 100,
-    })
+/// A list of one thing.
+fn one<T: Drop>(alloc: Global, thing: T) -> Result<Sequence<T>, Fail> {
+    let mut list = Sequence::new(alloc);
+    list.push(thing)?;
+    Ok(list)
 }
 
 /// The file that a printed card makes: `HI`, and blanks behind it.
 fn card(alloc: Global) -> Result<FileList, Fail> {
-    let mut words = vec![in alloc; Word::from_bits(0o606060606060)?; 14]?;
+    let mut words = [Word::from_bits(0o606060606060)?; 14];
     words[0] = Word::from_bits(0o303160606060)?;
     let file = FileBody {
         name: FileName::new(name_word(b"A"), name_word(b"B")),
         mode: 1,
-        words: Sequence::from_vec(words),
+        words: Sequence::from_vec(Vec::from_slice(alloc, &words)?),
     };
-    Ok(Sequence::from_vec(vec![in alloc; file]?))
+    one(alloc, file)
 }
 
 /// Tries the report of a record.
@@ -85,9 +75,9 @@ static LINES: [(bool, &[u8]); 4] = [
 
 fn items(alloc: Global) -> Result<Items, Fail> {
     let mut items = Sequence::new(alloc);
-    for (typed, text) in LINES {
+    for (typed, text) in &LINES {
         let line = LineText::from_bytes(text)?;
-        items.push(if typed {
+        items.push(if *typed {
             Item::In(line)
         } else {
             Item::Out(line)
@@ -96,52 +86,68 @@ fn items(alloc: Global) -> Result<Items, Fail> {
     Ok(items)
 }
 
-fn taken(tick: u64, kind: EventKind, user: u8) -> Entry {
+const ENTRIES: [Entry; 9] = [
     Entry::Taken {
-        tick,
+        tick: 0,
         console: 1,
-        kind,
-        user,
+        kind: EventKind::Dial,
+        user: 0,
         own: 0,
-    }
-}
-
-fn entries(alloc: Global) -> Result<Entries, Fail> {
-    let entries = vec![in alloc;
-        taken(0, EventKind::Dial, 0),
-        taken(0, EventKind::Line, 0),
-        taken(0, EventKind::Line, 0),
-        Entry::Login {
-            tick: 0,
-            console: 1,
-            user: 1,
-        },
-        Entry::Idle { from: 0, until: 20 },
-        taken(20, EventKind::Line, 1),
-        Entry::Clock {
-            answer: 20,
-            user: 1,
-        },
-        Entry::Serve {
-            tick: 20,
-            user: 1,
-            level: 1,
-            ran: 1,
-            cause: Cause::Stop,
-        },
-        Entry::Idle {
-            from: 21,
-            until: 100,
-        },
-    ]?;
-    Ok(Sequence::from_vec(entries))
-}
+    },
+    Entry::Taken {
+        tick: 0,
+        console: 1,
+        kind: EventKind::Line,
+        user: 0,
+        own: 0,
+    },
+    Entry::Taken {
+        tick: 0,
+        console: 1,
+        kind: EventKind::Line,
+        user: 0,
+        own: 0,
+    },
+    Entry::Login {
+        tick: 0,
+        console: 1,
+        user: 1,
+    },
+    Entry::Idle { from: 0, until: 20 },
+    Entry::Taken {
+        tick: 20,
+        console: 1,
+        kind: EventKind::Line,
+        user: 1,
+        own: 0,
+    },
+    Entry::Clock {
+        answer: 20,
+        user: 1,
+    },
+    Entry::Serve {
+        tick: 20,
+        user: 1,
+        level: 1,
+        ran: 1,
+        cause: Cause::Stop,
+    },
+    Entry::Idle {
+        from: 21,
+        until: 100,
+    },
+];
 
 #[test]
 fn reports_a_short_session(rt: HostRuntime) -> Result<(), Fail> {
     let alloc = rt.alloc();
-    let (files, common) = (Sequence::new(alloc), Sequence::new(alloc));
-    let run = record(alloc, items(alloc)?, files, common, entries(alloc)?)?;
+    let run = Record {
+        entries: Sequence::from_vec(Vec::from_clones(alloc, &ENTRIES)?),
+        transcripts: one(alloc, items(alloc)?)?,
+        files: one(alloc, Sequence::new(alloc))?,
+        common: Sequence::new(alloc),
+        clock: 100,
+    };
     tells(
         &rt,
         alloc,
@@ -172,15 +178,14 @@ fn reports_a_short_session(rt: HostRuntime) -> Result<(), Fail> {
 fn dumps_words_five_a_card(rt: HostRuntime) -> Result<(), Fail> {
     let alloc = rt.alloc();
     let line = LineText::from_bytes(b"")?;
-    let items = vec![in alloc; Item::Hang, Item::Quit, Item::In(line)]?;
-    let (common, entries) = (Sequence::new(alloc), Sequence::new(alloc));
-    let run = record(
-        alloc,
-        Sequence::from_vec(items),
-        card(alloc)?,
-        common,
-        entries,
-    )?;
+    let items = Vec::from_slice(alloc, &[Item::Hang, Item::Quit, Item::In(line)])?;
+    let run = Record {
+        entries: Sequence::new(alloc),
+        transcripts: one(alloc, Sequence::from_vec(items))?,
+        files: one(alloc, card(alloc)?)?,
+        common: Sequence::new(alloc),
+        clock: 100,
+    };
     tells(
         &rt,
         alloc,

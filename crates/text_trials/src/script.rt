@@ -1,13 +1,9 @@
-use ctss_types::{
-    Account, ConsoleNo, Event, FileBody, FileName, LineText, OwnedFile, OwnedFiles, Params, Script,
-    Sequence, Timed, UserNo, name_word,
-};
-use script_read::{ScriptFault, read_script, script_text};
+use ctss_types::{Account, Event, FileName, OwnedFile, Params, Script, name_word};
+use script_read::{ScriptFault, read_base, read_script, script_text};
 use std::alloc::Global;
 use std::process::Abort;
 use std::test::Fail;
 use text_model::{ScriptCause, ScriptRefusal};
-use word36::Word;
 
 /// Reads bytes that spell the same script as its canonical text.
 fn reads_as(
@@ -19,24 +15,47 @@ fn reads_as(
 ) -> Result<Script, Fail> {
     let script = read_script(alloc, bytes)?;
     let text = script_text(alloc, &script)?;
-    assert_eq!(rt; text.as_slice(), canonical, "{what}");
     let same = read_script(alloc, canonical)?;
-    assert!(rt; script == same, "{what}");
+    assert_eq!(rt;
+        (text.as_slice(), script == same),
+        (canonical, true),
+        "{what}"
+    );
     Ok(script)
 }
 
-/// Reads bytes that are refused at a card for a cause.
-fn refused(
+/// Which scripts are read: any, or those without events.
+#[derive(Clone, Copy)]
+pub enum Reader {
+    Any,
+    Base,
+}
+
+/// What cards are, the cards, and the card and the cause of their refusal.
+pub type Refused = (&'static str, &'static [u8], u32, ScriptCause);
+
+/// Reads scripts, of a front and cards behind it, each of which is refused at a card for a cause.
+pub fn refuses(
     rt: &impl Abort,
     alloc: Global,
-    what: &str,
-    bytes: &[u8],
-    card: u32,
-    cause: ScriptCause,
-) {
-    let fault = read_script(alloc, bytes).err();
-    let refusal = ScriptRefusal { card, cause };
-    assert_eq!(rt; fault, Some(ScriptFault::Refused(refusal)), "{what}");
+    reader: Reader,
+    front: &[u8],
+    rows: &[Refused],
+) -> Result<(), Fail> {
+    for (what, cards, card, cause) in rows {
+        let mut bytes = Vec::from_slice(alloc, front)?;
+        bytes.extend_from_slice(cards)?;
+        let read = match reader {
+            Reader::Any => read_script(alloc, &bytes),
+            Reader::Base => read_base(alloc, &bytes),
+        };
+        let refusal = ScriptRefusal {
+            card: *card,
+            cause: *cause,
+        };
+        assert_eq!(rt; read.err(), Some(ScriptFault::Refused(refusal)), "{what}");
+    }
+    Ok(())
 }
 
 const SESSION: &[u8] = b"PARAM 1024 100 10 8 20 5\n\
@@ -56,30 +75,26 @@ const PARAMS: Params = Params {
     common: 5,
 };
 
-fn typed(console: ConsoleNo, tick: u64, text: &[u8]) -> Result<Timed, Fail> {
-    Ok(Timed {
-        tick,
-        console,
-        event: Event::Line(LineText::from_bytes(text)?),
-    })
+/// The events of the session: ticks, consoles, and what they are.
+static EVENTS: [(u64, u8, (&str, &str)); 4] = [
+    (0, 1, ("DIAL", "")),
+    (0, 1, ("LINE", "LOGIN ALFA")),
+    (0, 1, ("LINE", "SESAME")),
+    (20, 1, ("LINE", "LOGOUT")),
+];
+
+/// An event, and what is typed.
+fn event_texts(event: &Event) -> (&str, &str) {
+    match event {
+        Event::Dial => ("DIAL", ""),
+        Event::Line(line) => ("LINE", line.as_str()),
+        Event::Quit => ("QUIT", ""),
+        Event::Hang => ("HANG", ""),
+    }
 }
 
 #[test]
 fn reads_a_session(rt: HostRuntime) -> Result<(), Fail> {
-    let Some(console) = ConsoleNo::new(1) else {
-        return Err(Fail::new("no console 1"));
-    };
-    let dial = Timed {
-        tick: 0,
-        console,
-        event: Event::Dial,
-    };
-    let events = [
-        dial,
-        typed(console, 0, b"LOGIN ALFA")?,
-        typed(console, 0, b"SESAME")?,
-        typed(console, 20, b"LOGOUT")?,
-    ];
     let account = Account {
         name: name_word(b"ALFA"),
         password: name_word(b"SESAME"),
@@ -87,11 +102,26 @@ fn reads_a_session(rt: HostRuntime) -> Result<(), Fail> {
         tracks: 10,
     };
     let script = reads_as(&rt, rt.alloc(), "a session", SESSION, SESSION)?;
-    assert_eq!(rt; script.params, PARAMS);
-    assert_eq!(rt; script.accounts.as_slice(), [account].as_slice());
-    assert!(rt; script.files.is_empty());
-    assert_eq!(rt; script.events.as_slice(), events.as_slice());
-    assert_eq!(rt; script.end, 100);
+    assert_eq!(rt;
+        (
+            script.params,
+            script.accounts.as_slice(),
+            script.files.len(),
+            script.events.len(),
+            script.end
+        ),
+        (PARAMS, [account].as_slice(), 0, 4, 100)
+    );
+    for (timed, want) in script.events.as_slice().iter().zip(&EVENTS) {
+        assert_eq!(rt;
+            (
+                timed.tick,
+                timed.console.number(),
+                event_texts(&timed.event)
+            ),
+            *want
+        );
+    }
     Ok(())
 }
 
@@ -105,33 +135,28 @@ const FILES: &[u8] = b"PARAM 1024 100 10 8 20 5\n\
     AT 0 1 DIAL\n\
     END 0\n";
 
-/// The file `A B` of an account, of these words.
-fn file(alloc: Global, owner: UserNo, mode: u8, bits: &[u64]) -> Result<OwnedFile, Fail> {
-    let mut words = Sequence::new(alloc);
-    for word in bits {
-        words.push(Word::from_bits(*word)?)?;
-    }
-    Ok(OwnedFile {
-        owner,
-        body: FileBody {
-            name: FileName::new(name_word(b"A"), name_word(b"B")),
-            mode,
-            words,
-        },
-    })
-}
+/// Owners, modes and words of these files, both of which are called `A B`.
+static WORDS: [(u8, u8, &[u64]); 2] = [(2, 3, &[7, 0, 0, 0, 0, 0o777777777777]), (1, 0, &[])];
 
-fn files(alloc: Global) -> Result<OwnedFiles, Fail> {
-    let second = file(alloc, UserNo::of(2), 3, &[7, 0, 0, 0, 0, 0o777777777777])?;
-    let first = file(alloc, UserNo::of(1), 0, &[])?;
-    Ok(Sequence::from_vec(vec![in alloc; second, first]?))
+fn has_words(rt: &impl Abort, file: &OwnedFile, (owner, mode, bits): (u8, u8, &[u64])) {
+    let OwnedFile { owner: found, body } = file;
+    let name = FileName::new(name_word(b"A"), name_word(b"B"));
+    assert_eq!(rt;
+        (found.number(), body.name, body.mode, body.words.len()),
+        (owner, name, mode, bits.len())
+    );
+    for (word, bits) in body.words.as_slice().iter().zip(bits) {
+        assert_eq!(rt; word.bits(), *bits);
+    }
 }
 
 #[test]
 fn reads_files_of_two_accounts(rt: HostRuntime) -> Result<(), Fail> {
     let script = reads_as(&rt, rt.alloc(), "two accounts", FILES, FILES)?;
-    let want = files(rt.alloc())?;
-    assert!(rt; script.files == want);
+    assert_eq!(rt; script.files.len(), 2);
+    for (file, want) in script.files.as_slice().iter().zip(&WORDS) {
+        has_words(&rt, file, *want);
+    }
     Ok(())
 }
 
@@ -213,14 +238,14 @@ static READ: [(&str, &[u8], &[u8]); 13] = [
 
 #[test]
 fn reads_scripts_as_people_write_them(rt: HostRuntime) -> Result<(), Fail> {
-    for (what, bytes, canonical) in READ {
+    for (what, bytes, canonical) in &READ {
         let _script = reads_as(&rt, rt.alloc(), what, bytes, canonical)?;
     }
     Ok(())
 }
 
 // Cards behind PARAM and USER: the first of them is card 3.
-static BEHIND_HEAD: [(&str, &[u8], u32, ScriptCause); 33] = [
+static BEHIND_HEAD: [Refused; 33] = [
     ("one name", b"FILE 1 HEL\n", 3, ScriptCause::NotACard),
     (
         "comments count",
@@ -382,7 +407,7 @@ static BEHIND_HEAD: [(&str, &[u8], u32, ScriptCause); 33] = [
 ];
 
 // Whole texts.
-static WHOLE: [(&str, &[u8], u32, ScriptCause); 8] = [
+static WHOLE: [Refused; 8] = [
     ("no bytes", b"", 1, ScriptCause::NoEnd),
     ("comments alone", b"*\n*\n", 3, ScriptCause::NoEnd),
     ("no PARAM", b"END 0\n", 1, ScriptCause::NotACard),
@@ -418,69 +443,142 @@ static WHOLE: [(&str, &[u8], u32, ScriptCause); 8] = [
     ),
 ];
 
-const HEAD: &[u8] = b"PARAM 1024 100 10 8 20 5\nUSER 1 ALFA SESAME 8 10\n";
+pub const HEAD: &[u8] = b"PARAM 1024 100 10 8 20 5\nUSER 1 ALFA SESAME 8 10\n";
 
 #[test]
 fn refuses_at_a_card_for_a_cause(rt: HostRuntime) -> Result<(), Fail> {
-    for (what, bytes, card, cause) in WHOLE {
-        refused(&rt, rt.alloc(), what, bytes, card, cause);
-    }
-    for (what, cards, card, cause) in BEHIND_HEAD {
-        let mut bytes = Vec::from_slice(rt.alloc(), HEAD)?;
-        bytes.extend_from_slice(cards)?;
-        refused(&rt, rt.alloc(), what, &bytes, card, cause);
-    }
-    Ok(())
+    refuses(&rt, rt.alloc(), Reader::Any, b"", &WHOLE)?;
+    refuses(&rt, rt.alloc(), Reader::Any, HEAD, &BEHIND_HEAD)
 }
 
-/// A script with a file, and a text of so many letters behind the front of a card.
-fn script_with_letters(alloc: Global, front: &[u8], letters: usize) -> Result<Vec<u8>, Fail> {
-    let mut bytes = Vec::from_slice(alloc, b"PARAM 1 1 0 1 1 0\nUSER 1 A B 1 1\nFILE 1 X Y 1\n")?;
-    bytes.extend_from_slice(front)?;
-    for _ in 0..letters {
-        bytes.push(b'A')?;
-    }
-    bytes.extend_from_slice(b"  \nEND 0\n")?;
-    Ok(bytes)
+/// A long script: what it begins with, a piece with how often it follows, and what it ends with.
+#[derive(Clone, Copy)]
+struct Long {
+    front: &'static [u8],
+    piece: &'static [u8],
+    times: usize,
+    end: &'static [u8],
 }
 
-/// The script of a file of so many words, whose owner has one track.
-fn script_with_words(alloc: Global, words: usize) -> Result<String, Fail> {
-    let mut text = String::new(alloc);
-    text.push_str("PARAM 1 1 0 1 1 0\nUSER 1 A B 1 1\nFILE 1 X Y 1")?;
-    for place in 0..words {
-        text.push_str(if place % 5 == 0 { "\nO" } else { "" })?;
-        text.push_str(" 000000000001")?;
+impl Long {
+    fn bytes(&self, alloc: Global) -> Result<Vec<u8>, Fail> {
+        let mut bytes = Vec::from_slice(alloc, self.front)?;
+        for _ in 0..self.times {
+            bytes.extend_from_slice(self.piece)?;
+        }
+        bytes.extend_from_slice(self.end)?;
+        Ok(bytes)
     }
-    text.push_str("\nEND 0\n")?;
-    Ok(text)
 }
+
+/// A file of as many words as go on one track.
+const FULL_TRACK: Long = Long {
+    front: b"PARAM 1 1 0 1 1 0\nUSER 1 A B 1 1\nFILE 1 X Y 1",
+    piece: b"\nO 000000000001 000000000001 000000000001 000000000001 000000000001",
+    times: 86,
+    end: b"\nO 000000000001 000000000001\nEND 0\n",
+};
+
+const STARS: &[u8] = &[b'*'; 64];
+
+/// What is long, the script, and how it is refused.
+static LONG: [(&str, Long, Option<ScriptFault>); 7] = [
+    (
+        "84 letters of a line",
+        Long {
+            front: b"PARAM 1 1 0 1 1 0\nUSER 1 A B 1 1\nFILE 1 X Y 1\nAT 0 1 LINE ",
+            piece: b"A",
+            times: 84,
+            end: b"  \nEND 0\n",
+        },
+        None,
+    ),
+    (
+        "85 letters of a line",
+        Long {
+            front: b"PARAM 1 1 0 1 1 0\nUSER 1 A B 1 1\nFILE 1 X Y 1\nAT 0 1 LINE ",
+            piece: b"A",
+            times: 85,
+            end: b"  \nEND 0\n",
+        },
+        Some(ScriptFault::Refused(ScriptRefusal {
+            card: 4,
+            cause: ScriptCause::OverLimit,
+        })),
+    ),
+    (
+        "84 letters of a text",
+        Long {
+            front: b"PARAM 1 1 0 1 1 0\nUSER 1 A B 1 1\nFILE 1 X Y 1\nT ",
+            piece: b"A",
+            times: 84,
+            end: b"  \nEND 0\n",
+        },
+        None,
+    ),
+    (
+        "85 letters of a text",
+        Long {
+            front: b"PARAM 1 1 0 1 1 0\nUSER 1 A B 1 1\nFILE 1 X Y 1\nT ",
+            piece: b"A",
+            times: 85,
+            end: b"  \nEND 0\n",
+        },
+        Some(ScriptFault::Refused(ScriptRefusal {
+            card: 4,
+            cause: ScriptCause::OverLimit,
+        })),
+    ),
+    (
+        "433 words",
+        Long {
+            front: b"PARAM 1 1 0 1 1 0\nUSER 1 A B 1 1\nFILE 1 X Y 1",
+            piece: b"\nO 000000000001 000000000001 000000000001 000000000001 000000000001",
+            times: 86,
+            end: b"\nO 000000000001 000000000001 000000000001\nEND 0\n",
+        },
+        Some(ScriptFault::Refused(ScriptRefusal {
+            card: 90,
+            cause: ScriptCause::OverLimit,
+        })),
+    ),
+    (
+        "4 MiB",
+        Long {
+            front: b"",
+            piece: STARS,
+            times: 65_536,
+            end: b"",
+        },
+        Some(ScriptFault::Refused(ScriptRefusal {
+            card: 2,
+            cause: ScriptCause::NoEnd,
+        })),
+    ),
+    (
+        "a byte more",
+        Long {
+            front: b"",
+            piece: STARS,
+            times: 65_536,
+            end: b"*",
+        },
+        Some(ScriptFault::Refused(ScriptRefusal {
+            card: 0,
+            cause: ScriptCause::TooLong,
+        })),
+    ),
+];
 
 #[test]
 fn texts_files_and_scripts_have_their_limits(rt: HostRuntime) -> Result<(), Fail> {
-    let alloc = rt.alloc();
-    for front in [b"AT 0 1 LINE ".as_slice(), b"T ".as_slice()] {
-        let _script = read_script(alloc, &script_with_letters(alloc, front, 84)?)?;
-        let over = script_with_letters(alloc, front, 85)?;
-        refused(&rt, alloc, "85 letters", &over, 4, ScriptCause::OverLimit);
+    for (what, script, want) in &LONG {
+        let bytes = script.bytes(rt.alloc())?;
+        let fault = read_script(rt.alloc(), &bytes).err();
+        assert_eq!(rt; fault, *want, "{what}");
     }
-
-    let fits = script_with_words(alloc, 432)?;
-    let _script = reads_as(&rt, alloc, "432 words", fits.as_bytes(), fits.as_bytes())?;
-    let over = script_with_words(alloc, 433)?;
-    refused(
-        &rt,
-        alloc,
-        "433 words",
-        over.as_bytes(),
-        90,
-        ScriptCause::OverLimit,
-    );
-
-    let mut bytes = vec![in alloc; b'*'; 4_194_304]?;
-    refused(&rt, alloc, "4 MiB", &bytes, 2, ScriptCause::NoEnd);
-    bytes.push(b'*')?;
-    refused(&rt, alloc, "a byte more", &bytes, 0, ScriptCause::TooLong);
+    let fits = FULL_TRACK.bytes(rt.alloc())?;
+    let _script = reads_as(&rt, rt.alloc(), "432 words", &fits, &fits)?;
     Ok(())
 }
 
@@ -493,31 +591,27 @@ static PLACES: [(&[u8], usize, usize); 3] = [
 ];
 
 /// How many bytes leave a script that is read, in place of one of its own; it is refused with each other byte.
-fn bytes_that_are_read(
-    rt: &impl Abort,
-    alloc: Global,
-    script: &[u8],
-    place: usize,
-) -> Result<usize, Fail> {
-    let mut read = Vec::new(alloc);
+fn bytes_that_are_read(alloc: Global, script: &[u8], place: usize) -> Result<usize, Fail> {
+    let mut bytes = Vec::from_slice(alloc, script)?;
+    let mut read: usize = 0;
     for byte in 0..=255u8 {
-        let mut bytes = Vec::from_slice(alloc, script)?;
         if let Some(slot) = bytes.get_mut(place) {
             *slot = byte;
         }
         match read_script(alloc, &bytes) {
-            Ok(_) => read.push(byte)?,
-            Err(fault) => assert_ne!(rt; fault, ScriptFault::NoMemory),
+            Ok(_) => read = read.saturating_add(1),
+            Err(ScriptFault::Refused(_)) => {}
+            Err(fault) => return Err(fault.into()),
         }
     }
-    Ok(read.len())
+    Ok(read)
 }
 
 #[test]
 fn each_byte_is_read_or_refused(rt: HostRuntime) -> Result<(), Fail> {
-    for (script, place, want) in PLACES {
-        let read = bytes_that_are_read(&rt, rt.alloc(), script, place)?;
-        assert_eq!(rt; read, want, "at {place}");
+    for (script, place, want) in &PLACES {
+        let read = bytes_that_are_read(rt.alloc(), script, *place)?;
+        assert_eq!(rt; read, *want, "at {place}");
     }
     Ok(())
 }

@@ -1,34 +1,60 @@
 //! What no clause says: that calls succeed, and that the pieces fit together.
-ghost use Rattle.std.specs.Prelude.{◌≤◌, IfOk};
+ghost use Rattle.std.specs.Prelude.{◌<◌, ◌≤◌, IfOk};
 
 use ctss_io::{
     Got, MemorySink, MemorySource, NoMemory, ReadEnd, Sink, Source, StdSink, StdSource, Took,
     WriteFault, read_bytes, write_all,
 };
+use std::alloc::Global;
 use std::io;
 use std::io::{ErrorKind, Read, Write};
+use std::process::Abort;
 use std::test::Fail;
+
+/// Tries what a source answers to one read after another, and what stands in the buffer behind each.
+fn gives<S: Source, const N: usize>(rt: &impl Abort, source: &mut S, reads: &[(Got, [u8; N])])
+    requires { 0 < N }
+{
+    let mut buffer = [b'-'; N];
+    for (got, held) in reads {
+        let answer = source.read(&mut buffer);
+        assert_eq!(rt; (answer, buffer), (*got, *held));
+    }
+}
+
+/// Tries what a sink answers to one put after another; none puts nothing.
+fn takes<K: Sink>(rt: &impl Abort, sink: &mut K, puts: &[(&[u8], Took)]) {
+    for (bytes, took) in puts {
+        assert!(rt; !bytes.is_empty());
+        assert_eq!(rt; sink.put(bytes), *took);
+    }
+}
+
+static PIECES: [(Got, [u8; 4]); 4] = [
+    (Got::Bytes(2), *b"ab--"),
+    (Got::Failed, *b"ab--"),
+    (Got::Bytes(1), *b"cb--"),
+    (Got::End, *b"cb--"),
+];
 
 #[test]
 fn memory_source_gives_pieces(rt: HostRuntime) -> Result<(), Fail> {
     let mut source = MemorySource::new(rt.alloc(), b"abc", 2, &[2])?;
-    let mut buffer = [b'-'; 4];
-    assert_eq!(rt; source.read(&mut buffer), Got::Bytes(2));
-    assert_eq!(rt; &buffer, b"ab--");
-    assert_eq!(rt; source.read(&mut buffer), Got::Failed);
-    assert_eq!(rt; source.read(&mut buffer), Got::Bytes(1));
-    assert_eq!(rt; &buffer, b"cb--");
-    assert_eq!(rt; source.read(&mut buffer), Got::End);
+    gives(&rt, &mut source, &PIECES);
     Ok(())
 }
+
+static PUTS: [(&[u8], Took); 4] = [
+    (b"abcdef", Took::Bytes(4)),
+    (b"ef", Took::Failed),
+    (b"e", Took::Bytes(1)),
+    (b"f", Took::Failed),
+];
 
 #[test]
 fn memory_sink_keeps_to_its_room(rt: HostRuntime) -> Result<(), Fail> {
     let mut sink = MemorySink::new(rt.alloc(), 5, 4, &[5])?;
-    assert_eq!(rt; sink.put(b"abcdef"), Took::Bytes(4));
-    assert_eq!(rt; sink.put(b"ef"), Took::Failed);
-    assert_eq!(rt; sink.put(b"e"), Took::Bytes(1));
-    assert_eq!(rt; sink.put(b"f"), Took::Failed);
+    takes(&rt, &mut sink, &PUTS);
     assert_eq!(rt; sink.bytes(), b"abcde".as_slice());
     Ok(())
 }
@@ -41,75 +67,86 @@ fn want_of_memory_converts(rt: HostRuntime) -> Result<(), NoMemory> {
     Ok(())
 }
 
-#[test]
-fn reads_all(rt: HostRuntime) -> Result<(), Fail> {
-    let alloc = rt.alloc();
-    for piece in [1, 7, 5000] {
-        let mut source = MemorySource::new(alloc, b"a line of cards\n", piece, &[])?;
-        let bytes = read_bytes(alloc, &mut source)?;
-        assert_eq!(rt;
-            bytes.as_slice(),
-            b"a line of cards\n".as_slice(),
-            "by {piece}"
-        );
+/// All of a source, or why a read gave nothing. Want of memory, which may come at any time, ends the test.
+fn whole<S: Source>(alloc: Global, source: &mut S) -> Result<Result<Vec<u8>, ReadEnd>, NoMemory> {
+    match read_bytes(alloc, source) {
+        Err(ReadEnd::NoMemory) => Err(NoMemory),
+        read => Ok(read),
     }
-    let mut empty = MemorySource::new(alloc, b"", 1, &[])?;
-    assert!(rt; read_bytes(alloc, &mut empty)?.is_empty());
+}
+
+fn reads<S: Source>(
+    rt: &impl Abort,
+    alloc: Global,
+    source: &mut S,
+    want: &[u8],
+) -> Result<(), Fail> {
+    let bytes = read_bytes(alloc, source)?;
+    assert_eq!(rt; bytes.as_slice(), want);
     Ok(())
 }
 
-// Why a read gave nothing. Want of memory, which may come at any time, ends the test.
-fn end_of(read: Result<Vec<u8>, ReadEnd>) -> Result<Option<ReadEnd>, NoMemory> {
-    match read {
-        Ok(_) => Ok(None),
-        Err(ReadEnd::NoMemory) => Err(NoMemory),
-        Err(end) => Ok(Some(end)),
+/// Bytes, and how many of them come at a time.
+static WHOLE: [(&[u8], usize); 4] = [
+    (b"a line of cards\n", 1),
+    (b"a line of cards\n", 7),
+    (b"a line of cards\n", 5000),
+    (b"", 1),
+];
+
+#[test]
+fn reads_all(rt: HostRuntime) -> Result<(), Fail> {
+    for (bytes, piece) in &WHOLE {
+        assert!(rt; 1 <= *piece);
+        let mut source = MemorySource::new(rt.alloc(), bytes, *piece, &[])?;
+        reads(&rt, rt.alloc(), &mut source, bytes)?;
     }
+    Ok(())
 }
 
 #[test]
 fn reading_stops_at_a_fault(rt: HostRuntime) -> Result<(), Fail> {
-    let alloc = rt.alloc();
-    let mut source = MemorySource::new(alloc, b"abcd", 1, &[3])?;
-    assert_eq!(rt;
-        end_of(read_bytes(alloc, &mut source))?,
-        Some(ReadEnd::Fault)
-    );
+    let mut source = MemorySource::new(rt.alloc(), b"abcd", 1, &[3])?;
+    assert_eq!(rt; whole(rt.alloc(), &mut source)?.err(), Some(ReadEnd::Fault));
     // The two bytes before the fault are gone.
-    assert_eq!(rt;
-        read_bytes(alloc, &mut source)?.as_slice(),
-        b"cd".as_slice()
-    );
-    Ok(())
+    reads(&rt, rt.alloc(), &mut source, b"cd")
 }
 
 #[test]
 fn reads_up_to_the_limit(rt: HostRuntime) -> Result<(), Fail> {
-    let alloc = rt.alloc();
-    let mut bytes = vec![in alloc; 7u8; 4_194_304]?;
-    let mut source = MemorySource::new(alloc, &bytes, 4096, &[])?;
-    assert_eq!(rt; read_bytes(alloc, &mut source)?.len(), 4_194_304);
-    bytes.push(7)?;
-    let mut source = MemorySource::new(alloc, &bytes, 4096, &[])?;
-    assert_eq!(rt;
-        end_of(read_bytes(alloc, &mut source))?,
-        Some(ReadEnd::TooLong)
-    );
+    for (count, want) in [
+        (4_194_304, Ok(4_194_304)),
+        (4_194_305, Err(ReadEnd::TooLong)),
+    ] {
+        let bytes = vec![in rt.alloc(); 7u8; count]?;
+        let mut source = MemorySource::new(rt.alloc(), &bytes, 4096, &[])?;
+        let read = whole(rt.alloc(), &mut source)?;
+        assert_eq!(rt; read.map(|bytes| bytes.len()), want);
+    }
     Ok(())
 }
 
+/// Tries what comes of writing one text after another.
+fn writes<K: Sink>(rt: &impl Abort, sink: &mut K, texts: &[(&[u8], Result<(), WriteFault>)]) {
+    for (text, wrote) in texts {
+        assert_eq!(rt; write_all(sink, text), *wrote);
+    }
+}
+
+/// The puts that fail, what comes of writing texts, and what the sink holds then.
+static WRITES: [(&[u64], &[(&[u8], Result<(), WriteFault>)], &[u8]); 3] = [
+    (&[], &[(b"abcde", Ok(()))], b"abcde"),
+    (&[], &[(b"abcdef", Err(WriteFault))], b"abcd"),
+    (&[1], &[(b"", Ok(())), (b"a", Err(WriteFault))], b""),
+];
+
 #[test]
 fn writes_all(rt: HostRuntime) -> Result<(), Fail> {
-    let alloc = rt.alloc();
-    let mut sink = MemorySink::new(alloc, 5, 2, &[])?;
-    assert_eq!(rt; write_all(&mut sink, b"abcde"), Ok(()));
-    assert_eq!(rt; sink.bytes(), b"abcde".as_slice());
-    let mut small = MemorySink::new(alloc, 5, 2, &[])?;
-    assert_eq!(rt; write_all(&mut small, b"abcdef"), Err(WriteFault));
-    assert_eq!(rt; small.bytes(), b"abcd".as_slice());
-    let mut refuses = MemorySink::new(alloc, 5, 2, &[1])?;
-    assert_eq!(rt; write_all(&mut refuses, b""), Ok(()));
-    assert_eq!(rt; write_all(&mut refuses, b"a"), Err(WriteFault));
+    for (fails, texts, held) in &WRITES {
+        let mut sink = MemorySink::new(rt.alloc(), 5, 2, fails)?;
+        writes(&rt, &mut sink, texts);
+        assert_eq!(rt; sink.bytes(), *held);
+    }
     Ok(())
 }
 
@@ -164,48 +201,49 @@ impl Write for Script<'_> {
     }
 }
 
+/// What comes of the calls, and then nothing moves.
+const CALLS: &[Call] = &[
+    Call::IsInterrupted,
+    Call::Moves,
+    Call::Breaks,
+    Call::MovesNone,
+];
+
+static READS: [(Got, [u8; 2]); 3] = [
+    (Got::Bytes(1), *b"x-"),
+    (Got::Failed, *b"x-"),
+    (Got::End, *b"x-"),
+];
+
+static DEAF: [(Got, [u8; 2]); 1] = [(Got::Failed, *b"x-")];
+
 #[test]
 fn standard_source_counts_faults(rt: HostRuntime) -> Result<(), Fail> {
-    let calls = [
-        Call::IsInterrupted,
-        Call::Moves,
-        Call::Breaks,
-        Call::MovesNone,
-    ];
-    let mut source = StdSource::new(Script(&calls));
-    let mut buffer = [b'-'; 2];
-    assert_eq!(rt; source.read(&mut buffer), Got::Bytes(1));
-    assert_eq!(rt; &buffer, b"x-");
-    assert_eq!(rt; source.read(&mut buffer), Got::Failed);
-    assert_eq!(rt; source.read(&mut buffer), Got::End);
-    let mut deaf = StdSource::new(Script(&[Call::IsInterrupted; 64]));
-    assert_eq!(rt; deaf.read(&mut buffer), Got::Failed);
-    let mut greeting = StdSource::new(b"hello".as_slice());
-    assert_eq!(rt;
-        read_bytes(rt.alloc(), &mut greeting)?.as_slice(),
-        b"hello".as_slice()
+    gives(&rt, &mut StdSource::new(Script(CALLS)), &READS);
+    gives(
+        &rt,
+        &mut StdSource::new(Script(&[Call::IsInterrupted; 64])),
+        &DEAF,
     );
-    Ok(())
+    let mut greeting = StdSource::new(b"hello".as_slice());
+    reads(&rt, rt.alloc(), &mut greeting, b"hello")
 }
+
+static PUTS_OF_CALLS: [(&[u8], Took); 3] = [
+    (b"ab", Took::Bytes(1)),
+    (b"b", Took::Failed),
+    (b"b", Took::Failed),
+];
 
 #[test]
 fn standard_sink_counts_faults(rt: HostRuntime) -> Result<(), Fail> {
-    let calls = [
-        Call::IsInterrupted,
-        Call::Moves,
-        Call::Breaks,
-        Call::MovesNone,
-    ];
-    let mut sink = StdSink::new(Script(&calls));
-    assert_eq!(rt; sink.put(b"ab"), Took::Bytes(1));
-    assert_eq!(rt; sink.put(b"b"), Took::Failed);
-    assert_eq!(rt; sink.put(b"b"), Took::Failed);
+    takes(&rt, &mut StdSink::new(Script(CALLS)), &PUTS_OF_CALLS);
     let mut out = Vec::new(rt.alloc());
-    write_all(&mut StdSink::new(&mut out), b"hello")?;
-    assert_eq!(rt; out.as_slice(), b"hello".as_slice());
+    let written = write_all(&mut StdSink::new(&mut out), b"hello");
+    let printed = write_all(&mut StdSink::new(io::writer(&rt)), b"written\n");
     assert_eq!(rt;
-        write_all(&mut StdSink::new(io::writer(&rt)), b"written\n"),
-        Ok(())
+        (out.as_slice(), written, printed),
+        (b"hello".as_slice(), Ok(()), Ok(()))
     );
     Ok(())
 }

@@ -1,5 +1,5 @@
 use ctss_types::{
-    Account, Cause, Entries, Entry, EventKind, Item, Params, Record, Script, Sequence, name_word,
+    Account, Cause, Entry, EventKind, Item, Params, Record, Script, Sequence, name_word,
 };
 use report_text::summary;
 use std::alloc::Global;
@@ -29,49 +29,56 @@ fn script(alloc: Global) -> Result<Script, Fail> {
     })
 }
 
-/// A service that ended for a cause.
-fn served(ran: u64, cause: Cause) -> Entry {
+/// Four services, two of which ended with a read that found no line, a load, and entries that no sum counts.
+const ENTRIES: [Entry; 8] = [
+    Entry::Taken {
+        tick: 0,
+        console: 1,
+        kind: EventKind::Line,
+        user: 1,
+        own: 0,
+    },
+    Entry::Clock { answer: 0, user: 1 },
     Entry::Serve {
         tick: 10,
         user: 1,
         level: 2,
-        ran,
-        cause,
-    }
-}
-
-/// Four services, two of which ended with a read that found no line, a load, and entries that no sum counts.
-fn entries(alloc: Global) -> Result<Entries, Fail> {
-    let entries = vec![in alloc;
-        Entry::Taken {
-            tick: 0,
-            console: 1,
-            kind: EventKind::Line,
-            user: 1,
-            own: 0,
-        },
-        Entry::Clock {
-            answer: 0,
-            user: 1,
-        },
-        served(4, Cause::Wait),
-        served(10, Cause::Stop),
-        Entry::Swap {
-            tick: 20,
-            user: 2,
-            dumped: 5,
-            read: 7,
-            fresh: 9,
-        },
-        served(6, Cause::Preempt),
-        served(1, Cause::Wait),
-        Entry::Idle {
-            from: 200,
-            until: 300,
-        },
-    ]?;
-    Ok(Sequence::from_vec(entries))
-}
+        ran: 4,
+        cause: Cause::Wait,
+    },
+    Entry::Serve {
+        tick: 10,
+        user: 1,
+        level: 2,
+        ran: 10,
+        cause: Cause::Stop,
+    },
+    Entry::Swap {
+        tick: 20,
+        user: 2,
+        dumped: 5,
+        read: 7,
+        fresh: 9,
+    },
+    Entry::Serve {
+        tick: 10,
+        user: 1,
+        level: 2,
+        ran: 6,
+        cause: Cause::Preempt,
+    },
+    Entry::Serve {
+        tick: 10,
+        user: 1,
+        level: 2,
+        ran: 1,
+        cause: Cause::Wait,
+    },
+    Entry::Idle {
+        from: 200,
+        until: 300,
+    },
+];
 
 #[test]
 fn sums_up_a_short_run(rt: HostRuntime) -> Result<(), Fail> {
@@ -79,7 +86,7 @@ fn sums_up_a_short_run(rt: HostRuntime) -> Result<(), Fail> {
     let first = Sequence::from_vec(vec![in alloc; Item::Quit, Item::Hang]?);
     let second = Sequence::from_vec(vec![in alloc; Item::Hang]?);
     let run = Record {
-        entries: entries(alloc)?,
+        entries: Sequence::from_vec(Vec::from_clones(alloc, &ENTRIES)?),
         transcripts: Sequence::from_vec(vec![in alloc; first, second]?),
         files: Sequence::new(alloc),
         common: Sequence::new(alloc),

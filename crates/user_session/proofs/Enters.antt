@@ -22,7 +22,9 @@ use Rattle.user_model.proofs.RowTurns.{entry_turn, entry_waits, entry_asked, ent
 use Rattle.user_session.specs.declared.turn.Turn.{Turn}
 use Rattle.user_session.specs.declared.turn.Turn.TheVariants.{Waits, Done, Asks}
 use Rattle.user_model.specs.Inner.{Stored}
-use Rattle.user_session.specs.Turns.{IsTurn, IsReplied, Enters, Obeys}
+use Rattle.user_session.specs.declared.turn.Instructed.{Instructed}
+use Rattle.user_session.specs.declared.turn.Instructed.TheVariants as instructed
+use Rattle.user_session.specs.Turns.{IsTurn, IsReplied, Enters, Obeys, Instructs, IsAtEntry}
 use Rattle.ctss_types.specs.declared.file.FileBody.{FileBody}
 use Rattle.ctss_types.specs.declared.file.Refusal.{Refusal}
 use Rattle.ctss_types.specs.declared.fault.StepFault.{StepFault}
@@ -38,6 +40,13 @@ entered (Done s) t p q c d w call h none is on zero_given what row = entry_turn 
 entered (Asks op) t p q c d w call h none is on zero_given what row =
     let asked = entry_asked p c w call op h none is what on row.makes in
     record { can = asked.0; makes = asked.1; same = row.same; store = row.store }
+
+-- an instruction that comes to an entry, and one that is a step
+pub at_entry : (told : Instructed) (name t : ℕ) (p q : User) (c d : Stored) → told ≡ instructed.Entry name → Instructs told t p q c d → IsAtEntry name p q c d
+at_entry told name t p q c d is h = subst (λ (x : Instructed). Instructs x t p q c d) is h
+
+pub at_step : (told : Instructed) (s : Step) (t : ℕ) (p q : User) (c d : Stored) → told ≡ instructed.Done s → Instructs told t p q c d → IsTurn (Done s) t p q c d
+at_step told s t p q c d is h = subst (λ (x : Instructed). Instructs x t p q c d) is h
 
 -- a command
 pub obeyed : (turn : Turn) (t : ℕ) (p q : User) (c d : Stored) (l : Line) (command : Command) → works_in p.inner.state ≡ false → p.inner.input ≡ None → slice_get p.unread 0 ≡ Some l → command_of l ≡ command → p.on ≡ true → p.given ≡ 0 →

@@ -1,32 +1,27 @@
 -- Answers of a directory, in the words of rows.
-use Rattle.std.proofs.Common.{◌≡◌, ◌≤◌, ℕ, zero, suc, Bool, true, List, [], ◌∷◌, ◌++◌, length, map, take, arith, append_assoc, Option, Some, None, Ok, Err, refl, sym, ap, ◌∙◌, subst}
+use Rattle.std.proofs.Common.{◌≡◌, ℕ, Bool, List, [], ◌∷◌, Option, Some, None, Ok, Err, refl, sym, subst}
 use Rattle.std.specs.declared.result.Result.{Result}
 use Rattle.ctss_types.specs.Names.{NamePair}
 use Rattle.ctss_types.specs.declared.file.FileBody.{FileBody}
 use Rattle.ctss_types.specs.declared.file.Refusal.{Refusal}
-use Rattle.time_sharing.specs.Machine.{Line, Item, In, Out, Ending}
-use Rattle.time_sharing.specs.Rows.{Outcome, out_all}
-use Rattle.file_model.specs.Files.{got, stat_of, put}
+use Rattle.time_sharing.specs.Machine.{Line, Ending}
+use Rattle.time_sharing.specs.Rows.{Outcome}
+use Rattle.file_model.specs.Files.{stat_of, put}
 use Rattle.file_model.specs.declared.Stat.{Stat}
 use Rattle.file_model.specs.Texts.{refusal_text}
 use Rattle.file_map.specs.declared.fault.PortFault.{PortFault}
 use Rattle.file_map.specs.declared.fault.PortFault.TheVariants.{Refused}
 use Rattle.file_map.specs.Answers.{Answers, Leaves}
-use Rattle.file_map.specs.Known.{known, known_of, AnswersOver}
-use Rattle.cpu_regs.specs.declared.regs.Regs.{Regs}
-use Rattle.program_model.specs.declared.Fill.{Fill}
+use Rattle.file_map.specs.Known.{known, known_of}
 use Rattle.program_model.specs.declared.LoadFault.{LoadFault}
-use Rattle.program_model.specs.Decks.{words_got}
-use Rattle.program_model.specs.Fills.{fill_name}
 use Rattle.cmd_program.specs.declared.load.PrepareFault.{PrepareFault}
 use Rattle.cmd_program.specs.declared.load.PrepareFault.TheVariants.{Load}
-use Rattle.cmd_program.specs.Loads.{Prepares, PreparesOver, IsFilled, FillsOver}
+use Rattle.cmd_program.specs.Loads.{Prepares}
 use Rattle.cmd_files.specs.Lines.{lines_got}
 use Rattle.user_model.specs.Commands.{says, printed, input_begun, input_made}
 use Rattle.user_model.specs.User.{User}
 use Rattle.user_model.specs.Answers.{IsRow}
 use Rattle.user_model.specs.Inner.{Inner, Stored}
-use Rattle.user_session.specs.Stores.{OfSome}
 
 -- files that are known as they stand, seen from before a call
 pub known_still : (tells now : Bool) (files : List FileBody) → now ≡ tells → known now files ≡ files → known tells files ≡ files
@@ -62,21 +57,6 @@ input_absent name (Some f) r i n t h = cc
 -- a row said in another way
 pub row_of : (can b : Bool) (line : Option Line) (o p : Outcome Inner) (asks : Bool) (e : Ending) (asked : Bool) (old new : User) (after : Stored) → o ≡ p → IsRow can b line p asks e asked old new after → IsRow can b line o asks e asked old new after
 row_of can b line o p asks e asked old new after is row = subst (λ (q : Outcome Inner). IsRow can b line q asks e asked old new after) (sym is) row
-
--- lines written
-pub out_whole : (n : ℕ) (lines : List Line) → length lines ≤ n → map Out (take n lines) ≡ out_all lines
-out_whole zero [] h = refl
-out_whole (suc n) [] h = refl
-out_whole zero (l ∷ lines) h = absurd (omega (arith, h))
-out_whole (suc n) (l ∷ lines) h = ap (λ (items : List Item). Out l ∷ items) (out_whole n lines (omega (arith, h)))
-
-pub out_behind : (lines : List Line) (l : Line) → out_all (lines ++ l ∷ []) ≡ out_all lines ++ Out l ∷ []
-out_behind [] l = refl
-out_behind (x ∷ lines) l = ap (λ (items : List Item). Out x ∷ items) (out_behind lines l)
-
-pub command_lines : (old one two three new : List Item) (l t r : Line) (lines : List Line) → one ≡ old ++ In l ∷ [] → two ≡ one ++ Out t ∷ [] → three ≡ two ++ out_all lines → new ≡ three ++ Out r ∷ []
-    → new ≡ old ++ In l ∷ Out t ∷ out_all (lines ++ r ∷ [])
-command_lines old one two three new l t r lines a b c d = rw (out_behind lines r, d, c, b, a) (simp append_assoc)
 
 -- refusals
 pub refused_told : {T : Type 0} (fault : PortFault) (r : Refusal) (told : Result T Refusal) → fault ≡ Refused r → Answers {T = T} (Err fault) told → told ≡ Err r

@@ -1,13 +1,11 @@
 -- To replace a file's content is the same over files, and over what is known of them.
-use Rattle.std.proofs.Common.{◌≡◌, ℕ, ◌+◌, Bool, true, false, List, [], ◌∷◌, ◌++◌, length, map, Option, Some, None, Ok, Err, refl, sym, ap, ◌∙◌}
+use Rattle.std.proofs.Common.{◌≡◌, ℕ, Bool, true, false, List, [], ◌∷◌, length, map, Option, Some, None, Ok, Err, refl, sym, ap, ◌∙◌}
 use Rattle.std.specs.Prelude.{if◌then◌else◌, nat_le, sum}
-use Rattle.std.specs.declared.result.Result.{Result}
 use Rattle.std.proofs.lemmas.List.{length-replicate}
 use Rattle.ctss_types.specs.Names.{NamePair}
 use Rattle.ctss_types.specs.declared.file.FileBody.{FileBody}
-use Rattle.ctss_types.specs.declared.file.Refusal.{Refusal}
 use Rattle.ctss_types.specs.declared.file.Refusal.TheVariants.{ReadOnly, Quota}
-use Rattle.file_model.specs.Files.{file_named, is_named, is_read_only, changed_if, with_change, with_new, if_they_fit, tracks_of, tracks_of_words, put, put_of}
+use Rattle.file_model.specs.Files.{file_named, is_named, is_read_only, with_change, with_new, if_they_fit, tracks_of, tracks_of_words, put, put_of}
 use Rattle.file_map.specs.Known.{blank, known, known_of}
 
 blank_twice : (f : FileBody) → blank (blank f) ≡ blank f

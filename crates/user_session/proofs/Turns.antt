@@ -1,10 +1,11 @@
 -- Users whose program stopped, told in another way.
-use Rattle.std.proofs.Common.{◌≡◌, ℕ, suc, ◌+◌, ◌-◌, List, [], ◌∷◌, ◌++◌, ap, ◌∙◌, add-one}
-use Rattle.time_sharing.specs.Machine.{Line, Item, Out}
+use Rattle.std.proofs.Common.{◌≡◌, ℕ, suc, ◌+◌, ◌-◌, [], ◌∷◌, ◌++◌, ap, ◌∙◌, add-one}
+use Rattle.time_sharing.specs.Machine.{Line, Out}
 use Rattle.cpu_regs.specs.declared.regs.Regs.{Regs}
 use Rattle.program_model.specs.declared.ProgramState.TheVariants.{Dormant}
 use Rattle.user_model.specs.Texts.{ready_text, stop_text}
 use Rattle.user_model.specs.User.{User}
+use Rattle.dialogue.specs.Said.{Said}
 
 -- a program that stopped, with the reason
 abbrev stopped : User → Regs → Line → ℕ → User
@@ -15,22 +16,37 @@ stopped u r why n =
       own = suc u.own;
     }
 
-pub stopped_so : (p v q : User) (r : Regs) (items before : List Item) (why : Line) → v ≡ p → before ≡ v.transcript →
-    items ≡ before ++ Out (stop_text why v.inner.regs.ic) ∷ Out (ready_text (v.own + 1 - v.before)) ∷ [] →
-    q ≡ record v { inner = record v.inner { state = Dormant; regs = r }; transcript = items; own = suc v.own } →
+-- what was said behind room for it: the stop, and nothing else
+pub record SaysStop (why : Line) (place n : ℕ) (room said : Said) : Type 0 where
+  pub unread : said.unread ≡ room.unread
+  pub lines : said.lines ≡ room.lines
+  pub items : said.transcript ≡ room.transcript ++ Out (stop_text why place) ∷ Out (ready_text n) ∷ []
+
+pub says_stop : (why : Line) (place n : ℕ) (talk room said : Said) → room ≡ record talk { capacity = room.capacity }
+    → said ≡ record room { transcript = room.transcript ++ Out (stop_text why place) ∷ Out (ready_text n) ∷ []; capacity = said.capacity }
+    → SaysStop why place n talk said
+says_stop why place n talk room said same is = record {
+  unread = ap (λ (d : Said). d.unread) is ∙ ap (λ (d : Said). d.unread) same;
+  lines = ap (λ (d : Said). d.lines) is ∙ ap (λ (d : Said). d.lines) same;
+  items = ap (λ (d : Said). d.transcript) is ∙ ap (λ (d : Said). d.transcript ++ Out (stop_text why place) ∷ Out (ready_text n) ∷ []) same;
+}
+
+pub stopped_so : (p v q : User) (r : Regs) (talk said : Said) (why : Line) → v ≡ p → talk.unread ≡ v.unread → talk.lines ≡ v.lines → talk.transcript ≡ v.transcript →
+    SaysStop why v.inner.regs.ic (v.own + 1 - v.before) talk said →
+    q ≡ record v { inner = record v.inner { state = Dormant; regs = r }; unread = said.unread; lines = said.lines; transcript = said.transcript; own = suc v.own } →
     q ≡ record p { inner = record p.inner { state = Dormant; regs = r }; transcript = p.transcript ++ Out (stop_text why p.inner.regs.ic) ∷ Out (ready_text (suc p.own - p.before)) ∷ []; own = suc p.own }
-stopped_so p v q r items before why is same more left =
+stopped_so p v q r talk said why is unread lines items says left =
     left
-    ∙ (λ j. record v { inner = record v.inner { state = Dormant; regs = r }; transcript = more j; own = suc v.own })
-    ∙ (λ j. record v { inner = record v.inner { state = Dormant; regs = r }; transcript = same j ++ Out (stop_text why v.inner.regs.ic) ∷ Out (ready_text (v.own + 1 - v.before)) ∷ []; own = suc v.own })
+    ∙ (λ j. record v { inner = record v.inner { state = Dormant; regs = r }; unread = says.unread j; lines = says.lines j; transcript = says.items j; own = suc v.own })
+    ∙ (λ j. record v { inner = record v.inner { state = Dormant; regs = r }; unread = unread j; lines = lines j; transcript = items j ++ Out (stop_text why v.inner.regs.ic) ∷ Out (ready_text (v.own + 1 - v.before)) ∷ []; own = suc v.own })
     ∙ ap (λ (n : ℕ). stopped v r why (n - v.before)) (add-one v.own)
     ∙ ap (λ (u : User). stopped u r why (suc u.own - u.before)) is
 
 -- and nothing else happened
-pub refused_so : (p v q : User) (r : Regs) (items before : List Item) (why : Line) → v ≡ p → before ≡ v.transcript →
-    items ≡ before ++ Out (stop_text why v.inner.regs.ic) ∷ Out (ready_text (v.own + 1 - v.before)) ∷ [] →
-    q ≡ record v { inner = record v.inner { state = Dormant; regs = r }; transcript = items; own = suc v.own } → r ≡ v.inner.regs →
+pub refused_so : (p v q : User) (r : Regs) (talk said : Said) (why : Line) → v ≡ p → talk.unread ≡ v.unread → talk.lines ≡ v.lines → talk.transcript ≡ v.transcript →
+    SaysStop why v.inner.regs.ic (v.own + 1 - v.before) talk said →
+    q ≡ record v { inner = record v.inner { state = Dormant; regs = r }; unread = said.unread; lines = said.lines; transcript = said.transcript; own = suc v.own } → r ≡ v.inner.regs →
     q ≡ record p { inner = record p.inner { state = Dormant }; transcript = p.transcript ++ Out (stop_text why p.inner.regs.ic) ∷ Out (ready_text (suc p.own - p.before)) ∷ []; own = suc p.own }
-refused_so p v q r items before why is same more left stays =
-    stopped_so p v q r items before why is same more left
+refused_so p v q r talk said why is unread lines items says left stays =
+    stopped_so p v q r talk said why is unread lines items says left
     ∙ ap (λ (s : Regs). stopped p s why (suc p.own - p.before)) (stays ∙ ap (λ (u : User). u.inner.regs) is)

@@ -1,11 +1,13 @@
 -- proof: what a turn of a user leaves, with the words of its program and its files before and after.
-use Rattle.std.specs.Prelude.{◌≡◌, ℕ, true, false, List, Some, None, slice_get}
+use Rattle.std.specs.Prelude.{◌≡◌, ℕ, true, false, Some, None, slice_get}
 use Rattle.std.specs.declared.result.Result.{Result}
 use Rattle.program_model.specs.declared.Call.{Call}
 use Rattle.program_model.specs.declared.EntryFault.{EntryFault}
 use Rattle.ctss_types.specs.declared.file.CommonOp.{CommonOp}
 use Rattle.ctss_types.specs.declared.file.Reply.{Reply}
 use Rattle.ctss_types.specs.declared.file.Reply.TheVariants as reply
+use Rattle.machine_model.specs.Machine.{table}
+use Rattle.machine_model.specs.Step.{entry}
 use Rattle.time_sharing.specs.Machine.{Line}
 use Rattle.user_model.specs.declared.Command.{Command}
 use Rattle.user_model.specs.Commands.{command_asks}
@@ -14,6 +16,8 @@ use Rattle.user_model.specs.Answers.{DidEntry, DidCommand}
 use Rattle.user_model.specs.Inner.{Stored}
 use Rattle.user_model.specs.User.{User, can_step, asks_common, in_store, IsStep}
 use Rattle.user_session.specs.declared.turn.Step.{Step}
+use Rattle.user_session.specs.declared.turn.Instructed.{Instructed}
+use Rattle.user_session.specs.declared.turn.Instructed.TheVariants as instructed
 use Rattle.user_session.specs.declared.turn.Turn.{Turn}
 use Rattle.user_session.specs.declared.turn.Turn.TheVariants.{Waits, Done, Asks}
 
@@ -34,6 +38,17 @@ abbrev pub IsTurn : Turn → ℕ → (old new : User) → (before after : Stored
 IsTurn Waits now old new before after = IsWait old new before after
 IsTurn (Done s) now old new before after = IsStep s.ending s.clock None now reply.Done old new before after
 IsTurn (Asks op) now old new before after = IsAsked op old new before after
+
+-- a supervisor entry that is still to be done
+pub record IsAtEntry (name : ℕ) (old new : User) (before after : Stored) : Type 0 where
+  pub at : table old.inner.regs before.core ≡ entry name
+  pub same : new ≡ old
+  pub store : after ≡ before
+
+-- what an instruction leaves
+abbrev pub Instructs : Instructed → ℕ → (old new : User) → (before after : Stored) → Type 0
+Instructs (instructed.Done s) now old new before after = IsStep s.ending s.clock None now reply.Done old new before after
+Instructs (instructed.Entry name) now old new before after = IsAtEntry name old new before after
 
 -- a call that reads a line waits where none is unread
 pub record EntryWaits (call : Result Call EntryFault) (old new : User) (before after : Stored) : Type 0 where

@@ -37,7 +37,7 @@ impl Session {
             (λ fs. told ≡ assembly_got (got (cards_name name) fs))) }
         ensures reads { Reads P.FilePort result files.old files.new }
     {
-        match assemble_file(*self.items.allocator(), cards_name(name), files) {
+        match assemble_file(self.talk.allocator(), cards_name(name), files) {
             Ok(assembly) => Ok(Ok(assembly)),
             Err(PortFault::Refused(refusal)) => Ok(Err(refusal)),
             Err(PortFault::Disk) => Err(StepFault::Disk),

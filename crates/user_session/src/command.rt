@@ -12,20 +12,19 @@ ghost use Rattle.time_sharing.specs.Machine.{In, Out};
 ghost use Rattle.time_sharing.specs.Rows.{out_all};
 ghost use Rattle.user_model.specs.Session.{works_in};
 ghost use Rattle.user_model.specs.Texts.{time_text, ready_text, logged_out_text};
-ghost use Rattle.user_model.specs.Answers.{DidCommand};
 ghost use Rattle.user_session.specs.Stores.{stored, Over, OfSome, Uses, Reads};
 ghost use Rattle.user_session.specs.Turns.{IsTurn, Obeys};
 
-use crate::file_command::{DONE, note_command, note_taken};
-use crate::session::{Session, note};
+use crate::file_command::DONE;
+use crate::session::Session;
 use crate::{Step, Turn};
 use cmd_program::{PrepareFault, prepare};
 use command_table::command_of;
 use cpu_regs::{MemoryPort, Regs};
-use ctss_types::{CommonOp, Ending, FileName, Item, LineText, NoMemory, StepFault, name_word};
+use ctss_types::{CommonOp, Ending, FileName, LineText, NoMemory, StepFault, name_word};
 use file_map::FilePort;
 use program_model::{Deck, Fill, LoadFault, ProgramState};
-use session_text::{load_text, logged_out_text, time_text};
+use session_text::load_text;
 use user_model::Command;
 use word36::Word;
 
@@ -55,9 +54,9 @@ impl Session {
         ensures given { self.old.given ≡ 0 }
         ensures err { OnErr result (self.new ≡ self.old) }
     {
-        self.items.reserve(4)?;
-        note_command(&mut self.items, line, text, now);
-        self.take_command();
+        self.talk.reserve(4)?;
+        self.talk.answer(line, text, now);
+        self.count_command();
         Ok(())
     }
 
@@ -85,35 +84,28 @@ impl Session {
         files: &mut P,
         line: LineText,
         now: u64,
-    ) -> Result<Step, StepFault>
+    ) -> Result<Turn, StepFault>
         requires port { P.Works files.old }
         requires fits { self.old.own < 2 ^ 64 - 1 }
-        ensures row { IfOk result (λ s. DidCommand line Command.Logout s.ending s.clock now self.old self.new
+        ensures row { IfOk result (λ turn. Obeys line Command.Logout turn now self.old self.new
             (stored (M.words core.now) (P.files files.old)) (stored (M.words core.now) (P.files files.new))) }
         ensures account { self.new.inner.account ≡ self.old.inner.account }
         ensures err { OnErr result (self.new ≡ self.old) }
         ensures uses { Uses P.FilePort result files.old files.new }
     {
-        self.items.reserve(3)?;
-        self.before = self.own;
-        self.own += 1;
-        note(&mut self.items, Item::In(line));
-        note(&mut self.items, Item::Out(time_text(now)));
-        note(
-            &mut self.items,
-            Item::Out(logged_out_text(self.account.name)),
-        );
+        self.talk.reserve(3)?;
+        self.talk.log_out(line, self.account.name, now);
+        self.count_command();
         files.drop_temporary();
         self.on = false;
-        self.lines.drop_all();
         self.state = ProgramState::Dead;
         self.regs = Regs::new();
         self.blocks = 0;
         self.fill = None;
-        Ok(Step {
+        Ok(Turn::Done(Step {
             ending: Ending::LoggedOut,
             clock: true,
-        })
+        }))
     }
 
     /// The deck of a program of this name, or why there is none.
@@ -158,9 +150,9 @@ impl Session {
         ensures given { self.old.given ≡ 0 }
         ensures err { OnErr result (self.new ≡ self.old) }
     {
-        self.items.reserve(2)?;
-        note_taken(&mut self.items, line, now);
-        self.take_command();
+        self.talk.reserve(2)?;
+        self.talk.begin(line, now);
+        self.count_command();
         self.state = ProgramState::Working;
         self.regs = Regs::new();
         self.blocks = blocks;
@@ -177,14 +169,14 @@ impl Session {
         line: LineText,
         name: Word,
         now: u64,
-    ) -> Result<Step, StepFault>
+    ) -> Result<Turn, StepFault>
         requires on { self.old.on ≡ true }
         requires size { length (M.words core.now) ≡ 256 * self.old.inner.blocks }
         requires port { P.Works files.old }
         requires fits { self.old.own < 2 ^ 64 - 1 }
-        ensures row { IfOk result (λ s. Over (P.tells files.old)
+        ensures row { IfOk result (λ turn. Over (P.tells files.old)
             (stored (M.words core.now) (P.files files.old)) (stored (M.words core.now) (P.files files.new))
-            (DidCommand line (Command.LoadGo name) s.ending s.clock now self.old self.new)) }
+            (Obeys line (Command.LoadGo name) turn now self.old self.new)) }
         ensures account { self.new.inner.account ≡ self.old.inner.account }
         ensures err { OnErr result (self.new ≡ self.old) }
         ensures uses { Uses P.FilePort result files.old files.new }
@@ -196,17 +188,17 @@ impl Session {
                     start: deck.start,
                 };
                 self.begin(line, deck.blocks, fill, now)?;
-                Ok(Step {
+                Ok(Turn::Done(Step {
                     ending: Ending::Replaced,
                     clock: true,
-                })
+                }))
             }
             Err(fault) => {
                 self.say(line, Some(load_text(fault)), now)?;
-                Ok(Step {
+                Ok(Turn::Done(Step {
                     ending: Ending::Stopped,
                     clock: true,
-                })
+                }))
             }
         }
     }
@@ -238,64 +230,31 @@ impl Session {
                 self.say(line, None, now)?;
                 Ok(Turn::Done(DONE))
             }
-            Command::Logout => {
-                let out = self.log_out(core, files, line, now)?;
-                Ok(Turn::Done(out))
-            }
-            Command::LoadGo(name) => {
-                let done = self.load(core, files, line, name, now)?;
-                Ok(Turn::Done(done))
-            }
+            Command::Logout => self.log_out(core, files, line, now),
+            Command::LoadGo(name) => self.load(core, files, line, name, now),
             Command::List => {
                 let done = self.list_files(core, files, line, now)?;
                 Ok(Turn::Done(done))
             }
-            Command::Print(name) => {
-                let done = self.print_file(core, files, line, name, now)?;
-                Ok(Turn::Done(done))
-            }
-            Command::Rename { name, to } => {
-                let done = self.rename(core, files, line, name, to, now)?;
-                Ok(Turn::Done(done))
-            }
-            Command::Delete(name) => {
-                let done = self.delete(core, files, line, name, now)?;
-                Ok(Turn::Done(done))
-            }
-            Command::ChangeMode { name, mode } => {
-                let done = self.chmode(core, files, line, name, mode, now)?;
-                Ok(Turn::Done(done))
-            }
-            Command::Input(name) => {
-                let done = self.begin_input(core, files, line, name, now)?;
-                Ok(Turn::Done(done))
-            }
+            Command::Print(name) => self.print_file(core, files, line, name, now),
+            Command::Rename { name, to } => self.rename(core, files, line, name, to, now),
+            Command::Delete(name) => self.delete(core, files, line, name, now),
+            Command::ChangeMode { name, mode } => self.chmode(core, files, line, name, mode, now),
+            Command::Input(name) => self.begin_input(core, files, line, name, now),
             Command::CopyTo(name) => self.ask_copy(core, files, line, name, now),
             Command::CopyFrom(name) => Ok(Turn::Asks(CommonOp::Get(name))),
             Command::Assemble(name) => {
                 let done = self.assemble(core, files, line, name, now)?;
                 Ok(Turn::Done(done))
             }
-            Command::Start => {
-                let done = self.start(core, line, now)?;
-                Ok(Turn::Done(done))
-            }
+            Command::Start => Ok(Turn::Done(self.start(core, line, now)?)),
             Command::Save(name) => {
                 let done = self.save(core, files, line, name, now)?;
                 Ok(Turn::Done(done))
             }
-            Command::Resume(name) => {
-                let done = self.resume(core, files, line, name, now)?;
-                Ok(Turn::Done(done))
-            }
-            Command::Registers => {
-                let done = self.tell_registers(core, line, now)?;
-                Ok(Turn::Done(done))
-            }
-            Command::WordAt { place } => {
-                let done = self.tell_word(core, line, place, now)?;
-                Ok(Turn::Done(done))
-            }
+            Command::Resume(name) => self.resume(core, files, line, name, now),
+            Command::Registers => Ok(Turn::Done(self.tell_registers(core, line, now)?)),
+            Command::WordAt { place } => Ok(Turn::Done(self.tell_word(core, line, place, now)?)),
             Command::BadArguments => {
                 self.say_why(line, b"BAD ARGUMENTS", now)?;
                 Ok(Turn::Done(DONE))

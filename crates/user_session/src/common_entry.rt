@@ -77,7 +77,7 @@ impl Session {
             self.reply(3, 7, None);
             return Ok(Turn::Done(WENT));
         }
-        let words = words_in(*self.items.allocator(), core, at, count)?;
+        let words = words_in(self.talk.allocator(), core, at, count)?;
         Ok(Turn::Asks(CommonOp::Write {
             name,
             place,

@@ -17,26 +17,22 @@ ghost use Rattle.ctss_types.specs.declared.file.FileBody.{FileBody};
 ghost use Rattle.user_session.specs.Stores.{stored, Over, Uses};
 ghost use Rattle.user_session.specs.Turns.{IsTurn, Enters};
 
-use crate::session::{Session, note};
+use crate::file_entry::WENT;
+use crate::session::Session;
 use crate::{Step, Turn};
 use cpu_regs::{MemoryPort, Regs};
-use ctss_types::{CommonOp, Ending, Item, LineText, NoMemory, StepFault};
+use ctss_types::{CommonOp, Ending, NoMemory, StepFault};
 use file_map::FilePort;
 use program_model::{Call, EntryFault, ProgramState};
-use session_text::{ready_text, stop_text};
+use session_text::ready_text;
 use tia_entry::{answer, is_line_count, line_in, read_call, store_line};
 use word36::Word;
 
-/// Why a program stopped, and R n, where there is room.
-pub(crate) fn note_stop(items: &mut Vec<Item>, why: &[u8], place: u16, n: u64)
-    requires room { vec_len items.old + 1 < vec_capacity items.old }
-    requires short { length why.now ≤ 70 }
-    requires characters { list_all is_character why.now ≡ true }
-    ensures { items.new.items ≡ items.old.items ++ Out (stop_text why.now place) ∷ Out (ready_text n) ∷ [] }
-{
-    note(items, Item::Out(stop_text(why, place)));
-    note(items, Item::Out(ready_text(n)));
-}
+/// A step of a program that stops.
+pub(crate) const STOPPED: Step = Step {
+    ending: Ending::Stopped,
+    clock: false,
+};
 
 impl Session {
     /// The program stops, and stays.
@@ -66,9 +62,9 @@ impl Session {
         ensures given { self.old.given ≡ 0 }
         ensures err { OnErr result (self.new ≡ self.old) }
     {
-        self.items.reserve(2)?;
+        self.talk.reserve(2)?;
         let n = self.own + 1 - self.before;
-        note_stop(&mut self.items, why, self.regs.ic, n);
+        self.talk.say_stop(why, self.regs.ic, n);
         self.stop();
         Ok(())
     }
@@ -92,17 +88,11 @@ impl Session {
         match fault {
             EntryFault::NoSuchEntry => {
                 self.stop_at_call(b"NO ENTRY")?;
-                Ok(Turn::Done(Step {
-                    ending: Ending::Stopped,
-                    clock: false,
-                }))
+                Ok(Turn::Done(STOPPED))
             }
             EntryFault::Outside(_) => {
                 self.stop_at_call(b"PROTECTION")?;
-                Ok(Turn::Done(Step {
-                    ending: Ending::Stopped,
-                    clock: false,
-                }))
+                Ok(Turn::Done(STOPPED))
             }
         }
     }
@@ -156,25 +146,18 @@ impl Session {
     {
         if !is_line_count(count) {
             self.reply(1, 7, None);
-            return Ok(Turn::Done(Step {
-                ending: Ending::Went,
-                clock: false,
-            }));
+            return Ok(Turn::Done(WENT));
         }
         match self.first_line() {
             None => Ok(Turn::Waits),
             Some(line) => {
-                self.items.reserve(1)?;
-                let _ = self.lines.take();
-                note(&mut self.items, Item::In(line));
+                self.talk.reserve(1)?;
+                self.talk.read(line);
                 // Then it is known of the core how many words it has at most.
                 let _blocks = core.size();
                 store_line(core, at, count, line.as_slice());
                 self.reply(1, 0, Some(u64::from(line.len())));
-                Ok(Turn::Done(Step {
-                    ending: Ending::Went,
-                    clock: false,
-                }))
+                Ok(Turn::Done(WENT))
             }
         }
     }
@@ -199,18 +182,12 @@ impl Session {
     {
         if !is_line_count(count) {
             self.reply(1, 7, None);
-            return Ok(Turn::Done(Step {
-                ending: Ending::Went,
-                clock: false,
-            }));
+            return Ok(Turn::Done(WENT));
         }
-        self.items.reserve(1)?;
-        note(&mut self.items, Item::Out(line_in(core, at, count)));
+        self.talk.reserve(1)?;
+        self.talk.write(line_in(core, at, count));
         self.reply(1, 0, None);
-        Ok(Turn::Done(Step {
-            ending: Ending::Went,
-            clock: false,
-        }))
+        Ok(Turn::Done(WENT))
     }
 
     /// SETMEM: another size, from 1 block to the quota.
@@ -225,17 +202,11 @@ impl Session {
     {
         if self.is_no_size(blocks) {
             self.reply(1, 3, None);
-            return Turn::Done(Step {
-                ending: Ending::Went,
-                clock: false,
-            });
+            return Turn::Done(WENT);
         }
         if blocks == u16::from(self.blocks()) {
             self.reply(1, 0, None);
-            return Turn::Done(Step {
-                ending: Ending::Went,
-                clock: false,
-            });
+            return Turn::Done(WENT);
         }
         answer(&mut self.regs, 1, 0, None);
         self.blocks = blocks as u8;
@@ -274,10 +245,7 @@ impl Session {
     {
         let words = 256 * u64::from(self.blocks());
         self.reply(0, 0, Some(words));
-        Turn::Done(Step {
-            ending: Ending::Went,
-            clock: false,
-        })
+        Turn::Done(WENT)
     }
 
     /// DEAD: the program is over and goes.
@@ -291,18 +259,15 @@ impl Session {
         ensures account { self.new.inner.account ≡ self.old.inner.account }
         ensures err { OnErr result (self.new ≡ self.old) }
     {
-        self.items.reserve(1)?;
+        self.talk.reserve(1)?;
         let n = self.own + 1 - self.before;
-        note(&mut self.items, Item::Out(ready_text(n)));
+        self.talk.write(ready_text(n));
         self.own += 1;
         self.state = ProgramState::Dead;
         self.regs = Regs::new();
         self.blocks = 0;
         self.fill = None;
-        Ok(Turn::Done(Step {
-            ending: Ending::Stopped,
-            clock: false,
-        }))
+        Ok(Turn::Done(STOPPED))
     }
 
     /// DORMNT: the program is over and stays.
@@ -316,15 +281,12 @@ impl Session {
         ensures account { self.new.inner.account ≡ self.old.inner.account }
         ensures err { OnErr result (self.new ≡ self.old) }
     {
-        self.items.reserve(1)?;
+        self.talk.reserve(1)?;
         let n = self.own + 1 - self.before;
-        note(&mut self.items, Item::Out(ready_text(n)));
+        self.talk.write(ready_text(n));
         answer(&mut self.regs, 0, 0, None);
         self.stop();
-        Ok(Turn::Done(Step {
-            ending: Ending::Stopped,
-            clock: false,
-        }))
+        Ok(Turn::Done(STOPPED))
     }
 
     /// A call that can be done.

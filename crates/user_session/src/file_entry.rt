@@ -118,7 +118,7 @@ impl Session {
         ensures err { OnErr result (self.new ≡ self.old) }
         ensures uses { Uses P.FilePort result files.old files.new }
     {
-        let words = words_in(*self.items.allocator(), core, at, count)?;
+        let words = words_in(self.talk.allocator(), core, at, count)?;
         match files.write(name, place, &words) {
             Ok(()) => {
                 self.reply(3, 0, None);

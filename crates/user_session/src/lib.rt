@@ -17,6 +17,6 @@ mod saved_command;
 mod session;
 mod turn;
 
-pub use line_buffer::Put;
+pub use dialogue::Put;
 pub use session::Session;
 pub use turn::{Step, Turn};

@@ -8,17 +8,19 @@ ghost use Rattle.ctss_types.specs.declared.file.CommonOp.{CommonOp};
 ghost use Rattle.ctss_types.specs.declared.file.FileBody.{FileBody};
 ghost use Rattle.user_session.specs.Changes.{IsStored, IsEntryFor};
 ghost use Rattle.user_session.specs.Stores.{stored, Over, OfSome, IsToMake, Uses, Reads};
-ghost use Rattle.user_session.specs.Turns.{IsReplied, IsTurn};
+ghost use Rattle.user_session.specs.Turns.{IsReplied, IsTurn, Instructs};
 ghost use Rattle.file_model.specs.Commons.{ReplyFits};
 
-use crate::entry::note_stop;
+use crate::entry::STOPPED;
+use crate::file_entry::WENT;
 use crate::session::{Session, works_in};
+use crate::turn::Instructed;
 use crate::{Step, Turn};
 use cmd_program::fill;
 use command_table::command_of;
 use cpu_regs::MemoryPort;
 use cpu_step::{Stepped, run, step};
-use ctss_types::{Ending, Reply, StepFault};
+use ctss_types::{NoMemory, Reply, StepFault};
 use file_map::FilePort;
 use program_model::Fill;
 use tia_entry::read_call;
@@ -73,13 +75,51 @@ impl Session {
         ensures uses { Uses P.FilePort result files.old files.new }
     {
         self.store(core, files, with)?;
-        Ok(Turn::Done(Step {
-            ending: Ending::Went,
-            clock: false,
-        }))
+        Ok(Turn::Done(WENT))
     }
 
-    /// The next instruction of a program.
+    /// The next instruction of a program. A supervisor entry is not done yet.
+    fn instruct<M: MemoryPort>(&mut self, core: &mut M, now: u64) -> Result<Instructed, NoMemory>
+        requires on { self.old.on ≡ true }
+        requires works { works_in self.old.inner.state ≡ true }
+        requires filled { self.old.inner.fill ≡ None }
+        requires size { length (M.words core.old) ≡ 256 * self.old.inner.blocks }
+        requires fits { self.old.own < 2 ^ 64 - 1 }
+        ensures does { (fs : List FileBody) → IfOk result (λ told. Instructs told now self.old self.new
+            (stored (M.words core.old) fs) (stored (M.words core.new) fs)) }
+        ensures account { self.new.inner.account ≡ self.old.inner.account }
+        ensures err { OnErr result (self.new ≡ self.old) }
+        ensures err_core { OnErr result (M.words core.new ≡ M.words core.old) }
+        ensures keeps { M.Keeps core.old core.new }
+    {
+        self.talk.reserve(2)?;
+        let place = self.regs.ic;
+        let n = self.own + 1 - self.before;
+        match step(&mut self.regs, core) {
+            Stepped::Went => {
+                self.own += 1;
+                Ok(Instructed::Done(WENT))
+            }
+            Stepped::Entry(name) => Ok(Instructed::Entry(name)),
+            Stepped::Halt => {
+                self.talk.say_stop(b"HALT", place, n);
+                self.stop();
+                Ok(Instructed::Done(STOPPED))
+            }
+            Stepped::Illegal => {
+                self.talk.say_stop(b"ILLEGAL", place, n);
+                self.stop();
+                Ok(Instructed::Done(STOPPED))
+            }
+            Stepped::Outside(_) => {
+                self.talk.say_stop(b"PROTECTION", place, n);
+                self.stop();
+                Ok(Instructed::Done(STOPPED))
+            }
+        }
+    }
+
+    /// The next instruction of a program, and the supervisor entry that it comes to.
     fn run<M: MemoryPort, P: FilePort>(
         &mut self,
         core: &mut M,
@@ -103,42 +143,9 @@ impl Session {
         ensures keeps { M.Keeps core.old core.new }
         ensures uses { Uses P.FilePort result files.old files.new }
     {
-        self.items.reserve(2)?;
-        let place = self.regs.ic;
-        let n = self.own + 1 - self.before;
-        match step(&mut self.regs, core) {
-            Stepped::Went => {
-                self.own += 1;
-                Ok(Turn::Done(Step {
-                    ending: Ending::Went,
-                    clock: false,
-                }))
-            }
-            Stepped::Entry(name) => self.enter(core, files, name, now),
-            Stepped::Halt => {
-                note_stop(&mut self.items, b"HALT", place, n);
-                self.stop();
-                Ok(Turn::Done(Step {
-                    ending: Ending::Stopped,
-                    clock: false,
-                }))
-            }
-            Stepped::Illegal => {
-                note_stop(&mut self.items, b"ILLEGAL", place, n);
-                self.stop();
-                Ok(Turn::Done(Step {
-                    ending: Ending::Stopped,
-                    clock: false,
-                }))
-            }
-            Stepped::Outside(_) => {
-                note_stop(&mut self.items, b"PROTECTION", place, n);
-                self.stop();
-                Ok(Turn::Done(Step {
-                    ending: Ending::Stopped,
-                    clock: false,
-                }))
-            }
+        match self.instruct(core, now)? {
+            Instructed::Done(step) => Ok(Turn::Done(step)),
+            Instructed::Entry(name) => self.enter(core, files, name, now),
         }
     }
 

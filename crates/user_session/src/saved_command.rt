@@ -6,12 +6,14 @@ ghost use Rattle.user_model.specs.Answers.{DidCommand};
 ghost use Rattle.user_model.specs.Commands.{is_dormant};
 ghost use Rattle.ctss_types.specs.declared.file.FileBody.{FileBody};
 ghost use Rattle.user_session.specs.Stores.{stored, Over, OfSome, Uses, Reads};
+ghost use Rattle.user_session.specs.Turns.{Obeys};
 ghost use Rattle.user_model.specs.declared.Command.{Command};
 
-use crate::Step;
-use crate::file_command::{DONE, note_taken};
+use crate::file_command::DONE;
 use crate::session::Session;
+use crate::{Step, Turn};
 use cmd_program::{PrepareFault, prepare_saved, register_lines, saved_words, word_line};
+use command_table::is_dormant;
 use cpu_regs::MemoryPort;
 use ctss_types::{Ending, FileName, LineText, NoMemory, StepFault, name_word};
 use file_map::FilePort;
@@ -31,10 +33,7 @@ impl Session {
     fn is_dormant(&self) -> bool
         ensures { result ≡ is_dormant self.now.inner.state }
     {
-        match self.state {
-            ProgramState::Dormant => true,
-            ProgramState::Dead | ProgramState::Working => false,
-        }
+        is_dormant(self.state)
     }
 
     /// START: the program that stopped goes on.
@@ -57,9 +56,9 @@ impl Session {
             self.say_why(line, b"NO PROGRAM", now)?;
             return Ok(DONE);
         }
-        self.items.reserve(2)?;
-        note_taken(&mut self.items, line, now);
-        self.take_command();
+        self.talk.reserve(2)?;
+        self.talk.begin(line, now);
+        self.count_command();
         self.state = ProgramState::Working;
         Ok(Step {
             ending: Ending::Resized,
@@ -93,7 +92,7 @@ impl Session {
             self.say_why(line, b"NO PROGRAM", now)?;
             return Ok(DONE);
         }
-        let words = saved_words(*self.items.allocator(), self.blocks, &self.regs, core)?;
+        let words = saved_words(self.talk.allocator(), self.blocks, &self.regs, core)?;
         self.put_file(core, files, line, saved_name(name), &words, now)
     }
 
@@ -126,14 +125,14 @@ impl Session {
         line: LineText,
         name: Word,
         now: u64,
-    ) -> Result<Step, StepFault>
+    ) -> Result<Turn, StepFault>
         requires on { self.old.on ≡ true }
         requires size { length (M.words core.now) ≡ 256 * self.old.inner.blocks }
         requires port { P.Works files.old }
         requires fits { self.old.own < 2 ^ 64 - 1 }
-        ensures row { IfOk result (λ s. Over (P.tells files.old)
+        ensures row { IfOk result (λ turn. Over (P.tells files.old)
             (stored (M.words core.now) (P.files files.old)) (stored (M.words core.now) (P.files files.new))
-            (DidCommand line (Command.Resume name) s.ending s.clock now self.old self.new)) }
+            (Obeys line (Command.Resume name) turn now self.old self.new)) }
         ensures account { self.new.inner.account ≡ self.old.inner.account }
         ensures err { OnErr result (self.new ≡ self.old) }
         ensures uses { Uses P.FilePort result files.old files.new }
@@ -144,14 +143,14 @@ impl Session {
                     name: saved_name(name),
                 };
                 self.begin(line, blocks, fill, now)?;
-                Ok(Step {
+                Ok(Turn::Done(Step {
                     ending: Ending::Replaced,
                     clock: true,
-                })
+                }))
             }
             Err(fault) => {
                 self.say(line, Some(load_text(fault)), now)?;
-                Ok(DONE)
+                Ok(Turn::Done(DONE))
             }
         }
     }

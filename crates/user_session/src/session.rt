@@ -1,4 +1,4 @@
-ghost use Rattle.std.specs.Prelude.{◌≡◌, ◌<◌, ◌≤◌, ◌+◌, ◌-◌, ◌^◌, ◌++◌, ◌∷◌, ◌↔◌, [], ℕ, true, false, OnOk, OnErr, IfOk, vec_len, vec_capacity, slice_get};
+ghost use Rattle.std.specs.Prelude.{◌≡◌, ◌<◌, ◌≤◌, ◌+◌, ◌-◌, ◌^◌, ◌++◌, ◌∷◌, ◌↔◌, [], ℕ, true, false, OnOk, OnErr, IfOk, slice_get};
 ghost use Rattle.user_model.specs.Session.{first_state, works_in};
 ghost use Rattle.user_model.specs.Inner.{blocks_of};
 ghost use Rattle.user_model.specs.User.{typed, opened, cut};
@@ -6,10 +6,9 @@ ghost use Rattle.time_sharing.specs.Machine.{Quit, Hang, Spent};
 ghost use Rattle.time_sharing.specs.Rows.{some_line};
 
 use cpu_regs::Regs;
-use ctss_types::{Account, FileName, Item, Items, LineText, NoMemory, Sequence};
-use line_buffer::{Lines, Put};
+use ctss_types::{Account, FileName, Item, Items, LineText, NoMemory};
+use dialogue::{Dialogue, Put};
 use program_model::{Fill, ProgramState};
-use session_text::{logged_in_text, ready_text};
 use std::alloc::Global;
 use std::marker::Model;
 
@@ -21,8 +20,7 @@ use std::marker::Model;
 pub struct Session {
     pub(crate) account: Account,
     pub(crate) on: bool,
-    pub(crate) lines: Lines,
-    pub(crate) items: Vec<Item>,
+    pub(crate) talk: Dialogue,
     pub(crate) own: u64,
     pub(crate) before: u64,
     pub(crate) state: ProgramState,
@@ -52,26 +50,16 @@ impl Model for Session {
         input = s.input;
       };
       on = s.on;
-      unread = s.lines.lines;
-      lines = s.lines.count;
+      unread = s.talk.unread;
+      lines = s.talk.lines;
       given = 0;
-      transcript = s.items.items;
+      transcript = s.talk.transcript;
       own = s.own;
       before = s.before;
     } };
 
     ghost invariant = { λ s. (s.before ≤ s.own) × (s.regs.ic < 2 ^ 15) × (s.blocks ≤ s.account.blocks)
         × (s.account.blocks ≤ 128) × IfSome s.fill (λ f. StartsInCore f) };
-}
-
-/// An item more, where there is room.
-pub(crate) fn note(items: &mut Vec<Item>, item: Item)
-    requires { vec_len items.old < vec_capacity items.old }
-    ensures items { items.new.items ≡ items.old.items ++ item ∷ [] }
-    ensures len { vec_len items.new ≡ vec_len items.old + 1 }
-    ensures capacity { vec_capacity items.old ≤ vec_capacity items.new }
-{
-    let _ = items.push(item);
 }
 
 /// Whether a program works.
@@ -90,12 +78,11 @@ impl Session {
         requires blocks { account.now.blocks ≤ 128 }
         ensures { IfOk result (λ s. s ≡ first_state account.now []) }
     {
-        let lines = Lines::new(alloc)?;
+        let talk = Dialogue::new(alloc)?;
         Ok(Session {
             account: *account,
             on: false,
-            lines,
-            items: Vec::new(alloc),
+            talk,
             own: 0,
             before: 0,
             state: ProgramState::Dead,
@@ -147,35 +134,35 @@ impl Session {
     pub fn line_count(&self) -> u16
         ensures { result ≡ self.now.lines }
     {
-        self.lines.count()
+        self.talk.line_count()
     }
 
     /// Whether a line is unread.
     pub fn has_line(&self) -> bool
         ensures { result ≡ some_line self.now.unread }
     {
-        !self.lines.is_empty()
+        self.talk.has_line()
     }
 
     /// The first unread line, which stays.
     pub(crate) fn first_line(&self) -> Option<LineText>
         ensures { result ≡ slice_get self.now.unread 0 }
     {
-        self.lines.first()
+        self.talk.first_line()
     }
 
     /// The transcript so far.
     pub fn items(&self) -> &[Item]
         ensures { result.now ≡ self.now.transcript }
     {
-        &self.items
+        self.talk.items()
     }
 
     /// The whole transcript.
     pub fn into_items(self) -> Items
         ensures { result ≡ self.transcript }
     {
-        Sequence::from_vec(self.items)
+        self.talk.into_items()
     }
 
     /// A line is typed.
@@ -185,7 +172,7 @@ impl Session {
         ensures stays { result ≡ Put.Spent → self.new ≡ self.old }
         ensures kept { result ≡ Put.Kept → self.new ≡ typed text self.old }
     {
-        self.lines.put(text)
+        self.talk.type_line(text)
     }
 
     /// A session is opened.
@@ -194,13 +181,8 @@ impl Session {
         ensures ok { OnOk result (self.new ≡ opened self.old) }
         ensures err { OnErr result (self.new ≡ self.old) }
     {
-        self.items.reserve(1)?;
-        note(
-            &mut self.items,
-            Item::Out(logged_in_text(self.account.name)),
-        );
+        self.talk.open(self.account.name)?;
         self.on = true;
-        self.lines.restart();
         Ok(())
     }
 
@@ -210,15 +192,10 @@ impl Session {
         ensures ok { OnOk result (self.new ≡ cut Quit self.old) }
         ensures err { OnErr result (self.new ≡ self.old) }
     {
-        self.items.reserve(3)?;
-        note(&mut self.items, Item::Quit);
-        note(&mut self.items, Item::Out(LineText::of(b"QUIT,")));
+        self.talk.quit(self.state, self.own - self.before)?;
         if self.state == ProgramState::Working {
             self.state = ProgramState::Dormant;
-            let n = self.own - self.before;
-            note(&mut self.items, Item::Out(ready_text(n)));
         }
-        self.lines.drop_all();
         self.fill = None;
         self.input = None;
         Ok(())
@@ -230,10 +207,8 @@ impl Session {
         ensures ok { OnOk result (self.new ≡ cut Hang self.old) }
         ensures err { OnErr result (self.new ≡ self.old) }
     {
-        self.items.reserve(1)?;
-        note(&mut self.items, Item::Hang);
+        self.talk.hang()?;
         self.on = false;
-        self.lines.drop_all();
         self.state = ProgramState::Dead;
         self.regs = Regs::new();
         self.blocks = 0;

@@ -1,4 +1,5 @@
 use ctss_types::{CommonOp, Ending};
+use word36::Word;
 
 /// What a step that was done did, and whether it took the clock.
 #[derive(Clone, Copy, Debug, PartialEq, Eq)]
@@ -14,4 +15,11 @@ pub enum Turn {
     Waits,
     Done(Step),
     Asks(CommonOp),
+}
+
+/// What an instruction of a program comes to: a step, or a supervisor entry that is still to be done.
+#[derive(Clone, Copy, Debug, PartialEq, Eq)]
+pub(crate) enum Instructed {
+    Done(Step),
+    Entry(Word),
 }

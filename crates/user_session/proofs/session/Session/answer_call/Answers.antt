@@ -1,6 +1,5 @@
 use Rattle.std.proofs.Common.{refl}
 use Rattle.user_session.proofs.Enters.{over_these}
-use Rattle.user_session.proofs.Files.{known_still}
 use Rattle.user_session.proofs.session.Session.answer_call.Goals as goal
 
 pub returns-in_ok-read_line-in-ReadLine-clause-row : goal.returns-in_ok-read_line-in-ReadLine-clause-row

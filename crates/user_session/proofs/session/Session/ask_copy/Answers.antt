@@ -1,4 +1,4 @@
-use Rattle.std.proofs.Common.{rules, ◌≡◌, ◌∙◌, ℕ, List, Err, refl, sym}
+use Rattle.std.proofs.Common.{rules, ◌≡◌, ℕ, List, Err, refl}
 use Rattle.file_model.specs.Files.{got}
 use Rattle.user_model.proofs.CoreLaws.{recut_same}
 use Rattle.user_session.proofs.Enters.{over_read}

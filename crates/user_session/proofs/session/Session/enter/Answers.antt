@@ -1,4 +1,4 @@
-use Rattle.std.proofs.Common.{◌≡◌, ◌∙◌, List, Ok, Err, refl, sym, ap}
+use Rattle.std.proofs.Common.{◌≡◌, ◌∙◌, Ok, Err, refl, sym, ap}
 use Rattle.program_model.specs.Calls.{call_of}
 use Rattle.user_model.specs.User.{User}
 use Rattle.user_session.proofs.Enters.{entered, no_disk, ok_map, over_map, over_these}

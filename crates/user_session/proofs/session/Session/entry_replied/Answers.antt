@@ -1,6 +1,5 @@
 use Rattle.std.proofs.Common.{◌≡◌, ◌∙◌, ℕ, List, [], Ok, Some, sym, ap, subst}
 use Rattle.std.specs.declared.result.Result.{Result}
-use Rattle.ctss_types.specs.declared.file.CommonOp.{CommonOp}
 use Rattle.machine_model.specs.Machine.{table}
 use Rattle.machine_model.specs.Step as machine
 use Rattle.machine_model.specs.Step.{entry}

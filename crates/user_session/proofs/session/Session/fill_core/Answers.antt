@@ -1,4 +1,4 @@
-use Rattle.std.proofs.Common.{◌∙◌, rules, refl}
+use Rattle.std.proofs.Common.{◌∙◌, refl}
 use Rattle.user_model.proofs.CoreLaws.{recut_same}
 use Rattle.user_model.proofs.RowTurns.{fill_turn}
 use Rattle.user_session.proofs.Enters.{over_read}

@@ -1,4 +1,4 @@
-use Rattle.std.proofs.Common.{rules, ◌≡◌, ◌∙◌, List, Ok, Err, refl, sym}
+use Rattle.std.proofs.Common.{rules, ◌∙◌, refl, sym}
 use Rattle.user_model.proofs.CoreLaws.{recut_same}
 use Rattle.user_session.proofs.Enters.{over_read}
 use Rattle.user_session.proofs.session.Session.load.Goals as goal

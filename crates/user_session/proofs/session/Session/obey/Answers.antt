@@ -1,6 +1,6 @@
-use Rattle.std.proofs.Common.{rules, refl}
+use Rattle.std.proofs.Common.{refl}
 use Rattle.user_model.proofs.CoreLaws.{recut_same}
-use Rattle.user_session.proofs.Enters.{over_map, over_these}
+use Rattle.user_session.proofs.Enters.{over_these}
 use Rattle.user_session.proofs.session.Session.obey.Goals as goal
 
 pub returns-in_ok-say_why-in-BadArguments-clause-row : goal.returns-in_ok-say_why-in-BadArguments-clause-row
@@ -8,20 +8,17 @@ returns-in_ok-say_why-in-BadArguments-clause-row g c =
     let are = g.met.P.FilePort.is_known c.args.files.now c.requires.port in
     rw c.in-BadArguments.is (over_these _ _ _ _ are are (refl, c.in_ok-say_why-in-BadArguments.ensures.ok, recut_same _ _ c.requires.size, refl, refl, refl))
 
-pub returns-in_ok-done-in-Print-clause-row : goal.returns-in_ok-done-in-Print-clause-row
-returns-in_ok-done-in-Print-clause-row g c = rw c.in-Print.is c.in_ok-done-in-Print.ensures.row
-
-pub returns-in_ok-done-in-Start-clause-row : goal.returns-in_ok-done-in-Start-clause-row
-returns-in_ok-done-in-Start-clause-row g c =
+pub returns-in_ok-start-in-Start-clause-row : goal.returns-in_ok-start-in-Start-clause-row
+returns-in_ok-start-in-Start-clause-row g c =
     let are = g.met.P.FilePort.is_known c.args.files.now c.requires.port in
-    rw c.in-Start.is (over_these _ _ _ _ are are (c.in_ok-done-in-Start.ensures.row (g.P.FilePort.files c.args.files.now)))
+    rw c.in-Start.is (over_these _ _ _ _ are are (c.in_ok-start-in-Start.ensures.row (g.P.FilePort.files c.args.files.now)))
 
-pub returns-in_ok-done-in-Registers-clause-row : goal.returns-in_ok-done-in-Registers-clause-row
-returns-in_ok-done-in-Registers-clause-row g c =
+pub returns-in_ok-tell_registers-in-Registers-clause-row : goal.returns-in_ok-tell_registers-in-Registers-clause-row
+returns-in_ok-tell_registers-in-Registers-clause-row g c =
     let are = g.met.P.FilePort.is_known c.args.files.now c.requires.port in
-    rw c.in-Registers.is (over_these _ _ _ _ are are (c.in_ok-done-in-Registers.ensures.row (g.P.FilePort.files c.args.files.now)))
+    rw c.in-Registers.is (over_these _ _ _ _ are are (c.in_ok-tell_registers-in-Registers.ensures.row (g.P.FilePort.files c.args.files.now)))
 
-pub returns-in_ok-done-in-WordAt-clause-row : goal.returns-in_ok-done-in-WordAt-clause-row
-returns-in_ok-done-in-WordAt-clause-row g c =
+pub returns-in_ok-tell_word-in-WordAt-clause-row : goal.returns-in_ok-tell_word-in-WordAt-clause-row
+returns-in_ok-tell_word-in-WordAt-clause-row g c =
     let are = g.met.P.FilePort.is_known c.args.files.now c.requires.port in
-    rw c.in-WordAt.is (over_these _ _ _ _ are are (c.in_ok-done-in-WordAt.ensures.row (g.P.FilePort.files c.args.files.now)))
+    rw c.in-WordAt.is (over_these _ _ _ _ are are (c.in_ok-tell_word-in-WordAt.ensures.row (g.P.FilePort.files c.args.files.now)))

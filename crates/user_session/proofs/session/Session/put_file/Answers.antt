@@ -1,7 +1,7 @@
 use Rattle.std.proofs.Common.{rules, ◌≡◌, ◌∙◌, ℕ, List, Ok, Err, refl, sym, ap}
 use Rattle.ctss_types.specs.declared.file.FileBody.{FileBody}
 use Rattle.file_model.specs.Files.{put}
-use Rattle.file_map.specs.Known.{known, known_of}
+use Rattle.file_map.specs.Known.{known_of}
 use Rattle.user_model.proofs.CoreLaws.{recut_same}
 use Rattle.user_session.proofs.Files.{known_done, known_refused, refused_change}
 use Rattle.user_session.proofs.Knowing.{put_known}

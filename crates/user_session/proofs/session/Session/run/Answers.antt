@@ -1,33 +1,54 @@
-use Rattle.std.proofs.Common.{◌∙◌, rules, refl, sym, ap}
-use Rattle.user_model.specs.Inner.{recut}
-use Rattle.user_model.specs.User.{User}
+use Rattle.std.proofs.Common.{◌≡◌, ◌∙◌, ◌*◌, ◌<◌, ◌-◌, ◌^◌, [], length, sym, ap, subst}
+use Rattle.std.specs.Prelude.{IfOk, OnErr}
 use Rattle.machine_model.specs.Machine.{table}
-use Rattle.user_model.proofs.CoreLaws.{recut_same}
-use Rattle.user_model.proofs.RowTurns.{row_turn}
-use Rattle.user_session.proofs.Enters.{over_these}
-use Rattle.user_session.proofs.Turns.{stopped_so, refused_so}
+use Rattle.user_model.specs.Inner.{Stored}
+use Rattle.user_model.specs.Session.{works_in}
+use Rattle.user_model.specs.User.{User}
+use Rattle.user_session.specs.Stores.{stored, Over}
+use Rattle.user_session.specs.Turns.{IsTurn}
+use Rattle.user_session.proofs.Enters.{at_entry, at_step, over_these}
 use Rattle.user_session.proofs.session.Session.run.Goals as goal
 
-pub returns-in-Went-clause-turn : goal.returns-in-Went-clause-turn
-returns-in-Went-clause-turn g c =
-    let are = g.met.P.FilePort.is_known c.args.files.now c.requires.port in
-    over_these _ _ _ _ are are (row_turn c.args.now c.args.self.now _ _ _ _ _ _ c.requires.works c.requires.filled (ap (λ (u : User). table u.inner.regs (g.M.MemoryPort.words c.args.core.now)) (sym c.self.view_is) ∙ sym c.in-Went.ensures.table) c.requires.on (ap (λ (u : User). u.given) (sym c.self.view_is))
-    (refl, search rules, recut_same _ _ (g.met.M.MemoryPort.same_size _ _ c.in-Went.ensures.keeps ∙ c.requires.size), refl, refl, refl))
+pub enter-requires-clause-on : goal.enter-requires-clause-on
+enter-requires-clause-on g c = let e = at_entry _ _ _ _ _ _ _ c.in-Entry.is (c.in_ok-step.ensures.does []) in ap (λ (u : User). u.on) e.same ∙ c.requires.on
 
-pub returns-in-Halt-clause-turn : goal.returns-in-Halt-clause-turn
-returns-in-Halt-clause-turn g c =
-    let are = g.met.P.FilePort.is_known c.args.files.now c.requires.port in
-    over_these _ _ _ _ are are (row_turn c.args.now c.args.self.now _ _ _ _ _ _ c.requires.works c.requires.filled (ap (λ (u : User). table u.inner.regs (g.M.MemoryPort.words c.args.core.now)) (sym c.self.view_is) ∙ sym c.in-Halt.ensures.table) c.requires.on (ap (λ (u : User). u.given) (sym c.self.view_is))
-    (refl, stopped_so _ _ _ _ _ _ _ c.self.view_is c.in_ok-reserve.ensures.items c.note_stop.ensures c.stop.ensures, recut_same _ _ (g.met.M.MemoryPort.same_size _ _ c.in-Halt.ensures.keeps ∙ c.requires.size), refl, refl, refl))
+pub enter-requires-clause-works : goal.enter-requires-clause-works
+enter-requires-clause-works g c = let e = at_entry _ _ _ _ _ _ _ c.in-Entry.is (c.in_ok-step.ensures.does []) in ap (λ (u : User). works_in u.inner.state) e.same ∙ c.requires.works
 
-pub returns-in-Illegal-clause-turn : goal.returns-in-Illegal-clause-turn
-returns-in-Illegal-clause-turn g c =
-    let are = g.met.P.FilePort.is_known c.args.files.now c.requires.port in
-    over_these _ _ _ _ are are (row_turn c.args.now c.args.self.now _ _ _ _ _ _ c.requires.works c.requires.filled (ap (λ (u : User). table u.inner.regs (g.M.MemoryPort.words c.args.core.now)) (sym c.self.view_is) ∙ sym c.in-Illegal.ensures.table) c.requires.on (ap (λ (u : User). u.given) (sym c.self.view_is))
-    (refl, refused_so _ _ _ _ _ _ _ c.self.view_is c.in_ok-reserve.ensures.items c.note_stop-in-Illegal.ensures c.stop-in-Illegal.ensures c.in-Illegal.ensures.stays.0, ap (recut c.args.self.now.inner.blocks) c.in-Illegal.ensures.stays.1 ∙ recut_same _ _ c.requires.size, refl, refl, refl))
+pub enter-requires-clause-filled : goal.enter-requires-clause-filled
+enter-requires-clause-filled g c = let e = at_entry _ _ _ _ _ _ _ c.in-Entry.is (c.in_ok-step.ensures.does []) in ap (λ (u : User). u.inner.fill) e.same ∙ c.requires.filled
 
-pub returns-in-Outside-clause-turn : goal.returns-in-Outside-clause-turn
-returns-in-Outside-clause-turn g c =
+pub enter-requires-clause-at : goal.enter-requires-clause-at
+enter-requires-clause-at g c = let e = at_entry _ _ _ _ _ _ _ c.in-Entry.is (c.in_ok-step.ensures.does []) in (λ j. table (e.same j).inner.regs (e.store j).core) ∙ e.at
+
+pub enter-requires-clause-size : goal.enter-requires-clause-size
+enter-requires-clause-size g c =
+    let e = at_entry _ _ _ _ _ _ _ c.in-Entry.is (c.in_ok-step.ensures.does []) in
+    ap (λ (s : Stored). length s.core) e.store ∙ c.requires.size ∙ ap (λ (u : User). 256 * u.inner.blocks) (sym e.same)
+
+pub enter-requires-clause-fits : goal.enter-requires-clause-fits
+enter-requires-clause-fits g c = let e = at_entry _ _ _ _ _ _ _ c.in-Entry.is (c.in_ok-step.ensures.does []) in subst (λ (u : User). u.own < 2 ^ 64 - 1) (sym e.same) c.requires.fits
+
+pub returns-in-Done-clause-turn : goal.returns-in-Done-clause-turn
+returns-in-Done-clause-turn g c =
     let are = g.met.P.FilePort.is_known c.args.files.now c.requires.port in
-    over_these _ _ _ _ are are (row_turn c.args.now c.args.self.now _ _ _ _ _ _ c.requires.works c.requires.filled (ap (λ (u : User). table u.inner.regs (g.M.MemoryPort.words c.args.core.now)) (sym c.self.view_is) ∙ sym c.in-Outside.ensures.table) c.requires.on (ap (λ (u : User). u.given) (sym c.self.view_is))
-    (refl, refused_so _ _ _ _ _ _ _ c.self.view_is c.in_ok-reserve.ensures.items c.note_stop-in-Outside.ensures c.stop-in-Outside.ensures c.in-Outside.ensures.stays.0, ap (recut c.args.self.now.inner.blocks) c.in-Outside.ensures.stays.1 ∙ recut_same _ _ c.requires.size, refl, refl, refl))
+    over_these _ _ _ _ are are (at_step _ _ _ _ _ _ _ c.in-Done.is (c.in_ok-step.ensures.does (g.P.FilePort.files c.args.files.now)))
+
+pub returns-in-Entry-clause-turn : goal.returns-in-Entry-clause-turn
+returns-in-Entry-clause-turn g c =
+    let e = at_entry _ _ _ _ _ _ _ c.in-Entry.is (c.in_ok-step.ensures.does []) in
+    let tells = g.P.FilePort.tells c.args.files.now in
+    let files = g.P.FilePort.files c.args.files.now in
+    let after = stored (g.M.MemoryPort.words c.enter.new.core) (g.P.FilePort.files c.enter.new.files) in
+    subst (λ (u : User). IfOk c.enter.result (λ turn. Over tells (stored (g.M.MemoryPort.words c.args.core.now) files) after (IsTurn turn c.args.now u c.enter.new.self))) e.same
+    (subst (λ (s : Stored). IfOk c.enter.result (λ turn. Over tells (stored s.core files) after (IsTurn turn c.args.now c.instruct.new.self c.enter.new.self))) e.store c.enter.ensures.turn)
+
+pub returns-in-Entry-clause-err : goal.returns-in-Entry-clause-err
+returns-in-Entry-clause-err g c =
+    let e = at_entry _ _ _ _ _ _ _ c.in-Entry.is (c.in_ok-step.ensures.does []) in
+    subst (λ (u : User). OnErr c.enter.result (c.enter.new.self ≡ u)) e.same c.enter.ensures.err
+
+pub returns-in-Entry-clause-err_core : goal.returns-in-Entry-clause-err_core
+returns-in-Entry-clause-err_core g c =
+    let e = at_entry _ _ _ _ _ _ _ c.in-Entry.is (c.in_ok-step.ensures.does []) in
+    subst (λ (s : Stored). OnErr c.enter.result (g.M.MemoryPort.words c.enter.new.core ≡ s.core)) e.store c.enter.ensures.err_core

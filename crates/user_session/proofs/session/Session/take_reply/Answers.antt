@@ -1,6 +1,4 @@
-use Rattle.std.proofs.Common.{◌≡◌, ◌∙◌, Bool, true, false, List, [], None, Some, sym, ap}
-use Rattle.ctss_types.specs.declared.file.FileBody.{FileBody}
-use Rattle.ctss_types.specs.declared.file.CommonOp.{CommonOp}
+use Rattle.std.proofs.Common.{◌≡◌, ◌∙◌, false, [], None, Some, sym, ap}
 use Rattle.machine_model.specs.Machine.{table}
 use Rattle.user_model.specs.declared.Command.{Command}
 use Rattle.user_model.specs.Commands.{command_asks}

@@ -1,4 +1,4 @@
-use Rattle.std.proofs.Common.{rules, ◌≡◌, ◌∙◌, ℕ, List, refl, sym}
+use Rattle.std.proofs.Common.{rules, ◌≡◌, ◌∙◌, refl, sym}
 use Rattle.file_model.specs.Files.{written}
 use Rattle.program_model.specs.Lines.{words_at}
 use Rattle.user_model.proofs.CoreLaws.{recut_same}

@@ -1,0 +1,78 @@
+//! What a case is.
+use console_link::LinkAt;
+use medium::Damage;
+use std::alloc::Global;
+
+/// Bytes that become ready together in a turn.
+#[derive(Drop)]
+pub(crate) struct Piece {
+    pub(crate) turn: u32,
+    pub(crate) bytes: Vec<u8>,
+}
+
+/// Someone who connects.
+#[derive(Drop)]
+pub(crate) struct Caller {
+    /// The turn from which on the connection can be accepted.
+    pub(crate) turn: u32,
+    pub(crate) pieces: Vec<Piece>,
+    /// The turn from which on it is over, once its bytes are read.
+    pub(crate) over: Option<u32>,
+    /// The turns whose first read fails.
+    pub(crate) fails: Vec<u32>,
+}
+
+/// How a stream works: the most bytes of a call, and which calls fail.
+#[derive(Drop)]
+pub(crate) struct Stream {
+    pub(crate) piece: usize,
+    pub(crate) fails: Vec<u64>,
+}
+
+/// A run: the words of the command line or the turns of a server, the text that is read, what fails, and the callers in order.
+#[derive(Drop)]
+pub(crate) struct Case {
+    /// None for a case that stands alone.
+    pub(crate) name: Option<String>,
+    pub(crate) words: Vec<String>,
+    pub(crate) turns: Option<u32>,
+    pub(crate) text: Vec<u8>,
+    pub(crate) source: Stream,
+    pub(crate) room: usize,
+    pub(crate) sink: Stream,
+    pub(crate) drum_fails: Vec<u64>,
+    pub(crate) damage: Option<Damage>,
+    pub(crate) callers: Vec<Caller>,
+    pub(crate) link_fails: Vec<LinkAt>,
+    pub(crate) link_waits: Vec<LinkAt>,
+    pub(crate) tells_last: bool,
+    pub(crate) tells_calls: bool,
+}
+
+impl Case {
+    /// No words and no text, and nothing fails.
+    pub(crate) fn new(alloc: Global, name: Option<String>) -> Case {
+        Case {
+            name,
+            words: Vec::new(alloc),
+            turns: None,
+            text: Vec::new(alloc),
+            source: Stream {
+                piece: 4096,
+                fails: Vec::new(alloc),
+            },
+            room: 1_000_000,
+            sink: Stream {
+                piece: 4096,
+                fails: Vec::new(alloc),
+            },
+            drum_fails: Vec::new(alloc),
+            damage: None,
+            callers: Vec::new(alloc),
+            link_fails: Vec::new(alloc),
+            link_waits: Vec::new(alloc),
+            tells_last: false,
+            tells_calls: false,
+        }
+    }
+}

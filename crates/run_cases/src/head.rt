@@ -1,0 +1,71 @@
+//! The lines that say how a case is done.
+use crate::case::{Case, Stream};
+use anyhow::{Result, bail};
+use medium::Damage;
+use std::alloc::Global;
+
+/// The numbers of a line.
+fn numbers(alloc: Global, fields: &str) -> Result<Vec<u64>> {
+    let mut numbers = Vec::new(alloc);
+    for field in fields.split_whitespace() {
+        numbers.push(field.parse::<u64>()?)?;
+    }
+    Ok(numbers)
+}
+
+/// A stream of the bytes of a call and the calls that fail.
+fn stream(alloc: Global, fields: &str) -> Result<Stream> {
+    let mut fails = numbers(alloc, fields)?;
+    if fails.is_empty() {
+        bail!("a stream has the bytes of a call");
+    }
+    let piece = fails.remove(0) as usize;
+    Ok(Stream { piece, fails })
+}
+
+/// A read, a place and an octal word.
+fn damage(fields: &str) -> Result<Damage> {
+    let Some((read, rest)) = fields.split_once(" ") else {
+        bail!("DAMAGE has a read, a place and a word");
+    };
+    let Some((place, word)) = rest.split_once(" ") else {
+        bail!("DAMAGE has a read, a place and a word");
+    };
+    Ok(Damage {
+        read: Some(read.parse::<u64>()?),
+        place: place.parse::<u16>()?,
+        word: u64::from_str_radix(word, 8)?,
+    })
+}
+
+impl Case {
+    /// One more line of how it is done. Answers whether the text begins behind it.
+    pub(crate) fn add_head(&mut self, alloc: Global, line: &str) -> Result<bool> {
+        let (word, fields) = line.split_once(" ").unwrap_or((line, ""));
+        match word {
+            "WORDS" => {
+                for field in fields.split_whitespace() {
+                    self.words.push(String::from_str(alloc, field)?)?;
+                }
+            }
+            "SOURCE" => self.source = stream(alloc, fields)?,
+            "SINK" => {
+                let (room, rest) = fields.split_once(" ").unwrap_or((fields, ""));
+                self.room = room.parse::<usize>()?;
+                self.sink = stream(alloc, rest)?;
+            }
+            "DRUM" => self.drum_fails = numbers(alloc, fields)?,
+            "DAMAGE" => self.damage = Some(damage(fields)?),
+            "BYTES" => self.text = hex::decode(alloc, fields)?,
+            "LAST" => self.tells_last = true,
+            "CALLS" => self.tells_calls = true,
+            "TURNS" => {
+                self.turns = Some(fields.parse::<u32>()?);
+                return Ok(true);
+            }
+            "TEXT" => return Ok(true),
+            _ => bail!("no such line before TEXT"),
+        }
+        Ok(false)
+    }
+}

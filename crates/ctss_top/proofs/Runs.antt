@@ -61,7 +61,10 @@ start_is script old new back given_is is =
     ∙ all_given script
 
 pub agrees_at_start : (events : List Timed) (old new : Bare) (back : BackState) → run_with no_places new ≡ given_all events (run_with no_places old) → Agrees (whole_of old back) → Agrees (whole_of new back)
-agrees_at_start events old new back is agrees = subst (λ (us : List User). IsTied us back.held) (sym (ap (λ (q : Run). q.system.users) is)) agrees
+agrees_at_start events old new back is agrees = record {
+  tied = subst (λ (us : List User). IsTied us back.held) (sym (ap (λ (q : Run). q.system.users) is)) agrees.tied;
+  common = agrees.common ∙ sym (ap (λ (q : Run). q.common) is);
+}
 
 pub no_entry : (events : List Timed) (old new : Bare) → run_with no_places new ≡ given_all events (run_with no_places old) → old.entries ≡ [] → new.entries ≡ []
 no_entry events old new is none = ap (λ (q : Run). q.system.entries) is ∙ none

@@ -3,7 +3,7 @@ use Rattle.std.proofs.Common.{◌≡◌, ◌∙◌, ℕ, zero, suc, List, [], �
 use Rattle.ctss_types.specs.declared.file.FileBody.{FileBody}
 use Rattle.file_map.specs.Directory.{Directory}
 use Rattle.directories.specs.Directories.{lists_from}
-use Rattle.directories.specs.Memory.{no_directory, directory_at, state_of}
+use Rattle.directories.specs.Memory.{no_directory, directory_at}
 
 -- the directories from a place on, behind some
 get_behind : (front : List Directory) (d : Directory) (rest : List Directory) → get_or (front ++ d ∷ rest) (length front) no_directory ≡ d
@@ -27,5 +27,5 @@ listed_behind front (d ∷ rest) all is =
     ap (λ (f : List FileBody). f ∷ lists_from (suc (suc (length front))) (length rest) (λ u. (directory_at all u).files)) first
     ∙ ap (λ (fs : List (List FileBody)). d.files ∷ fs) others
 
-pub lists_are : (all : List Directory) → map (λ (d : Directory). d.files) all ≡ lists_from 1 (length all) (state_of all).own
+pub lists_are : (all : List Directory) → map (λ (d : Directory). d.files) all ≡ lists_from 1 (length all) (λ u. (directory_at all u).files)
 lists_are all = sym (listed_behind [] all all refl)

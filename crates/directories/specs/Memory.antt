@@ -1,4 +1,4 @@
--- proof: directories in memory as a list, that of user 1 first.
+-- proof: directories in memory: those of users as a list, that of user 1 first, and that of the common files.
 use Rattle.std.specs.Prelude.{ℕ, suc, ◌≤◌, true, List, [], ◌∷◌, length}
 use Rattle.std.specs.List.{All}
 use Rattle.ctss_types.specs.declared.script.Account.{Account}
@@ -17,11 +17,17 @@ no_directory = record { files = []; quota = 0 }
 abbrev pub directory_at : List Directory → ℕ → Directory
 directory_at all user = at no_directory all user
 
-abbrev pub state_of : List Directory → DirectoriesState
-state_of all = record {
-  own = λ user. (directory_at all user).files;
-  may = λ user. (directory_at all user).quota;
-  count = length all;
+pub record Kept : Type 0 where
+  pub own : List Directory
+  pub common : Directory
+
+abbrev pub state_of : Kept → DirectoriesState
+state_of kept = record {
+  own = λ user. (directory_at kept.own user).files;
+  may = λ user. (directory_at kept.own user).quota;
+  common = kept.common.files;
+  common_may = kept.common.quota;
+  count = length kept.own;
   tells = true;
   faults = 0;
 }
@@ -30,6 +36,10 @@ state_of all = record {
 abbrev pub directories_from : ℕ → List Account → List OwnedFile → List Directory
 directories_from u [] owned = []
 directories_from u (a ∷ accounts) owned = record { files = files_of u owned; quota = a.tracks } ∷ directories_from (suc u) accounts owned
+
+-- all directories of these accounts, with their first files, and no common file yet
+abbrev pub first_kept : ℕ → List Account → List OwnedFile → Kept
+first_kept common accounts owned = record { own = directories_from 1 accounts owned; common = record { files = []; quota = common } }
 
 -- the files of accounts that are numbered from u on: each account's differ in their names, have modes 0 to 3 and keep its quota of tracks
 abbrev pub AreFit : ℕ → List Account → List OwnedFile → Type 0

@@ -5,14 +5,21 @@ ghost use Rattle.ctss_types.specs.declared.file.CommonOp.{CommonOp};
 ghost use Rattle.file_model.specs.Commons.{ReplyFits};
 ghost use Rattle.user_session.specs.Stores.{stored, Over, IsToMake};
 ghost use Rattle.user_session.specs.Turns.{IsReplied, IsTurn};
-ghost use Rattle.directories.specs.Directories.{DirectoriesState, Serves, Drops, lists_from};
+ghost use Rattle.directories.specs.Directories.{DirectoriesState, Serves, Shares, Drops, lists_from};
 
 use cpu_regs::MemoryPort;
-use ctss_types::{FileList, Reply, StepFault, UserNo};
+use ctss_types::{CommonOp, FileList, Reply, StepFault, UserNo};
 use std::alloc::Global;
 use user_session::{Session, Step, Turn};
 
-/// The directories of up to 30 users. Users count from 1.
+/// All files: each user's in order of making, that of user 1 first, and the common ones.
+#[derive(Drop)]
+pub struct Lists {
+    pub own: Vec<FileList>,
+    pub common: FileList,
+}
+
+/// The directories of up to 30 users, who count from 1, and of the common files.
 ///
 /// In clauses `state` is what they show. After a disk fault nothing may be asked any more.
 pub trait Directories {
@@ -79,6 +86,13 @@ pub trait Directories {
         ensures keeps { Keeps self.old self.new }
         ensures serves { Serves user result (state self.old) (state self.new) };
 
+    /// An operation on the common files: its reply, which may be a refusal.
+    fn share(&mut self, op: &CommonOp) -> Result<Reply, StepFault>
+        requires works { Works self.old }
+        ensures shares { Shares op.now result (state self.old) (state self.new) }
+        ensures works { ¬ IsErrOf result StepFault.Disk → Works self.new }
+        ensures keeps { Keeps self.old self.new };
+
     /// A user's files of mode 0 go. It takes no memory, and makes no call of the disk.
     fn drop_temporary(&mut self, user: UserNo)
         requires works { Works self.old }
@@ -87,11 +101,12 @@ pub trait Directories {
         ensures works { Works self.new }
         ensures keeps { Keeps self.old self.new };
 
-    /// All users' files, each user's in order of making. Nothing may be asked behind it.
-    fn take_lists(&mut self, alloc: Global) -> Result<Vec<FileList>, StepFault>
+    /// All files. Nothing may be asked behind it.
+    fn take_lists(&mut self, alloc: Global) -> Result<Lists, StepFault>
         requires works { Works self.old }
-        ensures lists { (state self.old).tells ≡ true
-            → IfOk result (λ lists. lists.items ≡ lists_from 1 (state self.old).count (state self.old).own) }
+        ensures lists { (state self.old).tells ≡ true → IfOk result
+            (λ lists. lists.own.items ≡ lists_from 1 (state self.old).count (state self.old).own) }
+        ensures common { (state self.old).tells ≡ true → IfOk result (λ lists. lists.common ≡ (state self.old).common) }
         ensures keeps { Keeps self.old self.new }
         ensures cause { IsErrOf result StepFault.Disk → Rose (state self.old).faults (state self.new).faults };
 

@@ -1,8 +1,8 @@
-//! The directories of all users: each step of a session is done over its user's own.
+//! The directories of all users, over whose own each step of a session is done, and of the common files.
 #![tactic(auto)]
 
 mod all;
 mod memory;
 
-pub use all::Directories;
+pub use all::{Directories, Lists};
 pub use memory::MemoryDirectories;

@@ -1,30 +1,33 @@
 //! Directories in memory.
 ghost use Rattle.std.specs.Prelude.{◌≡◌, ◌≤◌, ◌+◌, ◌++◌, ◌∷◌, [], length, map, IfOk, OnOk};
 ghost use Rattle.file_model.specs.Owned.{files_of};
-ghost use Rattle.directories.specs.Memory.{directories_from, AreFit};
+ghost use Rattle.directories.specs.Memory.{directories_from, first_kept, AreFit};
 
-use crate::Directories;
+use crate::{Directories, Lists};
+use common_file::apply;
 use cpu_regs::MemoryPort;
-use ctss_types::{Account, FileBody, FileList, NoMemory, OwnedFile, Reply, StepFault, UserNo};
-use file_map::{FilePort, Files};
+use ctss_types::{
+    Account, CommonOp, FileBody, FileList, NoMemory, OwnedFile, Reply, StepFault, UserNo,
+};
+use file_map::{FilePort, Files, PortFault};
 use std::alloc::Global;
 use std::marker::Model;
 use std::mem::replace;
 use user_session::{Session, Step, Turn};
 
-/// All users' directories, which lie in memory. In clauses it is their list, that of user 1 first.
+/// All users' directories, that of user 1 first, and that of the common files, which lie in memory.
 #[derive(Drop)]
 pub struct MemoryDirectories {
-    all: Vec<Files>,
+    own: Vec<Files>,
+    common: Files,
 }
 
 impl Model for MemoryDirectories {
-    ghost use Rattle.std.specs.Prelude.{List};
-    ghost use Rattle.file_map.specs.Directory.{Directory};
+    ghost use Rattle.directories.specs.Memory.{Kept};
 
-    ghost Value = { List Directory };
+    ghost Value = { Kept };
 
-    ghost view = { λ d. d.all.items };
+    ghost view = { λ d. record { own = d.own.items; common = d.common } };
 }
 
 /// A file more, if it is the user's.
@@ -82,19 +85,21 @@ fn lists_of(alloc: Global, all: Vec<Files>) -> Result<Vec<FileList>, NoMemory>
 }
 
 impl MemoryDirectories {
-    /// The directories of these accounts with their first files.
+    /// The directories of these accounts with their first files, and so many tracks for the common files, of which there is none yet.
     pub fn new(
         alloc: Global,
+        common: u16,
         accounts: &[Account],
         files: &[OwnedFile],
     ) -> Result<MemoryDirectories, NoMemory>
         requires few { length accounts.now ≤ 30 }
         requires fit { AreFit 1 accounts.now files.now }
-        ensures { IfOk result (λ d. d ≡ directories_from 1 accounts.now files.now) }
+        ensures { IfOk result (λ d. d ≡ first_kept common accounts.now files.now) }
     {
-        let mut all = Vec::new(alloc);
-        add_all(alloc, &mut all, accounts, files, 1)?;
-        Ok(MemoryDirectories { all })
+        let mut own = Vec::new(alloc);
+        add_all(alloc, &mut own, accounts, files, 1)?;
+        let common = Files::new(alloc, common);
+        Ok(MemoryDirectories { own, common })
     }
 }
 
@@ -114,7 +119,7 @@ impl Directories for MemoryDirectories {
         core: &mut M,
         now: u64,
     ) -> Result<Turn, StepFault> {
-        let files = &mut self.all[user.number() as usize - 1];
+        let files = &mut self.own[user.number() as usize - 1];
         session.step(core, files, now)
     }
 
@@ -126,18 +131,27 @@ impl Directories for MemoryDirectories {
         reply: &Reply,
         now: u64,
     ) -> Result<Step, StepFault> {
-        let files = &mut self.all[user.number() as usize - 1];
+        let files = &mut self.own[user.number() as usize - 1];
         session.take_reply(core, files, reply, now)
     }
 
+    fn share(&mut self, op: &CommonOp) -> Result<Reply, StepFault> {
+        match apply(op, &mut self.common) {
+            Ok(reply) => Ok(reply),
+            Err(PortFault::NoMemory) => Err(StepFault::NoMemory),
+            Err(PortFault::Disk | PortFault::Refused(_)) => unreachable!(),
+        }
+    }
+
     fn drop_temporary(&mut self, user: UserNo) {
-        self.all[user.number() as usize - 1].drop_temporary();
+        self.own[user.number() as usize - 1].drop_temporary();
     }
 
     #[tactic(auto, using(crate::proofs::Listed::lists_are))]
-    fn take_lists(&mut self, alloc: Global) -> Result<Vec<FileList>, StepFault> {
-        let all = replace(&mut self.all, Vec::new(alloc));
-        Ok(lists_of(alloc, all)?)
+    fn take_lists(&mut self, alloc: Global) -> Result<Lists, StepFault> {
+        let own = lists_of(alloc, replace(&mut self.own, Vec::new(alloc)))?;
+        let common = replace(&mut self.common, Files::new(alloc, 0)).into_list()?;
+        Ok(Lists { own, common })
     }
 
     ghost stays = { λ a. tt };

@@ -23,7 +23,7 @@ use Rattle.system_model.specs.Cases.{user_at}
 use Rattle.system_model.specs.Record.{start_of, users_from}
 use Rattle.file_map.specs.Directory.{Directory}
 use Rattle.directories.specs.Directories.{DirectoriesState}
-use Rattle.directories.specs.Memory.{no_directory, directory_at, directories_from, state_of}
+use Rattle.directories.specs.Memory.{no_directory, directory_at, directories_from, first_kept, state_of}
 use Rattle.user_cores.specs.Cores.{CoresState}
 use Rattle.user_cores.specs.Backing.{Held, BackState, back_of}
 use Rattle.supervisor.specs.Seen.{Bare, run_with}
@@ -40,11 +40,13 @@ stored_users k (a ∷ accounts) files stores are =
     let more = stored_users (suc k) accounts files stores (λ u up within. are u (omega (arith, up)) (omega (arith, within))) in
     λ j. in_store (are k (omega arith) (omega arith) j) (first_state a []) ∷ more j
 
-joined_start : (script : Script) (stores : ℕ → Stored) → ((u : ℕ) → 1 ≤ u → u < 1 + length script.accounts → stores u ≡ stored [] (files_of u script.files))
+joined_start : (script : Script) (stores : ℕ → Stored) → ((u : ℕ) → 1 ≤ u → u < 1 + length script.accounts → stores u ≡ stored [] (files_of u script.files)) → (stores 0).files ≡ []
     → joined stores (start_of (record script { events = []; files = [] })) ≡ start_of (record script { events = [] })
 unfolding joined start_of
-joined_start script stores are =
-    ap (λ (ps : List User). record (start_of (record script { events = [] })) { system = record (start_of (record script { events = [] })).system { users = ps } }) (stored_users 1 script.accounts script.files stores are)
+joined_start script stores are none = λ j.
+    record (start_of (record script { events = [] })) {
+      system = record (start_of (record script { events = [] })).system { users = stored_users 1 script.accounts script.files stores are j; files = none j };
+    }
 
 users_at_start : (script : Script) → (start_of script).system.users ≡ users_from 1 script.accounts script.files
 unfolding start_of
@@ -124,12 +126,16 @@ seats_at_start : (script : Script) → 32 ≤ length (start_of script).system.co
 unfolding start_of
 seats_at_start script = omega arith
 
+common_at_start : (script : Script) → (start_of script).common ≡ script.params.common
+unfolding start_of
+common_at_start script = refl
+
 and_true : (b : Bool) → (b && true) ≡ b
 and_true true = refl
 and_true false = refl
 
 -- a supervisor, first cores and first directories of the same accounts
-module _ (script : Script) (b : Bare) (told : Bool) (cores : CoresState) (dirs : DirectoriesState) (is : run_with no_places b ≡ start_of (record script { events = []; files = [] })) (first : HasFirstCores script.accounts told cores) (files : HasFirstFiles script.accounts script.files dirs) where
+module _ (script : Script) (b : Bare) (told : Bool) (cores : CoresState) (dirs : DirectoriesState) (is : run_with no_places b ≡ start_of (record script { events = []; files = [] })) (first : HasFirstCores script.accounts told cores) (files : HasFirstFiles script.params.common script.accounts script.files dirs) where
   abbrev none : Script
   none = record script { events = []; files = [] }
 
@@ -145,17 +151,24 @@ module _ (script : Script) (b : Bare) (told : Bool) (cores : CoresState) (dirs :
   pub ready_at_first : IsReady (whole_of b back)
   ready_at_first =
       record {
-        agrees = tied_first b.users back.held (first.quotas ∙ ap (λ (ns : List ℕ). 0 ∷ ns) (quotas_are none b is)) (no_user_has none b is) first.sizes
-            (λ u pos within. files.may u pos (omega (arith, within, count)) ∙ ap (λ (a : Account). a.tracks) (sym (account_at 1 script.accounts [] (u - 1))) ∙ ap (λ (ps : List User). (get_or ps (u - 1) nobody).inner.account.tracks) (sym users))
-            (files.count ∙ sym count);
+        agrees = record {
+          tied = tied_first b.users back.held (first.quotas ∙ ap (λ (ns : List ℕ). 0 ∷ ns) (quotas_are none b is)) (no_user_has none b is) first.sizes
+              (λ u pos within. files.may u pos (omega (arith, within, count)) ∙ ap (λ (a : Account). a.tracks) (sym (account_at 1 script.accounts [] (u - 1))) ∙ ap (λ (ps : List User). (get_or ps (u - 1) nobody).inner.account.tracks) (sym users))
+              (files.count ∙ sym count);
+          common = files.common_may ∙ sym (ap (λ (r : Run). r.common) is ∙ common_at_start none);
+        };
         seats = subst (λ (cs : List Console). 32 ≤ length cs) (sym (ap (λ (r : Run). r.system.consoles) is)) (seats_at_start none);
       }
+
+  first_store : (u : ℕ) → 1 ≤ u → u < 1 + length script.accounts → back.held.stores u ≡ stored [] (files_of u script.files)
+  first_store zero pos within = absurd (omega (arith, pos))
+  first_store (suc u) pos within = λ j. stored (first.words (suc u) pos j) (files.own (suc u) pos (omega (arith, within)) j)
 
   run_at_first : run_over (whole_of b back) ≡ start_of (record script { events = [] })
   run_at_first =
       (λ i. joined back.held.stores (run_with (first.places i) b))
       ∙ ap (joined back.held.stores) is
-      ∙ joined_start script back.held.stores (λ u pos within. λ j. stored (first.words u pos j) (files.own u pos (omega (arith, within)) j))
+      ∙ joined_start script back.held.stores first_store files.common
 
   pub begins_at_first : b.texts ≡ replicate 32 [] → b.ended ≡ false → Begins script told (whole_of b back)
   begins_at_first texts begun =
@@ -188,11 +201,13 @@ count_directories : (u : ℕ) (accounts : List Account) (files : List OwnedFile)
 count_directories u [] files = refl
 count_directories u (a ∷ accounts) files = ap suc (count_directories (suc u) accounts files)
 
-pub directories_first : (accounts : List Account) (files : List OwnedFile) → HasFirstFiles accounts files (state_of (directories_from 1 accounts files))
-directories_first accounts files =
+pub directories_first : (common : ℕ) (accounts : List Account) (files : List OwnedFile) → HasFirstFiles common accounts files (state_of (first_kept common accounts files))
+directories_first common accounts files =
     record {
       own = λ u pos within. ap (λ (d : Directory). d.files) (directory_is accounts files u pos within);
       may = λ u pos within. ap (λ (d : Directory). d.quota) (directory_is accounts files u pos within);
+      common = refl;
+      common_may = refl;
       count = count_directories 1 accounts files;
       tells = refl;
     }

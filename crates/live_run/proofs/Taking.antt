@@ -28,13 +28,20 @@ given_consoles : (e : Timed) (r : Run) → (given e r).system.consoles ≡ r.sys
 unfolding given
 given_consoles e r = refl
 
+given_common : (e : Timed) (r : Run) → (given e r).common ≡ r.common
+unfolding given
+given_common e r = refl
+
 pub ready_if : {T E : Type 0} (r : Result T E) (e : Timed) (old new : Bare) (back : BackState)
     → ((places : Places) → OnOk r (run_with places new ≡ given e (run_with places old))) → OnErr r (new ≡ old) → IsReady (whole_of old back) → IsReady (whole_of new back)
 ready_if (Ok x) e old new back ok err ready =
     let users : new.users ≡ old.users = ap (λ (q : Run). q.system.users) (ok no_places) ∙ given_users e (run_with no_places old) in
     let consoles : new.consoles ≡ old.consoles = ap (λ (q : Run). q.system.consoles) (ok no_places) ∙ given_consoles e (run_with no_places old) in
     record {
-      agrees = subst (λ (us : List User). IsTied us back.held) (sym users) ready.agrees;
+      agrees = record {
+        tied = subst (λ (us : List User). IsTied us back.held) (sym users) ready.agrees.tied;
+        common = ready.agrees.common ∙ sym (ap (λ (q : Run). q.common) (ok no_places) ∙ given_common e (run_with no_places old));
+      };
       seats = subst (λ (cs : List Console). 32 ≤ length cs) (sym consoles) ready.seats;
     }
 ready_if (Err f) e old new back ok err ready = subst (λ (b : Bare). IsReady (whole_of b back)) (sym err) ready

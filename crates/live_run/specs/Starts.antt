@@ -28,9 +28,11 @@ pub record Begins (script : Script) (told : Bool) (s : Whole) : Type 0 where
   pub begun : s.bare.ended ≡ false
   pub tells : s.back.held.tells ≡ told
 
--- the directories of these accounts hold their first files
-pub record HasFirstFiles (accounts : List Account) (files : List OwnedFile) (s : DirectoriesState) : Type 0 where
+-- the directories of these accounts hold their first files, and there is no common file, for so many tracks
+pub record HasFirstFiles (quota : ℕ) (accounts : List Account) (files : List OwnedFile) (s : DirectoriesState) : Type 0 where
   pub own : (u : ℕ) → 1 ≤ u → u ≤ length accounts → s.own u ≡ files_of u files
   pub may : (u : ℕ) → 1 ≤ u → u ≤ length accounts → s.may u ≡ (get_or accounts (u - 1) no_account).tracks
+  pub common : s.common ≡ []
+  pub common_may : s.common_may ≡ quota
   pub count : s.count ≡ length accounts
   pub tells : s.tells ≡ true

@@ -50,13 +50,18 @@ fn cores_of<'a, D: Medium>(
     Ok(first_cores(drum, slots, bank, sizes))
 }
 
-/// The directories of a script's accounts, with their first files.
+/// The directories of a script's accounts, with their first files, and of the common files, of which there is none yet.
 fn directories_of(alloc: Global, script: &Script) -> Result<MemoryDirectories, NoMemory>
     requires range { IsInRange script.now }
-    ensures first { IfOk result (λ d. HasFirstFiles script.now.accounts script.now.files
+    ensures first { IfOk result (λ d. HasFirstFiles script.now.params.common script.now.accounts script.now.files
         (⟦<MemoryDirectories as directories::Directories>⟧.state d)) }
 {
-    MemoryDirectories::new(alloc, script.accounts.as_slice(), script.files.as_slice())
+    MemoryDirectories::new(
+        alloc,
+        script.params.common,
+        script.accounts.as_slice(),
+        script.files.as_slice(),
+    )
 }
 
 /// The run of a script's accounts and files over a drum of at least 3840 records of 256 words, before its first event. The files

@@ -13,13 +13,13 @@ use Rattle.system_model.proofs.CaseLaws.{closes}
 use Rattle.supervisor.proofs.Running.{transcripts_same}
 
 -- a record with these files
-abbrev pub record_with : List (List FileBody) → Run → Record
-record_with files r =
+abbrev pub record_with : List (List FileBody) → List FileBody → Run → Record
+record_with files common r =
     record {
       entries = r.system.entries;
       transcripts = map (λ (p : User). p.transcript) r.system.users;
       files = files;
-      common = r.system.files;
+      common = common;
       clock = r.system.clock;
     }
 
@@ -30,14 +30,14 @@ files_same : (k : ℕ) (stores : ℕ → Stored) (ps : List User) → lists_from
 files_same k stores [] = refl
 files_same k stores (p ∷ ps) = ap (λ (fs : List (List FileBody)). (stores k).files ∷ fs) (files_same (suc k) stores ps)
 
-pub closed_with : (stores : ℕ → Stored) (r : Run) → record_with (lists_from 1 (length r.system.users) (files_in stores)) (closed r) ≡ record_from (ended (joined stores r))
+pub closed_with : (stores : ℕ → Stored) (r : Run) → record_with (lists_from 1 (length r.system.users) (files_in stores)) (stores 0).files (closed r) ≡ record_from (ended (joined stores r))
 unfolding closed joined
 closed_with stores r =
     (λ j. record {
       entries = (closed r).system.entries;
       transcripts = transcripts_same 1 stores r.system.users j;
       files = files_same 1 stores r.system.users j;
-      common = r.system.files;
+      common = (stores 0).files;
       clock = r.system.clock;
     })
     ∙ ap record_from (sym (closes (joined stores r)))

@@ -1,7 +1,8 @@
 -- What a step of the code does, as a step of the definitions over users joined with words and files.
-use Rattle.std.proofs.Common.{◌≡◌, ◌≢◌, ℕ, ◌-◌, ◌<◌, ◌≤◌, Bool, true, false, not, nat_eq, List, [], Option, Some, None, get_or, refl, sym, ◌∙◌, ap, subst, arith, ◌⊎◌, inl, inr}
+use Rattle.std.proofs.Common.{◌≡◌, ◌≢◌, ℕ, ◌-◌, ◌<◌, ◌≤◌, Bool, true, false, not, nat_eq, List, Option, Some, None, get_or, refl, sym, ◌∙◌, ap, subst, arith, ◌⊎◌, inl, inr}
 use Rattle.time_sharing.specs.Machine.{Ending, CommonOp, Reply}
-use Rattle.time_sharing.specs.System.{Timed, Service, Off, Preempt}
+use Rattle.ctss_types.specs.declared.file.FileBody.{FileBody}
+use Rattle.time_sharing.specs.System.{Timed, Service, Off, Preempt, common_entry}
 use Rattle.user_model.specs.Inner.{Stored, blocks_of}
 use Rattle.user_model.specs.User.{User, can_step, step, ending, asks_clock, asks_common, in_store, store_after, IsStep}
 use Rattle.plan_model.specs.Levels.{chosen, user_of, level_in}
@@ -10,11 +11,11 @@ use Rattle.image_map.specs.Images.{size_of}
 use Rattle.ctss_types.specs.declared.session.Waiting.{Waiting}
 use Rattle.plan_model.specs.Plan.{must_load}
 use Rattle.system_model.specs.Run.{Run, next, taken, otherwise, attended, by_due, due_of, measure}
-use Rattle.system_model.specs.Cases.{user_at, brought, waited, idled, served, reply_for}
+use Rattle.system_model.specs.Cases.{user_at, brought, waited, idled, served, reply_for, commons_for}
 use Rattle.system_model.specs.Joined.{joined, with_store, hung_up, cut_user, stepped_to}
 use Rattle.system_model.specs.Sound.{Sound, IsUser, HasSeat}
 use Rattle.system_model.proofs.CaseLaws.{next_due, attended_loads, attended_steps, attended_waits, idles, preempts_none, begins, goes_on, preempts}
-use Rattle.system_model.proofs.JoinedLaws.{taken_joined, waited_joined, brought_joined, stepped_joined, must_same, serves_joined, with_own, with_other, sound_joined, sound_unjoined, measure_joined}
+use Rattle.system_model.proofs.JoinedLaws.{common_stays, taken_joined, waited_joined, brought_joined, stepped_joined, must_same, serves_joined, with_own, with_other, sound_joined, sound_unjoined, measure_joined}
 use Rattle.system_model.proofs.RunLaws.{measure_next}
 use Rattle.system_model.proofs.SoundLaws.{sound_next}
 use Rattle.medium.specs.Medium.{CallList}
@@ -25,19 +26,20 @@ use Rattle.supervisor.specs.Steps.{Does, IsTied, LoadFails}
 
 -- a step said in other words
 pub does_as : (f g : Run → Run) (old new : Run) (had has : Held) → ((w : ℕ → Stored) → f (joined w old) ≡ g (joined w old)) → Does f old new had has → Does g old new had has
-does_as f g old new had has same d = record { before = d.before; after = d.after; is = d.is ∙ same d.before; was = d.was; now = d.now; tells = d.tells }
+does_as f g old new had has same d = record { before = d.before; after = d.after; is = d.is ∙ same d.before; was = d.was; now = d.now; tells = d.tells; common = d.common }
 
 -- a step that doesn't look at the words, and leaves them
 pub does_apart : (f : Run → Run) (old new : Run) (had has : Held) → new ≡ f old → ((w : ℕ → Stored) → f (joined w old) ≡ joined w (f old))
-    → (had.tells ≡ true → (u : ℕ) → 1 ≤ u → has.stores u ≡ had.stores u) → has.tells ≡ had.tells → Does f old new had has
-does_apart f old new had has is apart words tells =
+    → (had.tells ≡ true → (u : ℕ) → has.stores u ≡ had.stores u) → has.tells ≡ had.tells → has.common ≡ had.common → Does f old new had has
+does_apart f old new had has is apart words tells common =
     record {
       before = had.stores;
       after = had.stores;
       is = ap (joined had.stores) is ∙ sym (apart had.stores);
-      was = λ t u h. refl;
-      now = λ t u h. sym (words t u h);
+      was = λ t u. refl;
+      now = λ t u. sym (words t u);
       tells = tells;
+      common = common;
     }
 
 pub either : (u v : ℕ) → (v ≡ u) ⊎ (v ≢ u)
@@ -48,107 +50,135 @@ either u v = by_test (nat_eq v u) refl
     by_test false e = inr (λ k. grind (arith, e, k))
 
 -- the stores with another for one user, where the others are the same
-pub same_but : (k : ℕ) (c : Stored) (f g : ℕ → Stored) → g k ≡ c → ((u : ℕ) → 1 ≤ u → u ≢ k → g u ≡ f u) → (u : ℕ) → 1 ≤ u → with_store k c f u ≡ g u
-same_but k c f g mine others u pos = by_case (either k u)
+pub same_but : (k : ℕ) (c : Stored) (f g : ℕ → Stored) → g k ≡ c → ((u : ℕ) → u ≢ k → g u ≡ f u) → (u : ℕ) → with_store k c f u ≡ g u
+same_but k c f g mine others u = by_case (either k u)
   where
     by_case : (u ≡ k) ⊎ (u ≢ k) → with_store k c f u ≡ g u
     by_case (inl e) = ap (with_store k c f) e ∙ with_own k c f ∙ sym mine ∙ ap g (sym e)
-    by_case (inr n) = with_other k u c f n ∙ sym (others u pos n)
+    by_case (inr n) = with_other k u c f n ∙ sym (others u n)
 
 -- an event
 pub does_taken : (e : Timed) (old new : Run) (had has : Held) → HasSeat e old → Sound old → new ≡ taken e old
-    → (had.tells ≡ true → (u : ℕ) → 1 ≤ u → has.stores u ≡ hung_up (cut_user (get_or old.system.consoles (e.console - 1) Off) e.event old.system.users) had.stores u)
-    → has.tells ≡ had.tells → Does (taken e) old new had has
-does_taken e old new had has seat sound is stores tells =
+    → (had.tells ≡ true → (u : ℕ) → has.stores u ≡ hung_up (cut_user (get_or old.system.consoles (e.console - 1) Off) e.event old.system.users) had.stores u)
+    → has.tells ≡ had.tells → has.common ≡ had.common → Does (taken e) old new had has
+does_taken e old new had has seat sound is stores tells common =
     let left : ℕ → Stored = hung_up (cut_user (get_or old.system.consoles (e.console - 1) Off) e.event old.system.users) had.stores in
     record {
       before = had.stores;
       after = left;
       is = ap (joined left) is ∙ sym (taken_joined had.stores e old seat sound);
-      was = λ t u h. refl;
-      now = λ t u h. sym (stores t u h);
+      was = λ t u. refl;
+      now = λ t u. sym (stores t u);
       tells = tells;
+      common = common;
     }
 
 -- a user's blocks are brought in
 pub does_brought : (v : Service) (old new : Run) (had has : Held) → IsUser v.user old
     → must_load old.system.plan v.user (blocks_of (user_at v.user old.system.users).inner) ≡ true → new ≡ brought v.user old
-    → (had.tells ≡ true → (u : ℕ) → 1 ≤ u → has.stores u ≡ had.stores u) → has.tells ≡ had.tells → Does (attended v) old new had has
-does_brought v old new had has who must is words tells =
+    → (had.tells ≡ true → (u : ℕ) → has.stores u ≡ had.stores u) → has.tells ≡ had.tells → has.common ≡ had.common → Does (attended v) old new had has
+does_brought v old new had has who must is words tells common =
     does_as (brought v.user) (attended v) old new had has
     (λ w. sym (attended_loads v (joined w old) who.some (must_same w v.user old who ∙ must)))
-    (does_apart (brought v.user) old new had has is (λ w. brought_joined w v.user old who) words tells)
+    (does_apart (brought v.user) old new had has is (λ w. brought_joined w v.user old who) words tells common)
 
 -- a user that can't step waits; this is what it has in core and in its directory
 pub does_waited : (v : Service) (old new : Run) (had has : Held) (window : Stored) → IsUser v.user old
     → must_load old.system.plan v.user (blocks_of (user_at v.user old.system.users).inner) ≡ false
     → can_step (in_store window (user_at v.user old.system.users)) ≡ false → new ≡ waited v old
     → (had.tells ≡ true → had.stores v.user ≡ window)
-    → (had.tells ≡ true → (u : ℕ) → 1 ≤ u → has.stores u ≡ had.stores u) → has.tells ≡ had.tells → Does (attended v) old new had has
-does_waited v old new had has window who loaded cannot is was words tells =
+    → (had.tells ≡ true → (u : ℕ) → has.stores u ≡ had.stores u) → has.tells ≡ had.tells → has.common ≡ had.common → Does (attended v) old new had has
+does_waited v old new had has window who loaded cannot is was words tells common =
     record {
       before = f;
       after = f;
       is = ap (joined f) is ∙ sym (waited_joined f v old)
           ∙ sym (attended_waits v (joined f old) who.some (must_same f v.user old who ∙ loaded) (ap can_step (serves_joined f v.user old who ∙ ap (λ (c : Stored). in_store c (user_at v.user old.system.users)) (with_own v.user window had.stores)) ∙ cannot));
       was = same;
-      now = λ t u h. same t u h ∙ sym (words t u h);
+      now = λ t u. same t u ∙ sym (words t u);
       tells = tells;
+      common = common;
     }
   where
     f : ℕ → Stored
     f = with_store v.user window had.stores
 
-    same : had.tells ≡ true → (u : ℕ) → 1 ≤ u → f u ≡ had.stores u
-    same t u h = same_but v.user window had.stores had.stores (was t) (λ x p n. refl) u h
+    same : had.tells ≡ true → (u : ℕ) → f u ≡ had.stores u
+    same t u = same_but v.user window had.stores had.stores (was t) (λ x n. refl) u
 
--- a user's step, with what it has in core and in its directory before and after it
-pub does_stepped : (v : Service) (p : User) (t : Ending) (asked : Bool) (made : Option CommonOp) (r : Reply) (old new : Run) (had has : Held) (window after : Stored) → IsUser v.user old
+-- a run with other common files
+abbrev pub with_files : List FileBody → Run → Run
+with_files files r = record r { system = record r.system { files = files } }
+
+-- a user's step, with what it has in core and in its directory, and the common files, before and after it
+pub does_stepped : (v : Service) (p : User) (t : Ending) (asked : Bool) (made : Option CommonOp) (r : Reply) (old new : Run) (had has : Held) (window after first last : Stored) → IsUser v.user old
     → must_load old.system.plan v.user (blocks_of (user_at v.user old.system.users).inner) ≡ false
     → IsStep t asked made old.system.clock r (user_at v.user old.system.users) p window after
-    → r ≡ reply_for old made
-    → new ≡ stepped_to v p t asked made old
+    → r ≡ reply_for (with_files first.files old) made
+    → last.files ≡ commons_for (with_files first.files old) made
+    → new ≡ stepped_to v p t asked (common_entry made v.user r) old
     → (had.tells ≡ true → had.stores v.user ≡ window)
+    → (had.tells ≡ true → had.stores 0 ≡ first)
     → (had.tells ≡ true → has.stores v.user ≡ store_after t (blocks_of p.inner) after)
-    → ((u : ℕ) → 1 ≤ u → u ≢ v.user → has.stores u ≡ had.stores u) → has.tells ≡ had.tells → Does (attended v) old new had has
-does_stepped v p t asked made r old new had has window after who loaded said answer is was mine others tells =
+    → (had.tells ≡ true → has.stores 0 ≡ last)
+    → ((u : ℕ) → 1 ≤ u → u ≢ v.user → has.stores u ≡ had.stores u) → has.tells ≡ had.tells → has.common ≡ had.common → Does (attended v) old new had has
+unfolding joined
+does_stepped v p t asked made r old new had has window after first last who loaded said answer leaves is was was_common mine now_common others tells common =
     record {
       before = f;
-      after = with_store v.user left f;
-      is = ap (joined (with_store v.user left f)) is
-          ∙ sym (stepped_joined f v left p t asked made old who (says.left ∙ with_words (step old.system.clock reply)) (says.ends ∙ with_words (ending old.system.clock reply)) (says.asks ∙ with_words asks_clock) (says.makes ∙ with_words asks_common))
+      after = with_store v.user left (with_store 0 last f);
+      is = ap (joined (with_store v.user left (with_store 0 last f))) (is ∙ ap (λ (q : Reply). stepped_to v p t asked (common_entry made v.user q) old) (answer ∙ replies))
+          ∙ sym (stepped_joined f v left last p t asked made old who (says.left ∙ with_words (step old.system.clock reply)) (says.ends ∙ with_words (ending old.system.clock reply)) (says.asks ∙ with_words asks_clock) (says.makes ∙ with_words asks_common) (leaves ∙ files))
           ∙ sym (attended_steps v (joined f old) who.some (must_same f v.user old who ∙ loaded) (ap can_step (serves_joined f v.user old who) ∙ sym (with_words can_step) ∙ says.can));
-      was = λ told u h. same_but v.user window had.stores had.stores (was told) (λ x k n. refl) u h;
-      now = λ told u h. same_but v.user left f has.stores (mine told) (λ x k n. others x k n ∙ sym (with_other v.user x window had.stores n)) u h;
+      was = λ told. same_but v.user window common_first had.stores (was told) (λ x n. sym (same_but 0 first had.stores had.stores (was_common told) (λ y m. refl) x));
+      now = λ told. same_but v.user left (with_store 0 last f) has.stores (mine told) (λ x n. elsewhere told x n (either 0 x));
       tells = tells;
+      common = common;
     }
   where
+    common_first : ℕ → Stored
+    common_first = with_store 0 first had.stores
+
     f : ℕ → Stored
-    f = with_store v.user window had.stores
+    f = with_store v.user window common_first
 
     left : Stored
     left = store_after t (blocks_of p.inner) after
 
+    zero_first : f 0 ≡ first
+    zero_first = common_stays common_first window v.user who.some ∙ with_own 0 first had.stores
+
     reply : Reply
-    reply = reply_for old made
+    reply = reply_for (joined f old) made
+
+    replies : reply_for (with_files first.files old) made ≡ reply
+    replies = ap (λ (s : Stored). reply_for (with_files s.files old) made) (sym zero_first)
+
+    files : commons_for (with_files first.files old) made ≡ commons_for (joined f old) made
+    files = ap (λ (s : Stored). commons_for (with_files s.files old) made) (sym zero_first)
 
     says : IsStep t asked made old.system.clock reply (user_at v.user old.system.users) p window after
-    says = subst (λ (q : Reply). IsStep t asked made old.system.clock q (user_at v.user old.system.users) p window after) answer said
+    says = subst (λ (q : Reply). IsStep t asked made old.system.clock q (user_at v.user old.system.users) p window after) (answer ∙ replies) said
 
     with_words : {X : Type 0} (g : User → X) → g (in_store window (user_at v.user old.system.users)) ≡ g (in_store (f v.user) (user_at v.user old.system.users))
-    with_words g = ap (λ (c : Stored). g (in_store c (user_at v.user old.system.users))) (sym (with_own v.user window had.stores))
+    with_words g = ap (λ (c : Stored). g (in_store c (user_at v.user old.system.users))) (sym (with_own v.user window common_first))
+
+    elsewhere : had.tells ≡ true → (x : ℕ) → x ≢ v.user → (x ≡ 0) ⊎ (x ≢ 0) → has.stores x ≡ with_store 0 last f x
+    elsewhere told x n (inl e) = ap has.stores e ∙ now_common told ∙ sym (with_own 0 last f) ∙ ap (with_store 0 last f) (sym e)
+    elsewhere told x n (inr m) = others x (omega (arith, m)) n ∙ sym (with_other 0 x first had.stores m) ∙ sym (with_other v.user x window common_first n) ∙ sym (with_other 0 x last f m)
 
 -- behind a call that left the run as it was
-pub does_from : (f : Run → Run) (old mid new : Run) (had has at : Held) → mid ≡ old → (had.tells ≡ true → (u : ℕ) → 1 ≤ u → at.stores u ≡ had.stores u) → at.tells ≡ had.tells
+pub does_from : (f : Run → Run) (old mid new : Run) (had has at : Held) → mid ≡ old → (had.tells ≡ true → (u : ℕ) → at.stores u ≡ had.stores u) → at.tells ≡ had.tells → at.common ≡ had.common
     → Does f mid new at has → Does f old new had has
-does_from f old mid new had has at is words tells d =
+does_from f old mid new had has at is words tells common d =
     record {
       before = d.before;
       after = d.after;
       is = d.is ∙ ap (λ (r : Run). f (joined d.before r)) is;
-      was = λ t u h. d.was (tells ∙ t) u h ∙ words t u h;
-      now = λ t u h. d.now (tells ∙ t) u h;
+      was = λ t u. d.was (tells ∙ t) u ∙ words t u;
+      now = λ t u. d.now (tells ∙ t) u;
       tells = d.tells ∙ tells;
+      common = d.common ∙ common;
     }
 
 -- who is served

@@ -26,16 +26,16 @@ use Rattle.supervisor.specs.Steps.{IsTied, IsHeld}
 use Rattle.supervisor.specs.Shows.{TextsGrow}
 use Rattle.supervisor.proofs.Growing.{grow_none, grow_trans, next_grow}
 use Rattle.supervisor.proofs.Doing.{same_but}
-use Rattle.supervisor.proofs.Running.{HasRunPart, Leads}
+use Rattle.supervisor.proofs.Running.{HasRunPart, Leads, next_common, joined_common}
 use Rattle.supervisor.proofs.Watching.{HasTextsPart, TextsLead, texts_same, told_joined, told_apart}
 
 -- no step
-pub does_none_at_all : (limit : ℕ) (old new : Run) (had has : Held) → new ≡ old → (had.tells ≡ true → (u : ℕ) → 1 ≤ u → has.stores u ≡ had.stores u) → has.tells ≡ had.tells → DoesMany limit old new had has
-does_none_at_all limit old new had has is words tells =
-    record { steps = 0; before = had.stores; after = had.stores; passes = ap (joined had.stores) is; was = λ t u h. refl; now = λ t u h. sym (words t u h); tells = tells }
+pub does_none_at_all : (limit : ℕ) (old new : Run) (had has : Held) → new ≡ old → (had.tells ≡ true → (u : ℕ) → has.stores u ≡ had.stores u) → has.tells ≡ had.tells → has.common ≡ had.common → DoesMany limit old new had has
+does_none_at_all limit old new had has is words tells common =
+    record { steps = 0; before = had.stores; after = had.stores; passes = ap (joined had.stores) is; was = λ t u. refl; now = λ t u. sym (words t u); tells = tells; common = common }
 
 pub stands_still : (limit : ℕ) (old : Run) (had : Held) → DoesMany limit old old had had
-stands_still limit old had = does_none_at_all limit old old had had refl (λ t u h. refl) refl
+stands_still limit old had = does_none_at_all limit old old had had refl (λ t u. refl) refl refl
 
 -- instructions of the user of the service
 pub does_many : (limit n l : ℕ) (w : Waiting) (v : Service) (p : User) (old new : Run) (had has : Held) (window : Stored) (after : List ℕ) → IsUser v.user old → old.system.service ≡ Some v
@@ -46,17 +46,18 @@ pub does_many : (limit n l : ℕ) (w : Waiting) (v : Service) (p : User) (old ne
     → new ≡ passed n v p old
     → (had.tells ≡ true → had.stores v.user ≡ window)
     → (had.tells ≡ true → has.stores v.user ≡ record window { core = after })
-    → ((u : ℕ) → 1 ≤ u → u ≢ v.user → has.stores u ≡ had.stores u) → has.tells ≡ had.tells → DoesMany limit old new had has
-does_many limit n l w v p old new had has window after who serves first mine left up quiet loaded gone is was here others tells =
+    → ((u : ℕ) → u ≢ v.user → has.stores u ≡ had.stores u) → has.tells ≡ had.tells → has.common ≡ had.common → DoesMany limit old new had has
+does_many limit n l w v p old new had has window after who serves first mine left up quiet loaded gone is was here others tells common =
     record {
       steps = n;
       before = f;
       after = with_store v.user (record window { core = after }) f;
       passes = subst (λ (r : Run). Passes limit n (joined f old) (joined (with_store v.user (record window { core = after }) f) r)) (sym is)
           (passes_joined limit n l w v f window after p old who serves first mine left up quiet loaded (with_own v.user window had.stores) gone);
-      was = λ told u h. same_but v.user window had.stores had.stores (was told) (λ x k n. refl) u h;
-      now = λ told u h. same_but v.user (record window { core = after }) f has.stores (here told) (λ x k n. others x k n ∙ sym (with_other v.user x window had.stores n)) u h;
+      was = λ told u. same_but v.user window had.stores had.stores (was told) (λ x n. refl) u;
+      now = λ told u. same_but v.user (record window { core = after }) f has.stores (here told) (λ x n. others x n ∙ sym (with_other v.user x window had.stores n)) u;
       tells = tells;
+      common = common;
     }
   where
     f : ℕ → Stored
@@ -72,16 +73,20 @@ module _ (limit : ℕ) (mid new : Run) (had has : Held) (d : DoesMany limit mid 
   to = joined d.after new
 
   was_joined : had.tells ≡ true → joined had.stores mid ≡ from
-  was_joined told = joined_same had.stores d.before mid (λ u h. sym (d.was told u h))
+  was_joined told = joined_same had.stores d.before mid (λ u. sym (d.was told u))
 
   now_joined : had.tells ≡ true → joined has.stores new ≡ to
-  now_joined told = joined_same has.stores d.after new (λ u h. sym (d.now told u h))
+  now_joined told = joined_same has.stores d.after new (λ u. sym (d.now told u))
 
   pub pass_sound : Sound mid → Sound new
   pass_sound sound = sound_unjoined d.after new (passes_keep Sound limit d.steps from to (λ r up quiet same h. sound_next limit r up h) d.passes (sound_joined d.before mid sound))
 
+  -- such steps leave the quota of the common files
+  same_common : mid.common ≡ new.common
+  same_common = sym (joined_common d.before mid) ∙ sym (passes_keep (λ (r : Run). r.common ≡ from.common) limit d.steps from to (λ r up quiet same h. next_common limit r ∙ h) d.passes refl) ∙ joined_common d.after new
+
   pub pass_held : IsHeld mid had → IsTied new.system.users has → IsHeld new has
-  pass_held held tied = record { sound = pass_sound held.sound; tied = tied }
+  pass_held held tied = record { sound = pass_sound held.sound; tied = tied; common = d.common ∙ held.common ∙ same_common }
 
   falls : measure limit to ≤ measure limit from
   falls = passes_keep (λ r. measure limit r ≤ measure limit from) limit d.steps from to (λ r up quiet same h. let k = measure_next limit r up in omega (arith, h, k)) d.passes (omega arith)

@@ -4,7 +4,6 @@ use Rattle.std.specs.Prelude.{Ok, Err}
 use Rattle.std.specs.declared.result.Result.{Result}
 use Rattle.ctss_types.specs.declared.fault.RunFault.{RunFault}
 use Rattle.ctss_types.specs.declared.fault.RunFault.TheVariants.{Drum, Disk, NoMemory}
-use Rattle.ctss_types.specs.declared.file.FileBody.{FileBody}
 use Rattle.time_sharing.specs.Machine.{Item}
 use Rattle.user_model.specs.User.{User}
 use Rattle.user_model.specs.Inner.{Stored}
@@ -20,14 +19,14 @@ use Rattle.system_model.proofs.JoinedLaws.{joined_same, must_same, blocks_same}
 use Rattle.system_model.proofs.RunLaws.{run_to_next, run_to_done, after_next, after_none}
 use Rattle.user_cores.specs.Backing.{Held}
 use Rattle.supervisor.specs.Counts.{IsCounted, calls_to_load}
-use Rattle.supervisor.specs.Steps.{Does, Stays, with_files, IsTied, IsHeld, LoadIsDue, NextLoadFails, HasRun, HasRunShown, HasRunToLoad, Ends, Lasts}
+use Rattle.supervisor.specs.Steps.{Does, Stays, IsTied, IsHeld, LoadIsDue, NextLoadFails, HasRun, HasRunShown, HasRunToLoad, Ends, Lasts}
 use Rattle.supervisor.proofs.Counting.{counted_to_load}
 use Rattle.supervisor.proofs.Doing.{does_sound}
 
 -- a step of users joined with their words
 pub joined_next : (limit : ℕ) (old new : Run) (had has : Held) → Does (next limit) old new had has → had.tells ≡ true → joined has.stores new ≡ next limit (joined had.stores old)
 joined_next limit old new had has d told =
-    joined_same has.stores d.after new (λ u h. sym (d.now told u h)) ∙ d.is ∙ ap (next limit) (joined_same d.before had.stores old (d.was told))
+    joined_same has.stores d.after new (λ u. sym (d.now told u)) ∙ d.is ∙ ap (next limit) (joined_same d.before had.stores old (d.was told))
 
 -- a part of the run, of the users joined with their words, where the drum tells them
 abbrev pub HasRunPart : ℕ → (old new : Run) → (had has : Held) → Type 0
@@ -54,8 +53,21 @@ pub run_done : (limit : ℕ) (start now : Run) (first has : Held) → limit ≤ 
 unfolding joined
 run_done limit start now first has up leads = λ told. sym (run_to_done limit (joined has.stores now) up) ∙ leads told
 
+-- no step changes how many tracks the common files may have
+pub next_common : (limit : ℕ) (r : Run) → (next limit r).common ≡ r.common
+unfolding next
+next_common limit r = refl
+
+pub joined_common : (f : ℕ → Stored) (r : Run) → (joined f r).common ≡ r.common
+unfolding joined
+joined_common f r = refl
+
+does_common : (limit : ℕ) (old new : Run) (had has : Held) → Does (next limit) old new had has → old.common ≡ new.common
+does_common limit old new had has d = sym (joined_common d.before old) ∙ sym (next_common limit (joined d.before old)) ∙ ap (λ (r : Run). r.common) (sym d.is) ∙ joined_common d.after new
+
 pub held_on : (limit : ℕ) (old new : Run) (had has : Held) → old.system.clock < limit → IsHeld old had → IsTied new.system.users has → Does (next limit) old new had has → IsHeld new has
-held_on limit old new had has up held tied d = record { sound = does_sound limit old new had has up held.sound d; tied = tied }
+held_on limit old new had has up held tied d =
+    record { sound = does_sound limit old new had has up held.sound d; tied = tied; common = d.common ∙ held.common ∙ does_common limit old new had has d }
 
 pub transcripts_same : (k : ℕ) (f : ℕ → Stored) (ps : List User) → map (λ (p : User). p.transcript) ps ≡ map (λ (p : User). p.transcript) (with_stores k f ps)
 transcripts_same k f [] = refl
@@ -141,22 +153,5 @@ sound_places places r sound =
     same : Alike r (at_places places r)
     same = record { users = refl; accounts = refl; consoles = refl }
 
--- nor at the common files
-pub sound_files : (files : List FileBody) (r : Run) → Sound r → Sound (with_files files r)
-sound_files files r sound =
-    record {
-      few = sound.few;
-      accounts = sound.accounts;
-      seats = seats_too r (with_files files r) r.system.events same sound.seats;
-      sits = λ k u h. user_too r (with_files files r) u same (sound.sits k u h);
-      served = λ v h. user_too r (with_files files r) v.user same (sound.served v h);
-      ran = sound.ran;
-      queued = λ u h. user_too r (with_files files r) u same (sound.queued u h);
-      owns = sound.owns;
-    }
-  where
-    same : Alike r (with_files files r)
-    same = record { users = refl; accounts = refl; consoles = refl }
-
 pub sound_still : (old new : Run) (had has : Held) → Sound old → Stays old new had has → Sound new
-sound_still old new had has sound s = subst Sound (sym s.run) (sound_files new.system.files old sound)
+sound_still old new had has sound s = subst Sound (sym s.run) sound

@@ -20,7 +20,8 @@ use Rattle.std.specs.Prelude.{Ok, Err}
 use Rattle.std.specs.declared.result.Result.{Result}
 use Rattle.ctss_types.specs.declared.fault.RunFault.{RunFault}
 use Rattle.ctss_types.specs.declared.fault.RunFault.TheVariants.{Drum, Disk, NoMemory}
-use Rattle.supervisor.specs.Steps.{IsResized, settled, Ends, Fails}
+use Rattle.supervisor.specs.Steps.{Ends, Fails}
+use Rattle.user_cores.specs.Settles.{IsResized, settled}
 
 -- a step that goes on leaves as many blocks
 pub went_size : (e : Ending) (asked : Bool) (made : Option CommonOp) (t : ℕ) (r : Reply) (old new : User) (before after : Stored) → IsStep e asked made t r old new before after → e ≡ Went → blocks_of new.inner ≡ blocks_of old.inner
@@ -50,7 +51,7 @@ settled_is Replaced n core h = refl
 settled_is LoggedOut n core h = refl
 
 pub rules_both : (had mid has : Held) → KeepsRules had mid → KeepsRules mid has → KeepsRules had has
-rules_both had mid has one two = record { quotas = two.quotas ∙ one.quotas; tracks = λ u. two.tracks u ∙ one.tracks u; users = two.users ∙ one.users }
+rules_both had mid has one two = record { quotas = two.quotas ∙ one.quotas; common = two.common ∙ one.common; tracks = λ u. two.tracks u ∙ one.tracks u; users = two.users ∙ one.users }
 
 -- a new size, seen from before another change that left sizes and quotas
 pub resized_from : (u w n m : ℕ) (had mid has : Held) → IsResized u n mid has → mid.sizes ≡ had.sizes → KeepsRules had mid → u ≡ w → n ≡ m → IsResized w m had has

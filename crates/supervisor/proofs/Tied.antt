@@ -14,7 +14,8 @@ use Rattle.system_model.specs.Joined.{cut_user}
 use Rattle.system_model.specs.Sound.{Sound, IsUser, HasSeat}
 use Rattle.system_model.proofs.EventLaws.{EachCase, by_event}
 use Rattle.user_cores.specs.Backing.{Held}
-use Rattle.supervisor.specs.Steps.{IsTied, IsResized}
+use Rattle.supervisor.specs.Steps.{IsTied}
+use Rattle.user_cores.specs.Settles.{IsResized}
 use Rattle.supervisor.proofs.Doing.{either}
 
 -- no user has changed

@@ -10,14 +10,14 @@ use Rattle.user_model.specs.Inner.{Stored}
 use Rattle.system_model.specs.Run.{Run, next, due_of}
 use Rattle.system_model.specs.Joined.{joined}
 use Rattle.system_model.specs.Sound.{Sound}
-use Rattle.system_model.proofs.JoinedLaws.{joined_same, sound_joined}
+use Rattle.system_model.proofs.JoinedLaws.{sound_joined}
 use Rattle.console_texts.specs.Parts.{Shown, Transcripts, AreLengths, text_of}
 use Rattle.console_texts.specs.Following.{AreShown, followed, settled_in}
 use Rattle.console_texts.specs.Watching.{transcripts_of, texts_next, texts_to, AfterShown, refused_by}
 use Rattle.console_texts.proofs.Watched.{shown_event, shown_rest, shown_served, texts_on, texts_done, shown_none, shown_on}
 use Rattle.user_cores.specs.Backing.{Held}
 use Rattle.supervisor.specs.Shows.{GoesOn, HasTexts, HasTextsShown}
-use Rattle.supervisor.specs.Steps.{Does, Stays}
+use Rattle.supervisor.specs.Steps.{Does}
 use Rattle.supervisor.proofs.Running.{joined_next, transcripts_same}
 
 abbrev pub lengths_of : List User → List ℕ

@@ -1,5 +1,5 @@
 -- proof: many steps at once, between two states with what the users have in core and on the drum.
-use Rattle.std.specs.Prelude.{◌≡◌, ℕ, ◌≤◌, true, List}
+use Rattle.std.specs.Prelude.{◌≡◌, ℕ, true}
 use Rattle.user_model.specs.Inner.{Stored}
 use Rattle.user_cores.specs.Backing.{Held}
 use Rattle.system_model.specs.Run.{Run}
@@ -13,6 +13,7 @@ pub record DoesMany (limit : ℕ) (old new : Run) (had has : Held) : Type 0 wher
   pub before : ℕ → Stored
   pub after : ℕ → Stored
   pub passes : Passes limit steps (joined before old) (joined after new)
-  pub was : had.tells ≡ true → (u : ℕ) → 1 ≤ u → before u ≡ had.stores u
-  pub now : had.tells ≡ true → (u : ℕ) → 1 ≤ u → after u ≡ has.stores u
+  pub was : had.tells ≡ true → (u : ℕ) → before u ≡ had.stores u
+  pub now : had.tells ≡ true → (u : ℕ) → after u ≡ has.stores u
   pub tells : has.tells ≡ had.tells
+  pub common : has.common ≡ had.common

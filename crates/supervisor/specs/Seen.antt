@@ -1,7 +1,6 @@
 -- claim: the state that the fields stand for, with users' blocks in these places.
-use Rattle.std.specs.Prelude.{◌≡◌, ℕ, suc, ◌≤◌, Bool, false, List, [], ◌∷◌, map, Option, Some, None, Result, IfOk, OnOk, OnErr}
+use Rattle.std.specs.Prelude.{◌≡◌, ℕ, Bool, false, List, [], map, Option, Some, None, Result, IfOk, OnOk, OnErr}
 use Rattle.ctss_types.specs.declared.script.Account.{Account}
-use Rattle.ctss_types.specs.declared.file.FileBody.{FileBody}
 use Rattle.ctss_types.specs.declared.history.Record.{Record}
 use Rattle.user_model.specs.User.{User}
 use Rattle.time_sharing.specs.System.{Console, Timed, Service, Entry, Cause, Time, Wait, Stop, Size, Preempt, AtEnd}
@@ -17,7 +16,6 @@ pub record Bare : Type 0 where
   pub common : ℕ
   pub accounts : List Account
   pub users : List User
-  pub files : List FileBody
   pub levels : Levels
   pub consoles : List Console
   pub clock : ℕ
@@ -28,7 +26,7 @@ pub record Bare : Type 0 where
   pub texts : List (List ℕ)
   pub ended : Bool
 
--- the run with blocks in these places
+-- the run with blocks in these places; the common files lie behind it
 abbrev pub run_with : Places → Bare → Run
 run_with places b =
     record {
@@ -37,7 +35,7 @@ run_with places b =
       accounts = b.accounts;
       system = record {
         users = b.users;
-        files = b.files;
+        files = [];
         plan = record { levels = b.levels; places = places };
         consoles = b.consoles;
         clock = b.clock;
@@ -52,10 +50,9 @@ abbrev pub bare_of : State → Bare
 bare_of s =
     record {
       swap = s.swap;
-      common = s.common.quota;
+      common = s.common;
       accounts = s.accounts.list;
       users = s.sessions.items;
-      files = s.common.files;
       levels = s.queues;
       consoles = s.consoles.items;
       clock = s.clock;
@@ -119,6 +116,6 @@ record_so_far r =
       clock = r.system.clock;
     }
 
--- a record but for users' files
+-- a record but for files
 abbrev pub without_files : Record → Record
-without_files rec = record rec { files = [] }
+without_files rec = record rec { files = []; common = [] }

@@ -1,19 +1,18 @@
 -- claim: steps of the machine of all users, between two states with what the users have in core and on the drum.
-use Rattle.std.specs.Prelude.{◌≡◌, ◌≢◌, ℕ, suc, ◌≤◌, ◌<◌, true, false, List, [], length, map, Option, Some, None, Ok, Err}
+use Rattle.std.specs.Prelude.{◌≡◌, ℕ, suc, ◌≤◌, ◌<◌, true, List, length, map, Option, Some, None, Ok, Err}
 use Rattle.std.specs.declared.result.Result.{Result}
 use Rattle.ctss_types.specs.declared.fault.RunFault.{RunFault}
-use Rattle.ctss_types.specs.declared.file.FileBody.{FileBody}
 use Rattle.ctss_types.specs.declared.fault.RunFault.TheVariants.{Drum, Disk, NoMemory}
-use Rattle.time_sharing.specs.Machine.{Ending, Went, Stopped, Resized, Replaced, LoggedOut}
 use Rattle.time_sharing.specs.System.{Service}
 use Rattle.medium.specs.Medium.{CallList}
 use Rattle.drum_slots.specs.Keys.{quota_of}
 use Rattle.image_map.specs.Images.{size_of}
-use Rattle.user_model.specs.Inner.{Stored, blocks_of, recut, zeros}
+use Rattle.user_model.specs.Inner.{Stored, blocks_of}
 use Rattle.user_model.specs.User.{User}
 use Rattle.plan_model.specs.Levels.{chosen, user_of}
-use Rattle.plan_model.specs.Plan.{must_load, places_after}
-use Rattle.user_cores.specs.Backing.{Held, KeepsRules}
+use Rattle.plan_model.specs.Plan.{must_load}
+use Rattle.user_cores.specs.Backing.{Held}
+use Rattle.user_cores.specs.Settles.{IsResized}
 use Rattle.user_cores.specs.Swaps.{IsCutOff}
 use Rattle.system_model.specs.Run.{Run, due_of, run_to, AfterSteps}
 use Rattle.system_model.specs.Cases.{user_at}
@@ -22,25 +21,23 @@ use Rattle.system_model.specs.Sound.{Sound}
 use Rattle.supervisor.specs.Seen.{number_of, left_places}
 use Rattle.supervisor.specs.Counts.{IsCountedToLoad, calls_to_load}
 
--- What happened is what this function does to the users joined with words and files. Where drum and disk tell their records, these
--- are the users' own.
+-- What happened is what this function does to the users joined with words and files, and with the common files. Where drum and disk
+-- tell their records, these are their own.
 pub record Does (f : Run → Run) (old new : Run) (had has : Held) : Type 0 where
   pub before : ℕ → Stored
   pub after : ℕ → Stored
   pub is : joined after new ≡ f (joined before old)
-  pub was : had.tells ≡ true → (u : ℕ) → 1 ≤ u → before u ≡ had.stores u
-  pub now : had.tells ≡ true → (u : ℕ) → 1 ≤ u → after u ≡ has.stores u
+  pub was : had.tells ≡ true → (u : ℕ) → before u ≡ had.stores u
+  pub now : had.tells ≡ true → (u : ℕ) → after u ≡ has.stores u
   pub tells : has.tells ≡ had.tells
-
--- a run with other common files
-abbrev pub with_files : List FileBody → Run → Run
-with_files files r = record r { system = record r.system { files = files } }
+  pub common : has.common ≡ had.common
 
 -- nothing happened, but that an operation on the common files may have been made, whose step is not done
 pub record Stays (old new : Run) (had has : Held) : Type 0 where
-  pub run : new ≡ with_files new.system.files old
+  pub run : new ≡ old
   pub stores : had.tells ≡ true → (u : ℕ) → 1 ≤ u → has.stores u ≡ had.stores u
   pub tells : has.tells ≡ had.tells
+  pub common : has.common ≡ had.common
 
 -- users and what lies behind them agree in each user's number of blocks and in its quotas of blocks and tracks
 pub record IsTied (users : List User) (m : Held) : Type 0 where
@@ -50,40 +47,18 @@ pub record IsTied (users : List User) (m : Held) : Type 0 where
   pub tracks : (u : ℕ) → 1 ≤ u → u ≤ length users → m.tracks u ≡ (user_at u users).inner.account.tracks
   pub directories : m.users ≡ length users
 
--- what holds at each moment
+-- what holds at each moment; the common files may have as many tracks as the run says
 pub record IsHeld (r : Run) (m : Held) : Type 0 where
   pub sound : Sound r
   pub tied : IsTied r.system.users m
-
--- the size of one user, if any (0 for nobody), is so many blocks now, and all else of sizes and quotas stays
-pub record IsResized (k n : ℕ) (had has : Held) : Type 0 where
-  pub len : length has.sizes ≡ length had.sizes
-  pub mine : 0 < k → k < length had.sizes → size_of has.sizes k ≡ n
-  pub others : (u : ℕ) → 1 ≤ u → u ≢ k → size_of has.sizes u ≡ size_of had.sizes u
-  pub rules : KeepsRules had has
+  pub common : m.common ≡ r.common
 
 -- a user whose session is over has no core any more, and the files that last; all else stays
 pub record IsLeft (cut : Option ℕ) (had has : Held) : Type 0 where
-  pub stores : had.tells ≡ true → (u : ℕ) → 1 ≤ u → has.stores u ≡ hung_up (number_of cut) had.stores u
+  pub stores : had.tells ≡ true → (u : ℕ) → has.stores u ≡ hung_up (number_of cut) had.stores u
   pub tells : has.tells ≡ had.tells
   pub places : has.places ≡ left_places cut had.places
   pub sizes : IsResized (number_of cut) 0 had has
-
--- the words of a user behind a step of it that ended so and left it so many blocks
-abbrev pub settled : Ending → ℕ → List ℕ → List ℕ
-settled Went blocks core = core
-settled Stopped blocks core = recut blocks core
-settled Resized blocks core = recut blocks core
-settled Replaced blocks core = zeros blocks
-settled LoggedOut blocks core = recut blocks core
-
--- a user has as many blocks as its step left it
-pub record IsSettled (e : Ending) (u n : ℕ) (had has : Held) : Type 0 where
-  pub mine : had.tells ≡ true → has.stores u ≡ record (had.stores u) { core = settled e n (had.stores u).core }
-  pub others : (w : ℕ) → 1 ≤ w → w ≢ u → has.stores w ≡ had.stores w
-  pub tells : has.tells ≡ had.tells
-  pub places : has.places ≡ places_after e u n had.places
-  pub sizes : IsResized u n had has
 
 -- some blocks of the user to be served are not in core
 pub record LoadIsDue (r : Run) : Type 0 where

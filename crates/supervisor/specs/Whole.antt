@@ -13,7 +13,7 @@ use Rattle.supervisor.specs.Seen.{Bare, bare_of, run_with}
 use Rattle.supervisor.specs.Shows.{texts_of, TextsGrow, GoesOn, HasTexts, HasTextsShown}
 use Rattle.supervisor.specs.declared.state.State.{State}
 use Rattle.supervisor.specs.declared.watch.Watch.{Watch}
-use Rattle.supervisor.specs.Steps.{Does, Stays, with_files, IsHeld, IsTied, LoadFails, NextLoadFails, HasRun, HasRunShown, HasRunToLoad, Ends, Lasts}
+use Rattle.supervisor.specs.Steps.{Does, Stays, IsHeld, IsTied, LoadFails, NextLoadFails, HasRun, HasRunShown, HasRunToLoad, Ends, Lasts}
 
 -- a run but for what lies behind its users' sessions, and this
 pub record Whole : Type 0 where
@@ -57,8 +57,13 @@ abbrev pub StepsOn : ℕ → Whole → Whole → Type 0
 StepsOn limit old new = DoesMany limit (run_of old) (run_of new) old.back.held new.back.held
 
 -- users and what lies behind them agree
-abbrev pub Agrees : Whole → Type 0
-Agrees s = IsTied s.bare.users s.back.held
+abbrev pub AreTied : Whole → Type 0
+AreTied s = IsTied s.bare.users s.back.held
+
+-- and so do the common files in the tracks that they may have
+pub record Agrees (s : Whole) : Type 0 where
+  pub tied : AreTied s
+  pub common : s.back.held.common ≡ s.bare.common
 
 -- the drum's calls are those that the schedule gained
 abbrev pub AreCounted : Whole → Whole → Type 0
@@ -84,9 +89,9 @@ ServedIsCut old new = LoadFails (run_of old) old.back.calls new.back.calls
 abbrev pub NextIsCut : Whole → Whole → Type 0
 NextIsCut old new = NextLoadFails (run_of old) old.back.calls new.back.calls
 
--- where the disk fails, nothing happened but that an operation on the common files may have been made
+-- where the disk fails, nothing happened but in what lies behind
 abbrev pub DiskStops : Whole → Whole → Type 0
-DiskStops old new = (run_of new ≡ with_files new.bare.files (run_of old)) × Rose old.back.disk_faults new.back.disk_faults
+DiskStops old new = (run_of new ≡ run_of old) × Rose old.back.disk_faults new.back.disk_faults
 
 -- One step: what this function does; nothing but an operation on the common files, where memory lacks, or the disk fails; and where the drum
 -- fails no part of the run but what lies in core has changed, the count of the drum's faults rose, and a load was cut off so.

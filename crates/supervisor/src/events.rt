@@ -11,11 +11,11 @@ ghost use Rattle.system_model.specs.Sound.{Sound, HasSeat};
 ghost use Rattle.supervisor.specs.Seen.{seen, number_of, BecomesIf, StaysIf, LeavesIf, CutsIf};
 
 use crate::login::{asked, mark_on, password_in};
-use crate::notes::{idle_note, leave_consoles, note, note_some, service_left, stop_note};
 use crate::state::State;
 use accounts::Login;
 use ctss_types::{Console, Entry, Event, EventKind, LineText, NoMemory, Timed, UserNo};
 use level_queues::Queues;
+use run_notes::{idle_note, leave_consoles, note, note_some, service_left, stop_note};
 use user_session::{Put, Session};
 use word36::Word;
 

@@ -7,7 +7,6 @@
 mod events;
 mod finish;
 mod login;
-mod notes;
 mod service;
 mod start;
 mod state;

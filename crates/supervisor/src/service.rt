@@ -5,12 +5,12 @@ ghost use Rattle.system_model.specs.Joined.{counted, moved};
 ghost use Rattle.system_model.specs.Runs.{elapsed};
 ghost use Rattle.supervisor.specs.Seen.{left_queues, Becomes, BecomesIf, StaysIf};
 
-use crate::notes::{
-    cause_of, idle_from, leave_consoles, note, note_clock, note_service, note_some, service_after,
-};
 use crate::state::State;
 use ctss_types::{Cause, Ending, Entry, NoMemory, Service, UserNo};
 use level_queues::{Charge, Queues};
+use run_notes::{
+    cause_of, idle_from, leave_consoles, note, note_clock, note_service, note_some, service_after,
+};
 use user_cores::Plan;
 use user_session::Step;
 

@@ -12,7 +12,6 @@ ghost use Rattle.supervisor.specs.Seen.{seen};
 use crate::state::State;
 use accounts::Accounts;
 use ctss_types::{Account, Console, NoMemory, Script};
-use file_map::Files;
 use level_queues::Queues;
 use std::alloc::Global;
 use std::collections::VecDeque;
@@ -54,7 +53,7 @@ pub(crate) fn first_state(alloc: Global, script: &Script) -> Result<State, NoMem
     Ok(State {
         swap: script.params.swap as u32,
         accounts: Accounts::new(alloc, accounts)?,
-        common: Files::new(alloc, script.params.common),
+        common: script.params.common,
         sessions: sessions_of(alloc, accounts)?,
         queues: Queues::new(script.params.wq, script.params.quantum),
         consoles: consoles_of(alloc)?,

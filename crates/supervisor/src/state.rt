@@ -7,12 +7,11 @@ ghost use Rattle.system_model.specs.Run.{given, due_of};
 ghost use Rattle.system_model.specs.Cases.{closed};
 ghost use Rattle.supervisor.specs.Seen.{seen, bare_of, BecomesIf, StaysIf};
 
-use crate::notes::{end_note, idle_note, note_some};
 use accounts::Accounts;
 use console_texts::Transcripts;
 use ctss_types::{Console, Entry, Event, Item, NoMemory, Service, Timed};
-use file_map::Files;
 use level_queues::Queues;
+use run_notes::{end_note, idle_note, note_some};
 use std::collections::VecDeque;
 use user_session::Session;
 
@@ -22,8 +21,8 @@ pub(crate) struct State {
     /// Ticks for a block that goes to the drum or comes from it.
     pub(crate) swap: u32,
     pub(crate) accounts: Accounts,
-    /// The common files.
-    pub(crate) common: Files,
+    /// How many tracks the common files may take.
+    pub(crate) common: u16,
     pub(crate) sessions: Vec<Session>,
     pub(crate) queues: Queues,
     pub(crate) consoles: Vec<Console>,

@@ -126,14 +126,13 @@ impl Supervisor {
         let watch = self.watch;
         let mut state = watch.state;
         state.close()?;
-        let files = cores.take_lists(alloc)?;
+        let lists = cores.take_lists(alloc)?;
         let transcripts = transcripts_of(alloc, state.sessions)?;
-        let common = state.common.into_list()?;
         Ok(Record {
             entries: Sequence::from_vec(state.entries),
             transcripts: Sequence::from_vec(transcripts),
-            files: Sequence::from_vec(files),
-            common,
+            files: Sequence::from_vec(lists.own),
+            common: lists.common,
             clock: state.clock,
         })
     }

@@ -9,7 +9,7 @@ ghost use Rattle.console_texts.specs.Watching.{refused_by, refusal_in as console
 ghost use Rattle.supervisor.specs.Seen.{seen};
 ghost use Rattle.supervisor.specs.Shows.{IsTold, TextsGrow};
 ghost use Rattle.supervisor.specs.Steps.{Lasts};
-ghost use Rattle.supervisor.specs.Whole.{watched, Holds, Agrees, AreCountedBy, NextIsCut, Steps, TextsFollow, RunsTo, TextsRunTo};
+ghost use Rattle.supervisor.specs.Whole.{watched, Holds, AreTied, AreCountedBy, NextIsCut, Steps, TextsFollow, RunsTo, TextsRunTo};
 
 use crate::state::State;
 use arrayvec::ArrayVec;
@@ -77,7 +77,7 @@ impl Watch {
             (watched self.old (C.state cores.old)) (watched self.new (C.state cores.new)) }
         ensures counted { AreCountedBy result
             (watched self.old (C.state cores.old)) (watched self.new (C.state cores.new)) }
-        ensures tied { Lasts result (Agrees (watched self.new (C.state cores.new))) }
+        ensures tied { Lasts result (AreTied (watched self.new (C.state cores.new))) }
         ensures works { Lasts result (C.Works cores.new) }
         ensures keeps { C.Keeps cores.old cores.new }
         ensures kept { (C.state cores.old).faults ≤ (C.state cores.new).faults }
@@ -116,7 +116,7 @@ impl Watch {
             (watched self.old (C.state cores.old)) (watched self.new (C.state cores.new)) }
         ensures counted { AreCountedBy result
             (watched self.old (C.state cores.old)) (watched self.new (C.state cores.new)) }
-        ensures tied { Lasts result (Agrees (watched self.new (C.state cores.new))) }
+        ensures tied { Lasts result (AreTied (watched self.new (C.state cores.new))) }
         ensures works { Lasts result (C.Works cores.new) }
         ensures keeps { C.Keeps cores.old cores.new }
         ensures kept { (C.state cores.old).faults ≤ (C.state cores.new).faults }
@@ -150,7 +150,7 @@ impl Watch {
             (watched self.old (C.state cores.old)) (watched self.new (C.state cores.new)) }
         ensures counted { AreCountedBy result
             (watched self.old (C.state cores.old)) (watched self.new (C.state cores.new)) }
-        ensures tied { Lasts result (Agrees (watched self.new (C.state cores.new))) }
+        ensures tied { Lasts result (AreTied (watched self.new (C.state cores.new))) }
         ensures works { Lasts result (C.Works cores.new) }
         ensures keeps { C.Keeps cores.old cores.new }
         ensures kept { (C.state cores.old).faults ≤ (C.state cores.new).faults }

@@ -2,7 +2,6 @@
 ghost use Rattle.std.specs.Prelude.{◌≡◌, ◌<◌, ◌≤◌, ◌+◌, ◌-◌, length, true, false, Some, None, IfOk, OnOk, OnErr, vec_len, vec_capacity};
 ghost use Rattle.std.specs.Option.{is_some};
 ghost use Rattle.drum_slots.specs.Keys.{quota_of};
-ghost use Rattle.file_model.specs.Commons.{reply_to, files_after, ReplyFits};
 ghost use Rattle.user_session.specs.Stores.{IsToMake};
 ghost use Rattle.image_map.specs.Images.{size_of};
 ghost use Rattle.plan_model.specs.Levels.{chosen, user_of};
@@ -13,17 +12,15 @@ ghost use Rattle.system_model.specs.Sound.{HasSeat, IsUser};
 ghost use Rattle.time_sharing.specs.Machine.{Went};
 ghost use Rattle.time_sharing.specs.System.{Preempt, next_tick};
 ghost use Rattle.supervisor.specs.Seen.{number_of};
-ghost use Rattle.supervisor.specs.Steps.{IsLeft, IsSettled, Lasts};
-ghost use Rattle.supervisor.specs.Whole.{whole, run_of, Holds, HasBlocks, StepsBy, IsSame, StepsOn, Agrees, AreCounted, AreCountedBy, LoadIsCut, AbsentIsCut, ServedIsCut, NextIsCut, NeverCut, Steps};
+ghost use Rattle.supervisor.specs.Steps.{IsLeft, Lasts};
+ghost use Rattle.supervisor.specs.Whole.{whole, run_of, Holds, HasBlocks, StepsBy, IsSame, StepsOn, AreTied, AreCounted, AreCountedBy, LoadIsCut, AbsentIsCut, ServedIsCut, NextIsCut, NeverCut, Steps};
 
 use crate::state::State;
-use common_file::apply;
 use ctss_types::{
-    Cause, CommonOp, Ending, Entry, NoMemory, Reply, RunFault, Service, StepFault, Timed, UserNo,
+    Cause, CommonOp, Ending, Entry, NoMemory, RunFault, Service, StepFault, Timed, UserNo,
 };
-use file_map::{Files, PortFault};
 use level_queues::Chosen;
-use user_cores::Backing;
+use user_cores::{Backing, Made, settle};
 use user_session::Turn;
 
 /// A user whose session is over gives up its core, and its files of mode 0.
@@ -43,43 +40,6 @@ fn give_up<C: Backing>(cores: &mut C, cut: Option<UserNo>)
     }
 }
 
-/// A user's core becomes as large as its step left it.
-fn settle<C: Backing>(cores: &mut C, user: UserNo, ending: Ending, blocks: u8)
-    requires works { C.Works cores.old }
-    requires user { user < length (C.state cores.old).held.sizes }
-    requires quota { blocks ≤ quota_of (C.state cores.old).held.quotas user }
-    requires same { ending ≡ Went → size_of (C.state cores.old).held.sizes user ≡ blocks }
-    ensures settled { IsSettled ending user blocks (C.state cores.old).held (C.state cores.new).held }
-    ensures calls { (C.state cores.new).calls ≡ (C.state cores.old).calls }
-    ensures works { C.Works cores.new }
-    ensures keeps { C.Keeps cores.old cores.new }
-    ensures faults { (C.state cores.new).faults ≡ (C.state cores.old).faults }
-    ensures disk { (C.state cores.new).disk_faults ≡ (C.state cores.old).disk_faults }
-{
-    match ending {
-        Ending::Went => {}
-        Ending::Replaced => cores.replace(user, blocks),
-        Ending::Stopped | Ending::Resized | Ending::LoggedOut => cores.resize(user, blocks),
-    }
-}
-
-/// What the common files reply to an operation, which is done.
-fn reply_of(op: &CommonOp, files: &mut Files) -> Result<Reply, NoMemory>
-    ensures done { OnOk result (files.new ≡ record files.old {
-      files = files_after files.old.quota files.old.files
-          op.now;
-    }) }
-    ensures reply { IfOk result (λ r. r ≡ reply_to files.old.quota files.old.files op.now) }
-    ensures fits { IfOk result ReplyFits }
-    ensures err { OnErr result (files.new ≡ files.old) }
-{
-    match apply(op, files) {
-        Ok(reply) => Ok(reply),
-        Err(PortFault::NoMemory) => Err(NoMemory),
-        Err(PortFault::Disk | PortFault::Refused(_)) => unreachable!(),
-    }
-}
-
 impl State {
     /// The event that is due.
     fn hear<C: Backing>(&mut self, cores: &mut C, e: Timed) -> Result<(), NoMemory>
@@ -90,7 +50,7 @@ impl State {
             (whole self.old (C.state cores.old)) (whole self.new (C.state cores.new))) }
         ensures err { OnErr result (IsSame (whole self.old (C.state cores.old)) (whole self.new (C.state cores.new))) }
         ensures counted { AreCounted (whole self.old (C.state cores.old)) (whole self.new (C.state cores.new)) }
-        ensures tied { Agrees (whole self.new (C.state cores.new)) }
+        ensures tied { AreTied (whole self.new (C.state cores.new)) }
         ensures works { C.Works cores.new }
         ensures keeps { C.Keeps cores.old cores.new }
         ensures faults { (C.state cores.new).faults ≡ (C.state cores.old).faults }
@@ -112,7 +72,7 @@ impl State {
             (whole self.old (C.state cores.old)) (whole self.new (C.state cores.new)) }
         ensures counted { AreCountedBy result
             (whole self.old (C.state cores.old)) (whole self.new (C.state cores.new)) }
-        ensures tied { Lasts result (Agrees (whole self.new (C.state cores.new))) }
+        ensures tied { Lasts result (AreTied (whole self.new (C.state cores.new))) }
         ensures works { Lasts result (C.Works cores.new) }
         ensures keeps { C.Keeps cores.old cores.new }
         ensures kept { (C.state cores.old).faults ≤ (C.state cores.new).faults }
@@ -147,19 +107,16 @@ impl State {
             (whole self.old (C.state cores.old)) (whole self.new (C.state cores.new)) }
         ensures counted { AreCountedBy result
             (whole self.old (C.state cores.old)) (whole self.new (C.state cores.new)) }
-        ensures tied { Lasts result (Agrees (whole self.new (C.state cores.new))) }
+        ensures tied { Lasts result (AreTied (whole self.new (C.state cores.new))) }
         ensures works { Lasts result (C.Works cores.new) }
         ensures keeps { C.Keeps cores.old cores.new }
         ensures faults { (C.state cores.new).faults ≡ (C.state cores.old).faults }
         ensures disk { (C.state cores.old).disk_faults ≤ (C.state cores.new).disk_faults }
     {
         let user = UserNo::of(v.user);
-        let Ok(reply) = reply_of(&op, &mut self.common) else {
-            return Err(RunFault::NoMemory);
-        };
         let session = &mut self.sessions[v.user as usize - 1];
-        match cores.take_reply(user, session, &reply, self.clock) {
-            Ok(step) => {
+        match cores.share(user, session, &op, self.clock) {
+            Ok(Made { step, reply }) => {
                 let blocks = session.blocks();
                 settle(cores, user, step.ending, blocks);
                 let entry = Entry::Common {
@@ -187,7 +144,7 @@ impl State {
             (whole self.old (C.state cores.old)) (whole self.new (C.state cores.new)) }
         ensures counted { AreCountedBy result
             (whole self.old (C.state cores.old)) (whole self.new (C.state cores.new)) }
-        ensures tied { Lasts result (Agrees (whole self.new (C.state cores.new))) }
+        ensures tied { Lasts result (AreTied (whole self.new (C.state cores.new))) }
         ensures works { Lasts result (C.Works cores.new) }
         ensures keeps { C.Keeps cores.old cores.new }
         ensures faults { (C.state cores.new).faults ≡ (C.state cores.old).faults }
@@ -226,7 +183,7 @@ impl State {
             (whole self.old (C.state cores.old)) (whole self.new (C.state cores.new)) }
         ensures counted { AreCountedBy result
             (whole self.old (C.state cores.old)) (whole self.new (C.state cores.new)) }
-        ensures tied { Lasts result (Agrees (whole self.new (C.state cores.new))) }
+        ensures tied { Lasts result (AreTied (whole self.new (C.state cores.new))) }
         ensures works { Lasts result (C.Works cores.new) }
         ensures keeps { C.Keeps cores.old cores.new }
         ensures kept { (C.state cores.old).faults ≤ (C.state cores.new).faults }
@@ -246,7 +203,7 @@ impl State {
             (whole self.old (C.state cores.old)) (whole self.new (C.state cores.new))) }
         ensures err { OnErr result (IsSame (whole self.old (C.state cores.old)) (whole self.new (C.state cores.new))) }
         ensures counted { AreCounted (whole self.old (C.state cores.old)) (whole self.new (C.state cores.new)) }
-        ensures tied { Agrees (whole self.new (C.state cores.new)) }
+        ensures tied { AreTied (whole self.new (C.state cores.new)) }
         ensures works { C.Works cores.new }
         ensures keeps { C.Keeps cores.old cores.new }
         ensures faults { (C.state cores.new).faults ≡ (C.state cores.old).faults }
@@ -262,7 +219,7 @@ impl State {
         requires held { Holds (whole self.old (C.state cores.old)) }
         ensures does { StepsBy (idled limit) (whole self.old (C.state cores.old)) (whole self.new (C.state cores.new)) }
         ensures counted { AreCounted (whole self.old (C.state cores.old)) (whole self.new (C.state cores.new)) }
-        ensures tied { Agrees (whole self.new (C.state cores.new)) }
+        ensures tied { AreTied (whole self.new (C.state cores.new)) }
         ensures works { C.Works cores.new }
         ensures keeps { C.Keeps cores.old cores.new }
         ensures faults { (C.state cores.new).faults ≡ (C.state cores.old).faults }
@@ -282,7 +239,7 @@ impl State {
             (whole self.old (C.state cores.old)) (whole self.new (C.state cores.new)) }
         ensures counted { AreCountedBy result
             (whole self.old (C.state cores.old)) (whole self.new (C.state cores.new)) }
-        ensures tied { Lasts result (Agrees (whole self.new (C.state cores.new))) }
+        ensures tied { Lasts result (AreTied (whole self.new (C.state cores.new))) }
         ensures works { Lasts result (C.Works cores.new) }
         ensures keeps { C.Keeps cores.old cores.new }
         ensures kept { (C.state cores.old).faults ≤ (C.state cores.new).faults }
@@ -331,7 +288,7 @@ impl State {
             (whole self.old (C.state cores.old)) (whole self.new (C.state cores.new)) }
         ensures counted { AreCountedBy result
             (whole self.old (C.state cores.old)) (whole self.new (C.state cores.new)) }
-        ensures tied { Lasts result (Agrees (whole self.new (C.state cores.new))) }
+        ensures tied { Lasts result (AreTied (whole self.new (C.state cores.new))) }
         ensures works { Lasts result (C.Works cores.new) }
         ensures keeps { C.Keeps cores.old cores.new }
         ensures kept { (C.state cores.old).faults ≤ (C.state cores.new).faults }
@@ -357,7 +314,7 @@ impl State {
             (whole self.old (C.state cores.old)) (whole self.new (C.state cores.new)) }
         ensures counted { AreCountedBy result
             (whole self.old (C.state cores.old)) (whole self.new (C.state cores.new)) }
-        ensures tied { Lasts result (Agrees (whole self.new (C.state cores.new))) }
+        ensures tied { Lasts result (AreTied (whole self.new (C.state cores.new))) }
         ensures works { Lasts result (C.Works cores.new) }
         ensures keeps { C.Keeps cores.old cores.new }
         ensures kept { (C.state cores.old).faults ≤ (C.state cores.new).faults }
@@ -395,7 +352,7 @@ impl State {
         requires limit { limit ≤ 100000000 }
         ensures many { StepsOn limit (whole self.old (C.state cores.old)) (whole self.new (C.state cores.new)) }
         ensures entries { self.new.entries.items ≡ self.old.entries.items }
-        ensures tied { Agrees (whole self.new (C.state cores.new)) }
+        ensures tied { AreTied (whole self.new (C.state cores.new)) }
         ensures works { C.Works cores.new }
         ensures keeps { C.Keeps cores.old cores.new }
         ensures calls { (C.state cores.new).calls ≡ (C.state cores.old).calls }
@@ -421,7 +378,7 @@ impl State {
         requires limit { limit ≤ 100000000 }
         ensures many { StepsOn limit (whole self.old (C.state cores.old)) (whole self.new (C.state cores.new)) }
         ensures entries { self.new.entries.items ≡ self.old.entries.items }
-        ensures tied { Agrees (whole self.new (C.state cores.new)) }
+        ensures tied { AreTied (whole self.new (C.state cores.new)) }
         ensures works { C.Works cores.new }
         ensures keeps { C.Keeps cores.old cores.new }
         ensures calls { (C.state cores.new).calls ≡ (C.state cores.old).calls }
@@ -447,7 +404,7 @@ impl State {
         requires limit { limit ≤ 100000000 }
         ensures many { StepsOn limit (whole self.old (C.state cores.old)) (whole self.new (C.state cores.new)) }
         ensures entries { self.new.entries.items ≡ self.old.entries.items }
-        ensures tied { Agrees (whole self.new (C.state cores.new)) }
+        ensures tied { AreTied (whole self.new (C.state cores.new)) }
         ensures works { C.Works cores.new }
         ensures keeps { C.Keeps cores.old cores.new }
         ensures calls { (C.state cores.new).calls ≡ (C.state cores.old).calls }

@@ -39,9 +39,9 @@ same_stores k f g (p ∷ ps) h =
     ∙ ap (λ (qs : List User). in_store (g k) p ∷ qs) (same_stores (suc k) f g ps (λ v m. h v (omega (arith, m))))
 
 -- stores from the same functions give the same run
-pub joined_same : (f g : ℕ → Stored) (r : Run) → ((v : ℕ) → 1 ≤ v → f v ≡ g v) → joined f r ≡ joined g r
+pub joined_same : (f g : ℕ → Stored) (r : Run) → ((v : ℕ) → f v ≡ g v) → joined f r ≡ joined g r
 unfolding joined
-joined_same f g r h = ap (λ (ps : List User). record r { system = record r.system { users = ps } }) (same_stores 1 f g r.system.users h)
+joined_same f g r h = λ j. record r { system = record r.system { users = same_stores 1 f g r.system.users (λ v m. h v) j; files = (h 0 j).files } }
 
 as_many : (k : ℕ) (f : ℕ → Stored) (ps : List User) → length (with_stores k f ps) ≡ length ps
 as_many k f [] = refl
@@ -121,28 +121,34 @@ lines_same : (f : ℕ → Stored) (u : ℕ) (r : Run) → IsUser u r → (user_a
 unfolding joined
 lines_same f u r who = ap (λ (p : User). p.lines) (user_joined f r.system.users u who.some who.within)
 
+-- a user's store is not that of the common files
+pub common_stays : (f : ℕ → Stored) (c : Stored) (u : ℕ) → 0 < u → with_store u c f 0 ≡ f 0
+common_stays f c u some = other u 0 c f (λ e. omega (arith, e, some))
+
+-- the stores where the session of a user is over
+hung_some : (f : ℕ → Stored) (u : ℕ) (r : Run) → 0 < u → joined (with_store u (hung (f u)) f) r ≡ joined (hung_up u f) r
+hung_some f zero r some = absurd (omega (arith, some))
+hung_some f (suc u) r some = refl
+
 -- a step that changes one user, and its store with it, with what it reads of the user
-changed : (f : ℕ → Stored) (k : Stored → Stored) (change : User → User) (rest : List User → User → Run) (u : ℕ) (r : Run) → IsUser u r →
+changed : (f : ℕ → Stored) (k : Stored → Stored) (change : User → User) (rest : List FileBody → List User → User → Run) (u : ℕ) (r : Run) → IsUser u r →
     ((c : Stored) (p : User) → change (in_store c p) ≡ in_store (k c) (change p)) →
-    ((g : ℕ → Stored) (ps qs : List User) (p : User) (c : Stored) → qs ≡ with_stores 1 g ps → rest qs (in_store c p) ≡ joined g (rest ps p)) →
-    rest (with_user u (change (user_at u (with_stores 1 f r.system.users))) (with_stores 1 f r.system.users)) (user_at u (with_stores 1 f r.system.users))
-    ≡ joined (with_store u (k (f u)) f) (rest (with_user u (change (user_at u r.system.users)) r.system.users) (user_at u r.system.users))
+    ((g : ℕ → Stored) (ps qs : List User) (p : User) (c : Stored) → qs ≡ with_stores 1 g ps → rest (g 0).files qs (in_store c p) ≡ joined g (rest r.system.files ps p)) →
+    rest (f 0).files (with_user u (change (user_at u (with_stores 1 f r.system.users))) (with_stores 1 f r.system.users)) (user_at u (with_stores 1 f r.system.users))
+    ≡ joined (with_store u (k (f u)) f) (rest r.system.files (with_user u (change (user_at u r.system.users)) r.system.users) (user_at u r.system.users))
 changed f k change rest u r who commutes parts =
-    ap (λ (p : User). rest (with_user u (change p) (with_stores 1 f r.system.users)) p) (user_joined f r.system.users u who.some who.within)
-    ∙ ap (λ (p : User). rest (with_user u p (with_stores 1 f r.system.users)) (in_store (f u) (user_at u r.system.users))) (commutes (f u) (user_at u r.system.users))
+    ap (λ (p : User). rest (f 0).files (with_user u (change p) (with_stores 1 f r.system.users)) p) (user_joined f r.system.users u who.some who.within)
+    ∙ ap (λ (p : User). rest (f 0).files (with_user u p (with_stores 1 f r.system.users)) (in_store (f u) (user_at u r.system.users))) (commutes (f u) (user_at u r.system.users))
+    ∙ ap (λ (s : Stored). rest s.files (with_user u (in_store (k (f u)) (change (user_at u r.system.users))) (with_stores 1 f r.system.users)) (in_store (f u) (user_at u r.system.users))) (sym (common_stays f (k (f u)) u who.some))
     ∙ parts (with_store u (k (f u)) f) (with_user u (change (user_at u r.system.users)) r.system.users) _ (user_at u r.system.users) (f u) (sym (set_joined f r.system.users u (k (f u)) (change (user_at u r.system.users)) who.some))
 
 -- a store that a user has already
 own_again : (f : ℕ → Stored) (u : ℕ) (r : Run) → joined (with_store u (f u) f) r ≡ joined f r
-own_again f u r = joined_same (with_store u (f u) f) f r (λ v m. by_test v (nat_eq v u) (λ e. grind (arith, nat_tests)))
+own_again f u r = joined_same (with_store u (f u) f) f r (λ v. by_test v (nat_eq v u) (λ e. grind (arith, nat_tests)))
   where
     by_test : (v : ℕ) (b : Bool) → (b ≡ true → v ≡ u) → cond b (f u) (f v) ≡ f v
     by_test v true h = ap f (sym (h refl))
     by_test v false h = refl
-
--- a store for nobody
-pub for_nobody : (f : ℕ → Stored) (c : Stored) (r : Run) → joined (with_store 0 c f) r ≡ joined f r
-for_nobody f c r = joined_same (with_store 0 c f) f r (λ v m. other 0 v c f (λ e. omega (arith, e, m)))
 
 typed_stored : (l : Line) (c : Stored) (p : User) → typed l (in_store c p) ≡ in_store c (typed l p)
 unfolding typed
@@ -169,14 +175,15 @@ spent_stored c p = refl
 pub line_joined : (f : ℕ → Stored) (c u : ℕ) (l : Line) (r : Run) → IsUser u r → line_taken c u l (joined f r) ≡ joined f (line_taken c u l r)
 unfolding line_taken joined
 line_joined f c u l r who =
-    changed f (λ d. d) (typed l) (λ us p. with_line us p) u r who (typed_stored l) (λ g ps qs p d e. ap (λ (us : List User). with_line us p) e)
+    changed f (λ d. d) (typed l) with_line u r who (typed_stored l) (λ g ps qs p d e. ap (λ (us : List User). with_line (g 0).files us p) e)
     ∙ own_again f u (line_taken c u l r)
   where
-    with_line : List User → User → Run
-    with_line us p =
+    with_line : List FileBody → List User → User → Run
+    with_line files us p =
         record r {
           system = record r.system {
             users = us;
+            files = files;
             plan = record r.system.plan { levels = woken (line_blocks p) u r.system.plan.levels };
             events = drop 1 r.system.events;
             idling = None;
@@ -187,13 +194,14 @@ line_joined f c u l r who =
 pub login_joined : (f : ℕ → Stored) (c u : ℕ) (r : Run) → IsUser u r → login_taken c u (joined f r) ≡ joined f (login_taken c u r)
 unfolding login_taken joined
 login_joined f c u r who =
-    changed f (λ d. d) opened (λ us p. with_login us) u r who opened_stored (λ g ps qs p d e. ap with_login e) ∙ own_again f u (login_taken c u r)
+    changed f (λ d. d) opened (λ files us p. with_login files us) u r who opened_stored (λ g ps qs p d e. ap (with_login (g 0).files) e) ∙ own_again f u (login_taken c u r)
   where
-    with_login : List User → Run
-    with_login us =
+    with_login : List FileBody → List User → Run
+    with_login files us =
         record r {
           system = record r.system {
             users = us;
+            files = files;
             events = drop 1 r.system.events;
             idling = None;
             consoles = set r.system.consoles (c - 1) (Session u);
@@ -210,6 +218,7 @@ dial_joined f c u r who = ap told (user_joined f r.system.users u who.some who.w
         record r {
           system = record r.system {
             users = with_stores 1 f r.system.users;
+            files = (f 0).files;
             events = drop 1 r.system.events;
             idling = None;
             entries = r.system.entries ++ (idle_notes r.system.idling r.system.clock ++ Taken r.system.clock c DialTaken u p.own ∷ []);
@@ -221,13 +230,14 @@ cut_joined : (f : ℕ → Stored) (k : Stored → Stored) (kind : CutKind) (c u 
     cut_taken kind c u consoles (joined f r) ≡ joined (with_store u (k (f u)) f) (cut_taken kind c u consoles r)
 unfolding joined
 cut_joined f k kind c u consoles r who commutes =
-    changed f k (cut kind) with_cut u r who commutes (λ g ps qs p d e. ap (λ (us : List User). with_cut us p) e)
+    changed f k (cut kind) with_cut u r who commutes (λ g ps qs p d e. ap (λ (us : List User). with_cut (g 0).files us p) e)
   where
-    with_cut : List User → User → Run
-    with_cut us p =
+    with_cut : List FileBody → List User → User → Run
+    with_cut files us p =
         record r {
           system = record r.system {
             users = us;
+            files = files;
             plan = record r.system.plan { levels = dropped u r.system.plan.levels; places = places_cut kind u r.system.plan.places };
             consoles = consoles;
             events = drop 1 r.system.events;
@@ -248,10 +258,12 @@ quit_joined f c u r who = ap (λ (cs : List Console). cut_taken Quit c u cs (joi
 pub hang_joined : (f : ℕ → Stored) (c u : ℕ) (r : Run) → IsUser u r → hang_taken c u (joined f r) ≡ joined (hung_up u f) (hang_taken c u r)
 unfolding hang_taken
 hang_joined f c u r who = ap (λ (cs : List Console). cut_taken Hang c u (set (without u cs) (c - 1) Off) (joined f r)) (consoles_same f r) ∙ cut_joined f hung Hang c u (set (without u r.system.consoles) (c - 1) Off) r who hang_stored
+    ∙ hung_some f u (cut_taken Hang c u (set (without u r.system.consoles) (c - 1) Off) r) who.some
 
 pub spent_joined : (f : ℕ → Stored) (c u : ℕ) (r : Run) → IsUser u r → spent_taken c u (joined f r) ≡ joined (hung_up u f) (spent_taken c u r)
 unfolding spent_taken
 spent_joined f c u r who = ap (λ (cs : List Console). cut_taken Spent c u (without u cs) (joined f r)) (consoles_same f r) ∙ cut_joined f hung Spent c u (without u r.system.consoles) r who spent_stored
+    ∙ hung_some f u (cut_taken Spent c u (without u r.system.consoles) r) who.some
 
 pub blocks_same : (f : ℕ → Stored) (u : ℕ) (r : Run) → IsUser u r → blocks_of (user_at u (with_stores 1 f r.system.users)).inner ≡ blocks_of (user_at u r.system.users).inner
 blocks_same f u r who = ap (λ (p : User). blocks_of p.inner) (user_joined f r.system.users u who.some who.within)
@@ -267,49 +279,55 @@ brought_joined f u r who = ap loads (blocks_same f u r who)
         record r {
           system = record r.system {
             users = with_stores 1 f r.system.users;
+            files = (f 0).files;
             plan = with_load r.system.plan u n;
             clock = r.system.clock + o.ticks;
             entries = r.system.entries ++ Swap r.system.clock u o.dumped o.read o.fresh ∷ [];
           };
         }
 
--- a step of a user, from what it leaves
-pub stepped_joined : (f : ℕ → Stored) (v : Service) (store : Stored) (p : User) (t : Ending) (asked : Bool) (made : Option CommonOp) (r : Run) → IsUser v.user r →
-    in_store store p ≡ step r.system.clock (reply_for r made) (in_store (f v.user) (user_at v.user r.system.users)) →
-    t ≡ ending r.system.clock (reply_for r made) (in_store (f v.user) (user_at v.user r.system.users)) →
+-- a step of a user, from what it leaves: of the user, and of the common files
+pub stepped_joined : (f : ℕ → Stored) (v : Service) (store common : Stored) (p : User) (t : Ending) (asked : Bool) (made : Option CommonOp) (r : Run) → IsUser v.user r →
+    in_store store p ≡ step r.system.clock (reply_for (joined f r) made) (in_store (f v.user) (user_at v.user r.system.users)) →
+    t ≡ ending r.system.clock (reply_for (joined f r) made) (in_store (f v.user) (user_at v.user r.system.users)) →
     asked ≡ asks_clock (in_store (f v.user) (user_at v.user r.system.users)) →
     made ≡ asks_common (in_store (f v.user) (user_at v.user r.system.users)) →
-    stepped v (joined f r) ≡ joined (with_store v.user store f) (stepped_to v p t asked made r)
+    common.files ≡ commons_for (joined f r) made →
+    stepped v (joined f r) ≡ joined (with_store v.user store (with_store 0 common f)) (stepped_to v p t asked (common_entry made v.user (reply_for (joined f r) made)) r)
 unfolding stepped stepped_to joined
-stepped_joined f v store p t asked made r who leaves_it ends asks makes =
+stepped_joined f v store common p t asked made r who leaves_it ends asks makes files =
     ap from_user (user_joined f r.system.users v.user who.some who.within)
     ∙ ap (λ (o : Option CommonOp). made_to o (in_store (f v.user) (user_at v.user r.system.users))) (sym makes)
     ∙ (λ j. to made (sym leaves_it j) (sym ends j) (sym asks j))
     ∙ same_levels (cause_of t (has_time r.system.plan.levels))
-    ∙ ap users_too (sym (set_joined f r.system.users v.user store p who.some))
+    ∙ (λ j. users_too (sym files j) (users_are j))
+    ∙ ap (λ (s : Stored). users_too s.files (with_stores 1 after (with_user v.user p r.system.users))) (sym (common_stays (with_store 0 common f) store v.user who.some))
   where
+    after : ℕ → Stored
+    after = with_store v.user store (with_store 0 common f)
+
     -- with a cause
-    to_by : Option CommonOp → Option Cause → List User → Levels → ℕ → Ending → Bool → Run
-    to_by made cause us levels blocks t asked =
+    to_by : List FileBody → Option CommonOp → Option Cause → List User → Levels → ℕ → Ending → Bool → Run
+    to_by files made cause us levels blocks t asked =
         record r {
           system = record r.system {
             users = us;
-            files = commons_for r made;
+            files = files;
             plan = record { levels = levels; places = places_after t v.user blocks r.system.plan.places };
             consoles = consoles_after t v.user r.system.consoles;
             clock = suc r.system.clock;
             service = service_after v cause;
-            entries = r.system.entries ++ (clock_entry asked r.system.clock v.user ++ (common_entry made v.user (reply_for r made) ++ service_entry v cause));
+            entries = r.system.entries ++ (clock_entry asked r.system.clock v.user ++ (common_entry made v.user (reply_for (joined f r) made) ++ service_entry v cause));
           };
         }
 
     to : Option CommonOp → User → Ending → Bool → Run
     to made q t asked =
         let cause = cause_of t (has_time r.system.plan.levels) in
-        to_by made cause (with_user v.user q (with_stores 1 f r.system.users)) (levels_after cause v.user q (charged v.user r.system.plan.levels)) (blocks_of q.inner) t asked
+        to_by (commons_for (joined f r) made) made cause (with_user v.user q (with_stores 1 f r.system.users)) (levels_after cause v.user q (charged v.user r.system.plan.levels)) (blocks_of q.inner) t asked
 
     made_to : Option CommonOp → User → Run
-    made_to o q = to o (step r.system.clock (reply_for r o) q) (ending r.system.clock (reply_for r o) q) (asks_clock q)
+    made_to o q = to o (step r.system.clock (reply_for (joined f r) o) q) (ending r.system.clock (reply_for (joined f r) o) q) (asks_clock q)
 
     from_user : User → Run
     from_user q = made_to (asks_common q) q
@@ -325,14 +343,20 @@ stepped_joined f v store p t asked made r who leaves_it ends asks makes =
     levels_same (Some AtEnd) q = refl
 
     same_levels : (o : Option Cause) →
-        to_by made o (with_user v.user (in_store store p) (with_stores 1 f r.system.users)) (levels_after o v.user (in_store store p) (charged v.user r.system.plan.levels)) (blocks_of p.inner) t asked
-        ≡ to_by made o (with_user v.user (in_store store p) (with_stores 1 f r.system.users)) (levels_after o v.user p (charged v.user r.system.plan.levels)) (blocks_of p.inner) t asked
-    same_levels o = ap (λ (q : Levels). to_by made o (with_user v.user (in_store store p) (with_stores 1 f r.system.users)) q (blocks_of p.inner) t asked) (levels_same o (charged v.user r.system.plan.levels))
+        to_by (commons_for (joined f r) made) made o (with_user v.user (in_store store p) (with_stores 1 f r.system.users)) (levels_after o v.user (in_store store p) (charged v.user r.system.plan.levels)) (blocks_of p.inner) t asked
+        ≡ to_by (commons_for (joined f r) made) made o (with_user v.user (in_store store p) (with_stores 1 f r.system.users)) (levels_after o v.user p (charged v.user r.system.plan.levels)) (blocks_of p.inner) t asked
+    same_levels o = ap (λ (q : Levels). to_by (commons_for (joined f r) made) made o (with_user v.user (in_store store p) (with_stores 1 f r.system.users)) q (blocks_of p.inner) t asked) (levels_same o (charged v.user r.system.plan.levels))
 
-    users_too : List User → Run
-    users_too us =
+    users_too : List FileBody → List User → Run
+    users_too files us =
         let cause = cause_of t (has_time r.system.plan.levels) in
-        to_by made cause us (levels_after cause v.user p (charged v.user r.system.plan.levels)) (blocks_of p.inner) t asked
+        to_by files made cause us (levels_after cause v.user p (charged v.user r.system.plan.levels)) (blocks_of p.inner) t asked
+
+    -- the store of number 0 is no user's
+    users_are : with_user v.user (in_store store p) (with_stores 1 f r.system.users) ≡ with_stores 1 after (with_user v.user p r.system.users)
+    users_are =
+        ap (λ (ps : List User). with_user v.user (in_store store p) ps) (same_stores 1 f (with_store 0 common f) r.system.users (λ w m. sym (other 0 w common f (λ e. omega (arith, e, m)))))
+        ∙ sym (set_joined (with_store 0 common f) r.system.users v.user store p who.some)
 
 -- events
 
@@ -346,7 +370,7 @@ cut_stores console e r f = hung_up (cut_user console e r.system.users) f
 
 -- an event that no session hears
 quiet : (f : ℕ → Stored) (c : ℕ) (kind : EventKind) (now : Console) (more : List Entry) (r x y : Run) → x ≡ heard c kind now more (joined f r) → y ≡ heard c kind now more r → x ≡ joined (hung_up 0 f) y
-quiet f c kind now more r x y a b = a ∙ heard_joined f c kind now more r ∙ ap (joined f) (sym b) ∙ sym (for_nobody f (hung (f 0)) y)
+quiet f c kind now more r x y a b = a ∙ heard_joined f c kind now more r ∙ ap (joined f) (sym b)
 
 off_joined : (f : ℕ → Stored) (c : ℕ) (e : Event) (r : Run) → 0 < c → at_console c Off e (joined f r) ≡ joined (hung_up 0 f) (at_console c Off e r)
 off_joined f c Dials r h = quiet f c DialTaken On [] r _ _ (off_dials c (joined f r) h) (off_dials c r h)
@@ -386,7 +410,6 @@ asked_joined f c name (Types word) r h sound = by_user (check r.accounts name wo
         logs_in c u name word (joined f r) h who.some (checks ∙ e) (on_same f u r who ∙ off)
         ∙ login_joined f c u r who
         ∙ ap (joined f) (sym (logs_in c u name word r h who.some e off))
-        ∙ sym (for_nobody f (hung (f 0)) (at_console c (Password name) (Types word) r))
 
     by_user : (o : Option ℕ) → check r.accounts name word ≡ o → at_console c (Password name) (Types word) (joined f r) ≡ joined (hung_up 0 f) (at_console c (Password name) (Types word) r)
     by_user None e = quiet f c LineTaken On (Refused r.system.clock c 1 ∷ []) r _ _ (wrong_word c name word (joined f r) h (checks ∙ e) ∙ refused f c 1 r) (wrong_word c name word r h e)
@@ -400,8 +423,8 @@ lt_or_le a b = by_test (nat_lt a b) refl
     by_test false e = inr (grind (arith, nat_tests))
 
 in_joined : (f : ℕ → Stored) (c u : ℕ) (e : Event) (r : Run) → 0 < c → IsUser u r → at_console c (Session u) e (joined f r) ≡ joined (hung_up (cut_user (Session u) e r.system.users) f) (at_console c (Session u) e r)
-in_joined f c u Dials r h who = in_dials c u (joined f r) who.some ∙ dial_joined f c u r who ∙ ap (joined f) (sym (in_dials c u r who.some)) ∙ sym (for_nobody f (hung (f 0)) (at_console c (Session u) Dials r))
-in_joined f c u Quits r h who = in_quits c u (joined f r) who.some ∙ quit_joined f c u r who ∙ ap (joined f) (sym (in_quits c u r who.some)) ∙ sym (for_nobody f (hung (f 0)) (at_console c (Session u) Quits r))
+in_joined f c u Dials r h who = in_dials c u (joined f r) who.some ∙ dial_joined f c u r who ∙ ap (joined f) (sym (in_dials c u r who.some))
+in_joined f c u Quits r h who = in_quits c u (joined f r) who.some ∙ quit_joined f c u r who ∙ ap (joined f) (sym (in_quits c u r who.some))
 in_joined f c u Hangs r h who = in_hangs c u (joined f r) who.some h ∙ hang_joined f c u r who ∙ ap (joined (hung_up u f)) (sym (in_hangs c u r who.some h))
 in_joined f c u (Types l) r h who = elim (lt_or_le (user_at u r.system.users).lines max_lines) [ inl few ↦ typed_in few | inr many ↦ spent_in many ]
   where
@@ -413,7 +436,6 @@ in_joined f c u (Types l) r h who = elim (lt_or_le (user_at u r.system.users).li
         in_types c u l (joined f r) who.some (let e = lines in omega (arith, e, few))
         ∙ line_joined f c u l r who
         ∙ ap (joined f) (sym (in_types c u l r who.some few))
-        ∙ sym (for_nobody f (hung (f 0)) (at_console c (Session u) (Types l) r))
         ∙ ap (λ (b : Bool). joined (hung_up (cond b 0 u) f) (at_console c (Session u) (Types l) r)) (sym (lt-ltb (user_at u r.system.users).lines max_lines few))
 
     spent_in : max_lines ≤ (user_at u r.system.users).lines → at_console c (Session u) (Types l) (joined f r) ≡ joined (hung_up (cut_user (Session u) (Types l) r.system.users) f) (at_console c (Session u) (Types l) r)
@@ -521,16 +543,16 @@ unfolding measure joined
 measure_joined limit f r =
     ap (λ (n : ℕ). (limit - r.system.clock) * (4 * length r.system.events + 4) + (4 * length r.system.events + (2 * whole.is_open M (W r) r.system.service + n))) (by_choice (user_of (chosen r.system.plan.levels)))
   where
-    by_choice : (o : Option ℕ) → whole.as_number M (W r) (whole.must_load_of M (W r) o (record r.system { users = with_stores 1 f r.system.users })) ≡ whole.as_number M (W r) (whole.must_load_of M (W r) o r.system)
+    by_choice : (o : Option ℕ) → whole.as_number M (W r) (whole.must_load_of M (W r) o (record r.system { users = with_stores 1 f r.system.users; files = (f 0).files })) ≡ whole.as_number M (W r) (whole.must_load_of M (W r) o r.system)
     by_choice None = refl
     by_choice (Some u) = ap (λ (n : ℕ). whole.as_number M (W r) (must_load r.system.plan u n)) (at_blocks f r.system.users u)
 
 -- a step's own changes, and then the places of its blocks
-pub stepped_is : (v : Service) (p : User) (t : Ending) (asked : Bool) (made : Option CommonOp) (r : Run) → IsUser v.user r →
+pub stepped_is : (v : Service) (p : User) (t : Ending) (asked : Bool) (notes : List Entry) (r : Run) → IsUser v.user r →
     at_places (places_after t v.user (blocks_of p.inner) r.system.plan.places)
-    (counted v t asked (common_entry made v.user (reply_for r made)) (record r { system = record r.system { users = with_user v.user p r.system.users; files = commons_for r made } })) ≡ stepped_to v p t asked made r
+    (counted v t asked notes (record r { system = record r.system { users = with_user v.user p r.system.users } })) ≡ stepped_to v p t asked notes r
 unfolding counted stepped_to
-stepped_is v p t asked made r who =
+stepped_is v p t asked notes r who =
     ap from_user (get_or-set_same r.system.users (v.user - 1) p nobody (let a = who.some in let b = who.within in omega (arith, a, b)))
   where
     from_user : User → Run
@@ -539,7 +561,6 @@ stepped_is v p t asked made r who =
         record r {
           system = record r.system {
             users = with_user v.user p r.system.users;
-            files = commons_for r made;
             plan = record {
               levels = levels_after cause v.user q (charged v.user r.system.plan.levels);
               places = places_after t v.user (blocks_of p.inner) r.system.plan.places;
@@ -547,7 +568,7 @@ stepped_is v p t asked made r who =
             consoles = consoles_after t v.user r.system.consoles;
             clock = suc r.system.clock;
             service = service_after v cause;
-            entries = r.system.entries ++ (clock_entry asked r.system.clock v.user ++ (common_entry made v.user (reply_for r made) ++ service_entry v cause));
+            entries = r.system.entries ++ (clock_entry asked r.system.clock v.user ++ (notes ++ service_entry v cause));
           };
         }
 

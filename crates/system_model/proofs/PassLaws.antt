@@ -21,11 +21,12 @@ use Rattle.plan_model.specs.Plan.{must_load, places_after}
 use Rattle.plan_model.proofs.SpentLaws.{still_chosen, still_time, charged_more, spent_none}
 use Rattle.system_model.specs.Run.{Run, next, due_of, by_due, otherwise, attended}
 use Rattle.system_model.specs.Cases.{user_at, with_user, levels_after, reply_for, commons_for, stepped}
+use Rattle.ctss_types.specs.declared.file.FileBody.{FileBody}
 use Rattle.system_model.specs.Joined.{joined, with_store}
 use Rattle.system_model.specs.Runs.{Passes, passed, elapsed}
 use Rattle.system_model.specs.Sound.{IsUser}
 use Rattle.system_model.proofs.CaseLaws.{next_due, goes_on, attended_steps}
-use Rattle.system_model.proofs.JoinedLaws.{set_joined, is_user_too, serves_joined}
+use Rattle.system_model.proofs.JoinedLaws.{common_stays, set_joined, is_user_too, serves_joined}
 
 -- a service that has served so many ticks more
 abbrev later : ℕ → Service → Service
@@ -176,13 +177,14 @@ passes_keep P limit (suc n) old new on p h =
 passed_joined : (n : ℕ) (v : Service) (f : ℕ → Stored) (d : Stored) (p : User) (r : Run) → IsUser v.user r
     → joined (with_store v.user d f) (passed n v p r) ≡ passed n v (in_store d p) (joined f r)
 unfolding joined passed
-passed_joined n v f d p r who = ap with_users (set_joined f r.system.users v.user d p who.some)
+passed_joined n v f d p r who = λ j. with_users (common_stays f d v.user who.some j).files (set_joined f r.system.users v.user d p who.some j)
   where
-    with_users : List User → Run
-    with_users us =
+    with_users : List FileBody → List User → Run
+    with_users files us =
         record r {
           system = record r.system {
             users = us;
+            files = files;
             plan = record r.system.plan { levels = spent n v.user r.system.plan.levels };
             clock = r.system.clock + n;
             service = Some (record v { ran = v.ran + n });

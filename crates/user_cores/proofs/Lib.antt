@@ -3,3 +3,4 @@ pub mod Calls
 pub mod Images
 pub mod Beginnings
 pub mod Works
+pub mod Listed

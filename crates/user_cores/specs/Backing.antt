@@ -1,5 +1,5 @@
 -- proof: what lies behind the users' sessions, cores and directories together, and what each call does to it.
-use Rattle.std.specs.Prelude.{◌≡◌, ◌≢◌, ℕ, ◌≤◌, ◌+◌, ◌*◌, Bool, true, ◌&&◌, List, length, slice_set, Option, Result, IfOk, OnErr}
+use Rattle.std.specs.Prelude.{◌≡◌, ◌≢◌, ℕ, ◌≤◌, ◌+◌, ◌*◌, Bool, true, ◌&&◌, List, [], zero, suc, length, slice_set, Option, Result, IfOk, OnErr}
 use Rattle.faults.specs.Faults.{Rose}
 use Rattle.medium.specs.Medium.{CallList}
 use Rattle.onion_swap.specs.declared.Plan.{Plan}
@@ -7,21 +7,28 @@ use Rattle.plan_model.specs.Loads.{Places, loaded, given_up, count_below, is_dum
 use Rattle.image_map.specs.Images.{size_of}
 use Rattle.user_model.specs.Inner.{Stored, recut, zeros}
 use Rattle.user_model.specs.User.{hung}
-use Rattle.user_session.specs.Stores.{stored}
+use Rattle.user_session.specs.Stores.{stored, Over}
+use Rattle.user_session.specs.Turns.{IsReplied}
+use Rattle.ctss_types.specs.declared.file.CommonOp.{CommonOp}
+use Rattle.ctss_types.specs.declared.file.FileBody.{FileBody}
+use Rattle.common_file.specs.Applied.{IsApplied}
+use Rattle.user_model.specs.User.{User}
+use Rattle.user_cores.specs.declared.backing.Made.{Made}
 use Rattle.directories.specs.Directories.{DirectoriesState}
 use Rattle.user_cores.specs.Cores.{CoresState}
 use Rattle.user_cores.specs.Swaps.{IsMade, IsCutOff}
 
 pub record Held : Type 0 where
-  -- the words of each user's program and its files, where drum and disk tell their records
+  -- the words of each user's program and its files, where drum and disk tell their records; of number 0 the common files
   pub stores : ℕ → Stored
   pub tells : Bool
   pub places : Places
-  -- how many blocks each user has, and may have, behind those of number 0, which is nobody's; how many tracks it may have; and how
-  -- many users have directories
+  -- how many blocks each user has, and may have, behind those of number 0, which is nobody's; how many tracks it may have, and
+  -- the common files; and how many users have directories
   pub sizes : List ℕ
   pub quotas : List ℕ
   pub tracks : ℕ → ℕ
+  pub common : ℕ
   pub users : ℕ
 
 -- what each user has, what a user whose blocks are all in core has there and in its directory, the calls of the drum where told, how many of
@@ -34,17 +41,23 @@ pub record BackState : Type 0 where
   pub disk_tells : Bool
   pub disk_faults : ℕ
 
+-- the words and files of each user, and the common files of number 0
+abbrev pub stores_of : (ℕ → List ℕ) → (ℕ → List FileBody) → List FileBody → ℕ → Stored
+stores_of words own common zero = stored [] common
+stores_of words own common (suc u) = stored (words (suc u)) (own (suc u))
+
 -- cores beside directories
 abbrev pub back_of : CoresState → DirectoriesState → BackState
 back_of c d =
     record {
       held = record {
-        stores = λ u. stored (c.memory.words u) (d.own u);
+        stores = stores_of c.memory.words d.own d.common;
         tells = c.memory.tells && d.tells;
         places = c.memory.places;
         sizes = c.memory.sizes;
         quotas = c.memory.quotas;
         tracks = d.may;
+        common = d.common_may;
         users = d.count;
       };
       window = λ u. stored (c.window u) (d.own u);
@@ -69,7 +82,7 @@ to_clear s user = count_below (size s user) (is_fresh s.held.places user)
 
 -- a load that is done
 pub record Loaded (user : ℕ) (plan : Plan) (old new : BackState) : Type 0 where
-  pub stores : (u : ℕ) → 1 ≤ u → new.held.stores u ≡ old.held.stores u
+  pub stores : (u : ℕ) → new.held.stores u ≡ old.held.stores u
   pub tells : new.held.tells ≡ old.held.tells
   pub places : new.held.places ≡ loaded old.held.places user (size old user)
   pub dumped : plan.dumped ≡ to_dump old user
@@ -82,9 +95,10 @@ pub record LoadFails (user : ℕ) (old new : BackState) : Type 0 where
   pub calls : IsCutOff old.calls new.calls (to_dump old user + to_read old user)
   pub cause : Rose old.faults new.faults
 
--- how many blocks and tracks users may have stays, and how many have directories
+-- how many blocks and tracks users and the common files may have stays, and how many users have directories
 pub record KeepsRules (had has : Held) : Type 0 where
   pub quotas : has.quotas ≡ had.quotas
+  pub common : has.common ≡ had.common
   pub tracks : (u : ℕ) → has.tracks u ≡ had.tracks u
   pub users : has.users ≡ had.users
 
@@ -97,17 +111,17 @@ pub record Loads (user : ℕ) {E : Type 0} (result : Result Plan E) (old new : B
   pub done : IfOk result (λ plan. Loaded user plan old new)
   pub fails : OnErr result (LoadFails user old new)
 
--- what a call for one user leaves as it is
-pub record LeavesRest (user : ℕ) (old new : BackState) : Type 0 where
+-- what a call for one user leaves as it is, of all numbers from a lowest on
+pub record LeavesRest (low user : ℕ) (old new : BackState) : Type 0 where
   pub rules : KeepsRules old.held new.held
-  pub others : (u : ℕ) → 1 ≤ u → u ≢ user → new.held.stores u ≡ old.held.stores u
+  pub others : (u : ℕ) → low ≤ u → u ≢ user → new.held.stores u ≡ old.held.stores u
   pub tells : new.held.tells ≡ old.held.tells
   pub calls : new.calls ≡ old.calls
   pub faults : new.faults ≡ old.faults
 
 -- a user's words become these, and it gets so many blocks
 pub record Resizes (user blocks : ℕ) (old new : BackState) : Type 0 where
-  pub rest : LeavesRest user old new
+  pub rest : LeavesRest 0 user old new
   pub disk : new.disk_faults ≡ old.disk_faults
   pub mine : old.held.tells ≡ true → new.held.stores user ≡ record (old.held.stores user) { core = recut blocks (old.held.stores user).core }
   pub sizes : new.held.sizes ≡ slice_set old.held.sizes user blocks
@@ -115,7 +129,7 @@ pub record Resizes (user blocks : ℕ) (old new : BackState) : Type 0 where
 
 -- a user gets so many blocks of plus zeros in place of all that it has
 pub record Replaces (user blocks : ℕ) (old new : BackState) : Type 0 where
-  pub rest : LeavesRest user old new
+  pub rest : LeavesRest 0 user old new
   pub disk : new.disk_faults ≡ old.disk_faults
   pub mine : old.held.tells ≡ true → new.held.stores user ≡ record (old.held.stores user) { core = zeros blocks }
   pub sizes : new.held.sizes ≡ slice_set old.held.sizes user blocks
@@ -123,15 +137,15 @@ pub record Replaces (user blocks : ℕ) (old new : BackState) : Type 0 where
 
 -- a user whose session is over has no core any more, and the files that last
 pub record HangsUp (user : ℕ) (old new : BackState) : Type 0 where
-  pub rest : LeavesRest user old new
+  pub rest : LeavesRest 0 user old new
   pub disk : new.disk_faults ≡ old.disk_faults
   pub mine : old.held.tells ≡ true → new.held.stores user ≡ hung (old.held.stores user)
   pub sizes : new.held.sizes ≡ slice_set old.held.sizes user 0
   pub places : new.held.places ≡ given_up old.held.places user 0
 
--- a user's session works in its blocks, which are all in core, and in its directory
-pub record WorksIn (user : ℕ) (old new : BackState) : Type 0 where
-  pub rest : LeavesRest user old new
+-- a user's session works in its blocks, which are all in core, and in its directory; all else stays from a lowest number on
+pub record WorksIn (low user : ℕ) (old new : BackState) : Type 0 where
+  pub rest : LeavesRest low user old new
   pub len : length (new.window user).core ≡ 256 * size old user
   pub was : old.held.tells ≡ true → old.held.stores user ≡ old.window user
   pub mine : old.held.tells ≡ true → new.held.stores user ≡ new.window user
@@ -139,6 +153,21 @@ pub record WorksIn (user : ℕ) (old new : BackState) : Type 0 where
   pub disk_tells : new.disk_tells ≡ old.disk_tells
   pub sizes : new.held.sizes ≡ old.held.sizes
   pub places : new.held.places ≡ old.held.places
+
+-- a step that made this operation on the common files, which replied so
+pub record Shared (op : CommonOp) (made : Made) (user now : ℕ) (p q : User) (old new : BackState) : Type 0 where
+  pub common : IsApplied old.disk_tells old.held.common op made.reply (old.held.stores 0).files (new.held.stores 0).files
+  pub step : Over old.disk_tells (old.window user) (new.window user) (IsReplied made.step op made.reply now p q)
+
+-- a step that memory lacked for: all that users have stays
+pub record LeavesUsers (old new : BackState) : Type 0 where
+  pub rules : KeepsRules old.held new.held
+  pub stores : old.held.tells ≡ true → (u : ℕ) → 1 ≤ u → new.held.stores u ≡ old.held.stores u
+  pub tells : new.held.tells ≡ old.held.tells
+  pub sizes : new.held.sizes ≡ old.held.sizes
+  pub places : new.held.places ≡ old.held.places
+  pub calls : new.calls ≡ old.calls
+  pub faults : new.faults ≡ old.faults
 
 -- a step that the disk didn't do
 pub record DiskFails (old new : BackState) : Type 0 where

@@ -3,3 +3,4 @@ pub mod Memory
 pub mod Swaps
 pub mod Works
 pub mod Backing
+pub mod Settles

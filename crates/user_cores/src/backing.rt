@@ -1,23 +1,29 @@
 //! What the supervisor asks of all that lies behind users' sessions: their cores and their directories.
 ghost use Rattle.std.specs.Prelude.{◌≡◌, ◌<◌, ◌≤◌, ◌+◌, ◌-◌, ◌^◌, true, length, IfOk, OnOk, OnErr, IsErrOf};
 ghost use Rattle.faults.specs.Faults.{Rose};
-ghost use Rattle.ctss_types.specs.declared.file.CommonOp.{CommonOp};
 ghost use Rattle.drum_slots.specs.Keys.{quota_of};
 ghost use Rattle.plan_model.specs.Loads.{is_loaded};
-ghost use Rattle.file_model.specs.Commons.{ReplyFits};
 ghost use Rattle.user_model.specs.Inner.{blocks_of};
 ghost use Rattle.user_model.specs.Runs.{HaveGone};
 ghost use Rattle.user_session.specs.Stores.{Over, IsToMake};
-ghost use Rattle.user_session.specs.Turns.{IsReplied, IsTurn};
+ghost use Rattle.user_session.specs.Turns.{IsTurn};
 ghost use Rattle.directories.specs.Directories.{lists_from};
-ghost use Rattle.user_cores.specs.Backing.{BackState, size, Loads, Resizes, Replaces, HangsUp, WorksIn, DiskFails};
+ghost use Rattle.user_cores.specs.Backing.{BackState, size, Loads, Resizes, Replaces, HangsUp, Shared, LeavesUsers, WorksIn, DiskFails};
 
-use ctss_types::{FileList, Reply, StepFault, UserNo};
+use ctss_types::{CommonOp, Reply, StepFault, UserNo};
+use directories::Lists;
 use image_map::{DrumFault, Plan};
 use std::alloc::Global;
 use user_session::{Session, Step, Turn};
 
-/// The cores of up to 30 users' programs, and their directories. Users count from 1.
+/// A step that made an operation on the common files, and the reply.
+#[derive(Debug, Drop)]
+pub struct Made {
+    pub step: Step,
+    pub reply: Reply,
+}
+
+/// The cores of up to 30 users' programs, their directories and the common files. Users count from 1.
 ///
 /// In clauses `state` is what they show. After a fault of drum or disk nothing may be asked any more.
 pub trait Backing {
@@ -86,38 +92,35 @@ pub trait Backing {
         ensures left { IsErrOf result StepFault.NoMemory → (state self.new).window user ≡ (state self.old).window user }
         ensures works { ¬ IsErrOf result StepFault.Disk → Works self.new }
         ensures keeps { Keeps self.old self.new }
-        ensures worked { ¬ IsErrOf result StepFault.Disk → WorksIn user (state self.old) (state self.new) }
+        ensures worked { ¬ IsErrOf result StepFault.Disk → WorksIn 0 user (state self.old) (state self.new) }
         ensures kept { (state self.old).disk_faults ≤ (state self.new).disk_faults }
         ensures fails { IsErrOf result StepFault.Disk → DiskFails (state self.old) (state self.new) };
 
-    /// A step of the session of a user whose blocks are all in core, which made a common operation, goes on with its reply.
-    fn take_reply(
+    /// A step of the session of a user whose blocks are all in core, which is to make an operation on the common files: that is done,
+    /// and the step goes on with the reply. Where memory lacks the operation may be done.
+    fn share(
         &mut self,
         user: UserNo,
         session: &mut Session,
-        reply: &Reply,
+        op: &CommonOp,
         now: u64,
-    ) -> Result<Step, StepFault>
+    ) -> Result<Made, StepFault>
         requires works { Works self.old }
         requires user { user < length (state self.old).held.sizes }
         requires directory { user ≤ (state self.old).held.users }
         requires loaded { is_loaded (state self.old).held.places user (size (state self.old) user) ≡ true }
         requires size { size (state self.old) user ≡ blocks_of session.old.inner }
         requires tracks { (state self.old).held.tracks user ≡ session.old.inner.account.tracks }
-        requires asks { (op : CommonOp)
-            × IsToMake (state self.old).disk_tells ((state self.old).window user) op session.old }
-        requires told { ReplyFits reply.now }
+        requires asks { IsToMake (state self.old).disk_tells ((state self.old).window user) op.now session.old }
         requires fits { session.old.own < 2 ^ 64 - 1 }
-        ensures step { (op : CommonOp) → IsToMake (state self.old).disk_tells ((state self.old).window user) op session.old
-            → IfOk result (λ s. Over (state self.old).disk_tells
-            ((state self.old).window user) ((state self.new).window user)
-            (IsReplied s op reply.now now session.old session.new)) }
+        ensures shared { IfOk result
+            (λ made. Shared op.now made user now session.old session.new (state self.old) (state self.new)) }
         ensures account { session.new.inner.account ≡ session.old.inner.account }
         ensures err { OnErr result (session.new ≡ session.old) }
-        ensures left { IsErrOf result StepFault.NoMemory → (state self.new).window user ≡ (state self.old).window user }
+        ensures left { IsErrOf result StepFault.NoMemory → LeavesUsers (state self.old) (state self.new) }
         ensures works { ¬ IsErrOf result StepFault.Disk → Works self.new }
         ensures keeps { Keeps self.old self.new }
-        ensures worked { ¬ IsErrOf result StepFault.Disk → WorksIn user (state self.old) (state self.new) }
+        ensures worked { OnOk result (WorksIn 1 user (state self.old) (state self.new)) }
         ensures kept { (state self.old).disk_faults ≤ (state self.new).disk_faults }
         ensures fails { IsErrOf result StepFault.Disk → DiskFails (state self.old) (state self.new) };
 
@@ -134,14 +137,16 @@ pub trait Backing {
         ensures files { ((state self.new).window user).files ≡ ((state self.old).window user).files }
         ensures works { Works self.new }
         ensures keeps { Keeps self.old self.new }
-        ensures worked { WorksIn user (state self.old) (state self.new) }
+        ensures worked { WorksIn 0 user (state self.old) (state self.new) }
         ensures disk { (state self.new).disk_faults ≡ (state self.old).disk_faults };
 
-    /// All users' files. Nothing may be asked behind it.
-    fn take_lists(&mut self, alloc: Global) -> Result<Vec<FileList>, StepFault>
+    /// All files. Nothing may be asked behind it.
+    fn take_lists(&mut self, alloc: Global) -> Result<Lists, StepFault>
         requires works { Works self.old }
-        ensures lists { (state self.old).held.tells ≡ true → IfOk result
-            (λ lists. lists.items ≡ lists_from 1 (state self.old).held.users (λ u. ((state self.old).held.stores u).files)) }
+        ensures lists { (state self.old).held.tells ≡ true → IfOk result (λ lists. lists.own.items
+            ≡ lists_from 1 (state self.old).held.users (λ u. ((state self.old).held.stores u).files)) }
+        ensures common { (state self.old).held.tells ≡ true
+            → IfOk result (λ lists. lists.common ≡ ((state self.old).held.stores 0).files) }
         ensures calls { (state self.new).calls ≡ (state self.old).calls }
         ensures faults { (state self.new).faults ≡ (state self.old).faults }
         ensures keeps { Keeps self.old self.new }

@@ -1,13 +1,13 @@
 //! Cores beside directories.
 ghost use Rattle.std.specs.Prelude.{◌≡◌};
 
-use crate::backing::Backing;
+use crate::backing::{Backing, Made};
 use crate::cores::Cores;
-use ctss_types::{FileList, Reply, StepFault, UserNo};
-use directories::Directories;
+use ctss_types::{CommonOp, StepFault, UserNo};
+use directories::{Directories, Lists};
 use image_map::{DrumFault, Plan};
 use std::alloc::Global;
-use user_session::{Session, Step, Turn};
+use user_session::{Session, Turn};
 
 /// What lies behind users' sessions: the cores of their programs, and their directories.
 #[derive(Drop)]
@@ -70,22 +70,25 @@ impl<C: Cores + Drop, P: Directories + Drop> Backing for Behind<C, P> {
         self.cores.turn(user, session, &mut self.files, now)
     }
 
-    fn take_reply(
+    fn share(
         &mut self,
         user: UserNo,
         session: &mut Session,
-        reply: &Reply,
+        op: &CommonOp,
         now: u64,
-    ) -> Result<Step, StepFault> {
-        self.cores
-            .take_reply(user, session, &mut self.files, reply, now)
+    ) -> Result<Made, StepFault> {
+        let reply = self.files.share(op)?;
+        let step = self
+            .cores
+            .take_reply(user, session, &mut self.files, &reply, now)?;
+        Ok(Made { step, reply })
     }
 
     fn advance(&mut self, user: UserNo, session: &mut Session, most: u64) -> u64 {
         self.cores.advance(user, session, most)
     }
 
-    fn take_lists(&mut self, alloc: Global) -> Result<Vec<FileList>, StepFault> {
+    fn take_lists(&mut self, alloc: Global) -> Result<Lists, StepFault> {
         self.files.take_lists(alloc)
     }
 

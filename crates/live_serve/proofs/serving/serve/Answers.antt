@@ -10,7 +10,7 @@ use Rattle.system_model.specs.Record.{record_from}
 use Rattle.user_cores.specs.Backing.{back_of}
 use Rattle.user_cores.specs.Works.{cores_in}
 use Rattle.supervisor.specs.Seen.{Bare, run_with, record_so_far, without_files}
-use Rattle.supervisor.specs.Whole.{whole_of}
+use Rattle.supervisor.specs.Whole.{whole_of, Agrees}
 use Rattle.console_link.specs.Links.{Did, DidOpen}
 use Rattle.console_server.specs.declared.fault.ServeFault.TheVariants as serve
 use Rattle.live_serve.proofs.Outcomes.{on_ok, if_ok, if_err, rose_as, served_as, stopped}
@@ -61,3 +61,10 @@ returns-in-Drum-clause-served g c =
     (rose_as a.back.faults b.back.faults _ _ (ap (λ (d : DrumState). d.faults) c.in_ok-run.ensures.seen)
     (if_err c.in_ok-talked.talked.ended c.in-Err.fault serve.Drum _ c.in-Err.is c.in-Drum.is c.in_ok-talked.ensures.cause)
     (sym (ap (λ i. (state i).drum.faults) c.into_parts-cores-in-Err.ensures.cores ∙ ap (λ x. (state x.cores).drum.faults) c.into_parts-supervisor.ensures.cores) ∙ search (rules, same)))
+
+pub close-closed-requires-clause-agrees : goal.close-closed-requires-clause-agrees
+close-closed-requires-clause-agrees g c =
+    let is = c.in_ok-talked.talked.core in
+    let sound = on_ok c.in_ok-talked.talked.ended c.in-Ok.field-0 _ c.in-Ok.is c.in_ok-talked.ensures.sound in
+    subst (λ (s : Bare). Agrees (whole_of s (back_of (cores_in (state c.into_parts-supervisor.result.1.cores)) (state_of c.into_parts-supervisor.result.1.files)))) (sym c.into_parts-supervisor.ensures.supervisor)
+    (subst (λ x. Agrees (whole_of is.supervisor (back_of (cores_in (state x.cores)) (state_of x.files)))) (sym c.into_parts-supervisor.ensures.cores) sound.1.agrees)

@@ -41,7 +41,7 @@ returns-in-Ok-clause-ended g c =
     ∙ brought_is u c.in-Ok.plan.dumped c.in-Ok.plan.read c.in-Ok.plan.fresh old dumped read fresh in
     does_brought c.args.v old (seen has.places c.bring.new.self) had has c.requires.user
     (ap not (ap (is_loaded had.places u) (sym size) ∙ c.requires.absent))
-    is (λ t x pos. c.in-Ok.ensures.loads.done.stores x pos) c.in-Ok.ensures.loads.done.tells
+    is (λ t x. c.in-Ok.ensures.loads.done.stores x) c.in-Ok.ensures.loads.done.tells c.in-Ok.ensures.loads.rules.common
 
 pub returns-in-Ok-clause-tied : goal.returns-in-Ok-clause-tied
 returns-in-Ok-clause-tied g c =

@@ -1,4 +1,4 @@
-use Rattle.std.proofs.Common.{ℕ, List, [], refl, sym, ap, subst, ◌∙◌}
+use Rattle.std.proofs.Common.{ℕ, List, refl, sym, ap, subst, ◌∙◌}
 use Rattle.image_map.proofs.Calls.{on_err}
 use Rattle.user_model.specs.User.{User}
 use Rattle.plan_model.specs.Loads.{Places}
@@ -7,7 +7,8 @@ use Rattle.system_model.proofs.SwapLaws.{taken_moves}
 use Rattle.system_model.specs.Joined.{hung_up}
 use Rattle.user_cores.specs.Backing.{Held}
 use Rattle.supervisor.specs.Seen.{seen}
-use Rattle.supervisor.specs.Steps.{IsTied, IsResized}
+use Rattle.supervisor.specs.Steps.{IsTied}
+use Rattle.user_cores.specs.Settles.{IsResized}
 use Rattle.supervisor.proofs.Counting.{counted_same, counted_none}
 use Rattle.supervisor.proofs.Doing.{does_taken}
 use Rattle.supervisor.proofs.Sharing.{stays_same}
@@ -16,7 +17,7 @@ use Rattle.supervisor.proofs.state.State.hear.Goals as goal
 
 pub returns-in_err-cut-clause-err : goal.returns-in_err-cut-clause-err
 returns-in_err-cut-clause-err g c =
-    on_err c.from_residual.result _ (stays_same _ _ _ _ (c.in_err-cut.ensures.err (g.C.Backing.state c.args.cores.now).held.places) (λ t u h. refl) refl)
+    on_err c.from_residual.result _ (stays_same _ _ _ _ (c.in_err-cut.ensures.err (g.C.Backing.state c.args.cores.now).held.places) (λ t u h. refl) refl refl)
 
 pub returns-in_err-cut-clause-tied : goal.returns-in_err-cut-clause-tied
 returns-in_err-cut-clause-tied g c =
@@ -30,8 +31,8 @@ returns-clause-ok g c =
     let left = c.give_up.ensures.left in
     does_taken c.args.e (seen had.places c.args.self.now) (seen has.places c.take_event.new.self) had has c.requires.seat c.requires.held.sound
     (ap (λ (p : Places). seen p c.take_event.new.self) left.places ∙ c.in_ok-cut.ensures.ok had.places)
-    (λ t u h. left.stores t u h ∙ ap (λ (k : ℕ). hung_up k had.stores u) c.in_ok-cut.ensures.cut)
-    left.tells
+    (λ t u. left.stores t u ∙ ap (λ (k : ℕ). hung_up k had.stores u) c.in_ok-cut.ensures.cut)
+    left.tells left.sizes.rules.common
 
 pub returns-clause-tied : goal.returns-clause-tied
 returns-clause-tied g c =

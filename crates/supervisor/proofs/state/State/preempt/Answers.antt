@@ -17,7 +17,7 @@ use Rattle.supervisor.proofs.state.State.preempt.Goals as goal
 
 pub returns-in_err-end_service-clause-err : goal.returns-in_err-end_service-clause-err
 returns-in_err-end_service-clause-err g c =
-    on_err c.from_residual.result _ (stays_same _ _ _ _ (c.in_err-end_service.ensures.err (g.C.Backing.state c.args.cores.now).held.places) (λ t u h. refl) refl)
+    on_err c.from_residual.result _ (stays_same _ _ _ _ (c.in_err-end_service.ensures.err (g.C.Backing.state c.args.cores.now).held.places) (λ t u h. refl) refl refl)
 
 pub returns-in_err-end_service-clause-tied : goal.returns-in_err-end_service-clause-tied
 returns-in_err-end_service-clause-tied g c =
@@ -28,7 +28,7 @@ pub returns-clause-ok : goal.returns-clause-ok
 returns-clause-ok g c =
     let had : Held = (g.C.Backing.state c.args.cores.now).held in
     let old : Run = seen had.places c.args.self.now in
-    does_apart (served Preempt c.args.v) old (seen had.places c.end_service.new.self) had had (c.in_ok-end_service.ensures.ok had.places) (λ w. served_joined w Preempt c.args.v old) (λ t u h. refl) refl
+    does_apart (served Preempt c.args.v) old (seen had.places c.end_service.new.self) had had (c.in_ok-end_service.ensures.ok had.places) (λ w. served_joined w Preempt c.args.v old) (λ t u. refl) refl refl
 
 pub returns-clause-tied : goal.returns-clause-tied
 returns-clause-tied g c =

@@ -16,7 +16,7 @@ pub returns-clause-does : goal.returns-clause-does
 returns-clause-does g c =
     let had : Held = (g.C.Backing.state c.args.cores.now).held in
     let old : Run = seen had.places c.args.self.now in
-    does_apart (idled c.args.limit) old (seen had.places c.idle.new.self) had had (c.idle.ensures had.places) (λ w. idled_joined w c.args.limit old) (λ t u h. refl) refl
+    does_apart (idled c.args.limit) old (seen had.places c.idle.new.self) had had (c.idle.ensures had.places) (λ w. idled_joined w c.args.limit old) (λ t u. refl) refl refl
 
 pub returns-clause-tied : goal.returns-clause-tied
 returns-clause-tied g c =

@@ -1,9 +1,8 @@
 use Rattle.std.proofs.Common.{◌≡◌, ◌≢◌, ◌<◌, ◌≤◌, ◌-◌, ◌*◌, ℕ, Bool, true, not, List, [], None, length, set, refl, sym, ap, subst, ◌∙◌, arith, inl}
 use Rattle.std.proofs.lemmas.List.{get_or_default, set-get_or}
-use Rattle.ctss_types.specs.declared.file.FileBody.{FileBody}
 use Rattle.user_model.specs.Session.{nobody}
 use Rattle.user_model.specs.Inner.{Stored, blocks_of}
-use Rattle.user_model.specs.User.{User, can_step, asks_common, in_store, store_after, IsStep}
+use Rattle.user_model.specs.User.{User, can_step, in_store, store_after, IsStep}
 use Rattle.time_sharing.specs.Machine.{Ending, Went, Done}
 use Rattle.user_session.specs.Stores.{stored, Over, IsToMake}
 use Rattle.user_session.specs.Turns.{IsTurn}
@@ -17,7 +16,8 @@ use Rattle.system_model.proofs.JoinedLaws.{stepped_is}
 use Rattle.system_model.proofs.SwapLaws.{waited_moves, counted_moves}
 use Rattle.user_cores.specs.Backing.{BackState, Held}
 use Rattle.supervisor.specs.Seen.{seen}
-use Rattle.supervisor.specs.Steps.{IsTied, IsResized, settled, with_files}
+use Rattle.supervisor.specs.Steps.{IsTied}
+use Rattle.user_cores.specs.Settles.{IsResized, settled}
 use Rattle.supervisor.proofs.Counting.{counted_none}
 use Rattle.supervisor.proofs.Doing.{does_from, does_waited, does_stepped}
 use Rattle.supervisor.proofs.Sharing.{stays_from, words_stay, same_store}
@@ -89,7 +89,7 @@ returns-in-Ok-Waits-clause-ended g c =
     does_waited c.args.v old (seen has.places c.count_wait.new.self) had has first c.requires.user
     (ap not (ap (is_loaded had.places u) (sym (c.requires.held.tied.has u c.requires.user.some c.requires.user.within)) ∙ c.requires.loaded))
     (ap (λ (p : User). can_step (in_store first p)) same ∙ over.does.cannot)
-    is was (words_stay c.of-user.result (g.C.Backing.state c.args.cores.now) (g.C.Backing.state c.turn.new.self) worked stay) worked.rest.tells
+    is was (words_stay c.of-user.result (g.C.Backing.state c.args.cores.now) (g.C.Backing.state c.turn.new.self) worked stay) worked.rest.tells worked.rest.rules.common
 
 pub returns-in-Ok-Waits-clause-tied : goal.returns-in-Ok-Waits-clause-tied
 returns-in-Ok-Waits-clause-tied g c =
@@ -143,10 +143,10 @@ returns-in-Ok-Done-clause-ended g c =
     let blocks : c.blocks-blocks.result ≡ blocks_of p.inner = c.blocks-blocks.ensures.value in
     let places : has.places ≡ places_after t u (blocks_of p.inner) had.places =
     c.settle.ensures.settled.places ∙ (λ j. places_after t (c.of-user.ensures j) (blocks j) (worked.places j)) in
-    let is : seen has.places c.count_step.new.self ≡ stepped_to c.args.v p t asked None old =
+    let is : seen has.places c.count_step.new.self ≡ stepped_to c.args.v p t asked [] old =
     ap (at_places has.places) (c.count_step.ensures had.places)
     ∙ (λ j. at_places (places j) (counted c.args.v t asked [] (with_users old (with_user u p users) (c.reserve.ensures.items j))))
-    ∙ stepped_is c.args.v p t asked None old c.requires.user in
+    ∙ stepped_is c.args.v p t asked [] old c.requires.user in
     let size : t ≡ Went → length after.core ≡ 256 * blocks_of p.inner = λ went.
     worked.len
     ∙ ap (λ (n : ℕ). 256 * n) (ap (size_of had.sizes) c.of-user.ensures ∙ c.requires.held.tied.has u c.requires.user.some c.requires.user.within ∙ sym (went_size _ _ _ _ _ _ _ _ _ says went)) in
@@ -157,11 +157,12 @@ returns-in-Ok-Done-clause-ended g c =
     ∙ (λ j. record { core = settled t (blocks j) (worked.mine told j).core; files = (worked.mine told j).files })
     ∙ (λ j. record { core = settled_is t (blocks_of p.inner) after.core size j; files = after.files })
     ∙ ap (store_after t (blocks_of p.inner)) (sym (told_store tells over.has after (worked.disk told) over.now)) in
-    let others : (x : ℕ) → 1 ≤ x → x ≢ u → has.stores x ≡ had.stores x = λ x pos n.
-    c.settle.ensures.settled.others x pos (λ e. n (e ∙ c.of-user.ensures)) ∙ worked.rest.others x pos (λ e. n (e ∙ c.of-user.ensures)) in
-    does_stepped c.args.v p t asked None Done old (seen has.places c.count_step.new.self) had has first last c.requires.user
+    let others : (x : ℕ) → x ≢ u → has.stores x ≡ had.stores x = λ x n.
+    c.settle.ensures.settled.others x (λ e. n (e ∙ c.of-user.ensures)) ∙ worked.rest.others x (omega arith) (λ e. n (e ∙ c.of-user.ensures)) in
+    does_stepped c.args.v p t asked None Done old (seen has.places c.count_step.new.self) had has first last (had.stores 0) (had.stores 0) c.requires.user
     (ap not (ap (is_loaded had.places u) (sym (c.requires.held.tied.has u c.requires.user.some c.requires.user.within)) ∙ c.requires.loaded))
-    says refl is was mine others (c.settle.ensures.settled.tells ∙ worked.rest.tells)
+    says refl refl is was (λ told. refl) mine (λ told. others 0 (λ e. (let k = c.requires.user.some in omega (arith, e, k)))) (λ x pos n. others x n)
+    (c.settle.ensures.settled.tells ∙ worked.rest.tells) (c.settle.ensures.settled.sizes.rules.common ∙ worked.rest.rules.common)
 
 pub returns-in-Ok-Done-clause-tied : goal.returns-in-Ok-Done-clause-tied
 returns-in-Ok-Done-clause-tied g c =
@@ -217,8 +218,8 @@ returns-in-Ok-Asks-clause-ended g c =
     let words = words_stay c.of-user.result was now worked stay in
     let kept : was.disk_faults ≤ now.disk_faults = c.in-Ok-Asks.ensures.kept in
     ends_map c.share.result _ _ _ _ _ _ _ _
-    (does_from (attended c.args.v) old mid new was.held end.held now.held is words worked.rest.tells)
-    (stays_from old mid new was.held now.held end.held is words worked.rest.tells)
+    (does_from (attended c.args.v) old mid new was.held end.held now.held is words worked.rest.tells worked.rest.rules.common)
+    (stays_from old mid new was.held now.held end.held is words worked.rest.tells worked.rest.rules.common)
     (λ h. absurd h.2)
-    (λ h. (h.0 ∙ ap (with_files new.system.files) is, rose_on was.disk_faults now.disk_faults end.disk_faults kept h.1))
+    (λ h. (h.0 ∙ is, rose_on was.disk_faults now.disk_faults end.disk_faults kept h.1))
     c.share.ensures.ended

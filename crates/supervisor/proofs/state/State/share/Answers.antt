@@ -7,7 +7,8 @@ use Rattle.user_model.specs.Inner.{Stored, blocks_of}
 use Rattle.user_model.specs.User.{User, store_after, IsStep}
 use Rattle.time_sharing.specs.Machine.{Ending, Went}
 use Rattle.time_sharing.specs.System.{common_entry}
-use Rattle.user_session.specs.Stores.{stored, IsToMake}
+use Rattle.user_session.specs.Stores.{stored}
+use Rattle.file_model.specs.Commons.{reply_to, files_after}
 use Rattle.plan_model.specs.Loads.{is_loaded}
 use Rattle.plan_model.specs.Plan.{places_after}
 use Rattle.image_map.specs.Images.{size_of}
@@ -18,12 +19,12 @@ use Rattle.system_model.proofs.JoinedLaws.{stepped_is}
 use Rattle.system_model.proofs.SwapLaws.{counted_moves}
 use Rattle.user_cores.specs.Backing.{Held}
 use Rattle.supervisor.specs.Seen.{seen}
-use Rattle.supervisor.specs.Steps.{IsTied, IsResized, settled}
+use Rattle.supervisor.specs.Steps.{IsTied}
+use Rattle.user_cores.specs.Settles.{IsResized, settled}
 use Rattle.supervisor.proofs.Counting.{counted_none}
 use Rattle.supervisor.proofs.Doing.{does_stepped}
-use Rattle.supervisor.proofs.Sharing.{shared}
 use Rattle.supervisor.proofs.Tied.{tied_with}
-use Rattle.supervisor.proofs.Serving.{went_size, settled_is, resized_from, counted_users, told_store}
+use Rattle.supervisor.proofs.Serving.{went_size, settled_is, resized_from, counted_users, with_users, told_store}
 use Rattle.supervisor.proofs.state.State.share.Goals as goal
 
 pub settle-requires-clause-same : goal.settle-requires-clause-same
@@ -33,94 +34,101 @@ settle-requires-clause-same g c = λ went.
     let u : ℕ = c.args.v.user in
     let within : u - 1 < length users = omega (arith, c.requires.user.some, c.requires.user.within) in
     let same : user_at u users ≡ c.index_mut-session.result.now = get_or_default users (u - 1) nobody c.index_mut-session.result.now within ∙ sym c.index_mut-session.ensures.value in
-    let tells : Bool = (g.C.Backing.state c.args.cores.now).disk_tells in
-    let w : ℕ → Stored = (g.C.Backing.state c.args.cores.now).window in
-    let makes : IsToMake tells (w c.of-user.result) c.args.op c.index_mut-session.result.now =
-    subst (λ (q : User). IsToMake tells (w c.of-user.result) c.args.op q) same (subst (λ (k : ℕ). IsToMake tells (w k) c.args.op (user_at u users)) (sym c.of-user.ensures) c.requires.makes) in
-    let over = c.in-Ok-take_reply.ensures.step c.args.op makes in
-    let worked = c.in-Ok-take_reply.ensures.worked (λ e. cc) in
-    ap (λ (s : List ℕ). size_of s c.of-user.result) worked.sizes
+    let over = c.in-Ok.ensures.shared.step in
+    ap (λ (s : List ℕ). size_of s c.of-user.result) c.in-Ok.ensures.worked.sizes
     ∙ ap (size_of had.sizes) c.of-user.ensures
     ∙ c.requires.held.tied.has u c.requires.user.some c.requires.user.within
     ∙ ap (λ (p : User). blocks_of p.inner) same
     ∙ sym (went_size _ _ _ _ _ _ _ _ _ over.does went)
     ∙ sym c.blocks-blocks.ensures.value
 
-pub returns-in-Ok-take_reply-clause-ended : goal.returns-in-Ok-take_reply-clause-ended
-returns-in-Ok-take_reply-clause-ended g c =
+pub returns-in-Ok-clause-ended : goal.returns-in-Ok-clause-ended
+returns-in-Ok-clause-ended g c =
     let had : Held = (g.C.Backing.state c.args.cores.now).held in
-    let has : Held = (g.C.Backing.state c.settle.new.cores).held in
-    let old : Run = seen had.places c.args.self.now in
-    let p : User = c.take_reply.new.session in
-    let t : Ending = c.in-Ok-take_reply.step.ending in
-    let asked : Bool = c.in-Ok-take_reply.step.clock in
-    let made : Option CommonOp = Some c.args.op in
-    let reply : Reply = c.in-Ok.reply in
     let users : List User = c.args.self.now.sessions.items in
     let u : ℕ = c.args.v.user in
     let within : u - 1 < length users = omega (arith, c.requires.user.some, c.requires.user.within) in
     let same : user_at u users ≡ c.index_mut-session.result.now = get_or_default users (u - 1) nobody c.index_mut-session.result.now within ∙ sym c.index_mut-session.ensures.value in
+    let mid : Held = (g.C.Backing.state c.share.new.self).held in
+    let has : Held = (g.C.Backing.state c.settle.new.cores).held in
+    let old : Run = seen had.places c.args.self.now in
+    let p : User = c.share.new.session in
+    let t : Ending = c.in-Ok.field-0.step.ending in
+    let asked : Bool = c.in-Ok.field-0.step.clock in
+    let made : Option CommonOp = Some c.args.op in
+    let reply : Reply = c.in-Ok.field-0.reply in
     let tells : Bool = (g.C.Backing.state c.args.cores.now).disk_tells in
-    let w : ℕ → Stored = (g.C.Backing.state c.args.cores.now).window in
-    let makes : IsToMake tells (w c.of-user.result) c.args.op c.index_mut-session.result.now =
-    subst (λ (q : User). IsToMake tells (w c.of-user.result) c.args.op q) same (subst (λ (k : ℕ). IsToMake tells (w k) c.args.op (user_at u users)) (sym c.of-user.ensures) c.requires.makes) in
-    let over = c.in-Ok-take_reply.ensures.step c.args.op makes in
-    let worked = c.in-Ok-take_reply.ensures.worked (λ e. cc) in
-    let after : Stored = (g.C.Backing.state c.take_reply.new.self).window c.of-user.result in
-    let first : Stored = stored (w c.of-user.result).core over.had in
+    let w : Stored = (g.C.Backing.state c.args.cores.now).window c.of-user.result in
+    let after : Stored = (g.C.Backing.state c.share.new.self).window c.of-user.result in
+    let over = c.in-Ok.ensures.shared.step in
+    let applied = c.in-Ok.ensures.shared.common in
+    let worked = c.in-Ok.ensures.worked in
+    let first : Stored = stored w.core over.had in
     let last : Stored = stored after.core over.has in
+    let quota : had.common ≡ old.common = c.requires.held.common in
+    let common_first : Stored = stored (had.stores 0).core applied.files in
+    let common_last : Stored = stored (mid.stores 0).core (files_after had.common applied.files c.args.op) in
     let says : IsStep t asked made c.args.self.now.clock reply (user_at u users) p first last =
     subst (λ (q : User). IsStep t asked made c.args.self.now.clock reply q p first last) (sym same) over.does in
     let blocks : c.blocks-blocks.result ≡ blocks_of p.inner = c.blocks-blocks.ensures.value in
     let places : has.places ≡ places_after t u (blocks_of p.inner) had.places =
     c.settle.ensures.settled.places ∙ (λ j. places_after t (c.of-user.ensures j) (blocks j) (worked.places j)) in
-    let is : seen has.places c.count_step.new.self ≡ stepped_to c.args.v p t asked made old =
+    let is : seen has.places c.count_step.new.self ≡ stepped_to c.args.v p t asked (common_entry made u reply) old =
     ap (at_places has.places) (c.count_step.ensures had.places)
-    ∙ (λ j. at_places (places j) (counted c.args.v t asked (common_entry made u (c.in-Ok.ensures.reply j)) (shared had.places (with_user u p users) (c.in-Ok.ensures.done j).quota (c.in-Ok.ensures.done j).files old)))
-    ∙ stepped_is c.args.v p t asked made old c.requires.user in
+    ∙ (λ j. at_places (places j) (counted c.args.v t asked (common_entry made u reply) (with_users old (with_user u p users) old.system.entries)))
+    ∙ stepped_is c.args.v p t asked (common_entry made u reply) old c.requires.user in
     let size : t ≡ Went → length after.core ≡ 256 * blocks_of p.inner = λ went.
     worked.len
     ∙ ap (λ (n : ℕ). 256 * n) (ap (size_of had.sizes) c.of-user.ensures ∙ c.requires.held.tied.has u c.requires.user.some c.requires.user.within ∙ sym (went_size _ _ _ _ _ _ _ _ _ says went)) in
     let was : had.tells ≡ true → had.stores u ≡ first = λ told.
-    ap had.stores (sym c.of-user.ensures) ∙ worked.was told ∙ sym (told_store tells over.had (w c.of-user.result) (worked.disk told) over.was) in
+    ap had.stores (sym c.of-user.ensures) ∙ worked.was told ∙ sym (told_store tells over.had w (worked.disk told) over.was) in
     let mine : had.tells ≡ true → has.stores u ≡ store_after t (blocks_of p.inner) last = λ told.
     ap has.stores (sym c.of-user.ensures) ∙ c.settle.ensures.settled.mine (worked.rest.tells ∙ told)
     ∙ (λ j. record { core = settled t (blocks j) (worked.mine told j).core; files = (worked.mine told j).files })
     ∙ (λ j. record { core = settled_is t (blocks_of p.inner) after.core size j; files = after.files })
     ∙ ap (store_after t (blocks_of p.inner)) (sym (told_store tells over.has after (worked.disk told) over.now)) in
     let others : (x : ℕ) → 1 ≤ x → x ≢ u → has.stores x ≡ had.stores x = λ x pos n.
-    c.settle.ensures.settled.others x pos (λ e. n (e ∙ c.of-user.ensures)) ∙ worked.rest.others x pos (λ e. n (e ∙ c.of-user.ensures)) in
-    does_stepped c.args.v p t asked made reply old (seen has.places c.count_step.new.self) had has first last c.requires.user
+    c.settle.ensures.settled.others x (λ e. n (e ∙ c.of-user.ensures)) ∙ worked.rest.others x pos (λ e. n (e ∙ c.of-user.ensures)) in
+    let zero : has.stores 0 ≡ mid.stores 0 =
+    c.settle.ensures.settled.others 0 (λ e. (let a = c.requires.user.some in let b = c.of-user.ensures in omega (arith, a, b, e))) in
+    does_stepped c.args.v p t asked made reply old (seen has.places c.count_step.new.self) had has first last common_first common_last c.requires.user
     (ap not (ap (is_loaded had.places u) (sym (c.requires.held.tied.has u c.requires.user.some c.requires.user.within)) ∙ c.requires.loaded))
-    says c.in-Ok.ensures.reply is was mine others (c.settle.ensures.settled.tells ∙ worked.rest.tells)
+    says
+    (applied.answer ∙ ap (λ (q : ℕ). reply_to q applied.files c.args.op) quota)
+    (ap (λ (q : ℕ). files_after q applied.files c.args.op) quota)
+    is was
+    (λ told. sym (told_store tells applied.files (had.stores 0) (worked.disk told) applied.was))
+    mine
+    (λ told. zero ∙ sym (told_store tells (files_after had.common applied.files c.args.op) (mid.stores 0) (worked.disk told) applied.now))
+    others (c.settle.ensures.settled.tells ∙ worked.rest.tells) (c.settle.ensures.settled.sizes.rules.common ∙ worked.rest.rules.common)
 
-pub returns-in-Ok-take_reply-clause-tied : goal.returns-in-Ok-take_reply-clause-tied
-returns-in-Ok-take_reply-clause-tied g c =
+pub returns-in-Ok-clause-tied : goal.returns-in-Ok-clause-tied
+returns-in-Ok-clause-tied g c =
     let had : Held = (g.C.Backing.state c.args.cores.now).held in
-    let mid : Held = (g.C.Backing.state c.take_reply.new.self).held in
-    let has : Held = (g.C.Backing.state c.settle.new.cores).held in
-    let p : User = c.take_reply.new.session in
     let users : List User = c.args.self.now.sessions.items in
     let u : ℕ = c.args.v.user in
     let within : u - 1 < length users = omega (arith, c.requires.user.some, c.requires.user.within) in
     let same : user_at u users ≡ c.index_mut-session.result.now = get_or_default users (u - 1) nobody c.index_mut-session.result.now within ∙ sym c.index_mut-session.ensures.value in
-    let worked = c.in-Ok-take_reply.ensures.worked (λ e. cc) in
+    let mid : Held = (g.C.Backing.state c.share.new.self).held in
+    let has : Held = (g.C.Backing.state c.settle.new.cores).held in
+    let p : User = c.share.new.session in
+    let worked = c.in-Ok.ensures.worked in
     let resized : IsResized u (blocks_of p.inner) had has =
     resized_from c.of-user.result u c.blocks-blocks.result (blocks_of p.inner) had mid has c.settle.ensures.settled.sizes worked.sizes worked.rest.rules c.of-user.ensures c.blocks-blocks.ensures.value in
-    let are : c.count_step.new.self.sessions.items ≡ with_user u p users = ap (λ (r : Run). r.system.users) (c.count_step.ensures had.places) ∙ counted_users c.args.v c.in-Ok-take_reply.step.ending c.in-Ok-take_reply.step.clock _ _ in
+    let are : c.count_step.new.self.sessions.items ≡ with_user u p users = ap (λ (r : Run). r.system.users) (c.count_step.ensures had.places) ∙ counted_users c.args.v c.in-Ok.field-0.step.ending c.in-Ok.field-0.step.clock _ _ in
     subst (λ (us : List User). IsTied us has) (sym are)
     (tied_with users u u p had has c.requires.user.some c.requires.user.within resized (inl refl)
-    (c.in-Ok-take_reply.ensures.account ∙ ap (λ (q : User). q.inner.account) (sym same)) c.requires.held.tied)
+    (c.in-Ok.ensures.account ∙ ap (λ (q : User). q.inner.account) (sym same)) c.requires.held.tied)
 
-pub returns-in-Ok-take_reply-clause-counted : goal.returns-in-Ok-take_reply-clause-counted
-returns-in-Ok-take_reply-clause-counted g c =
+pub returns-in-Ok-clause-counted : goal.returns-in-Ok-clause-counted
+returns-in-Ok-clause-counted g c =
     let had : Held = (g.C.Backing.state c.args.cores.now).held in
     let old : Run = seen had.places c.args.self.now in
     let u : ℕ = c.args.v.user in
-    let mid : Run = shared had.places (with_user u c.take_reply.new.session c.args.self.now.sessions.items) c.reply_of.new.files.quota c.reply_of.new.files.files old in
-    let t : Ending = c.in-Ok-take_reply.step.ending in
-    let asked : Bool = c.in-Ok-take_reply.step.clock in
-    let worked = c.in-Ok-take_reply.ensures.worked (λ e. cc) in
-    counted_none old (counted c.args.v t asked (common_entry (Some c.args.op) u c.in-Ok.reply) mid) (seen had.places c.count_step.new.self) _ _
+    let mid : Run = with_users old (with_user u c.share.new.session c.args.self.now.sessions.items) old.system.entries in
+    let t : Ending = c.in-Ok.field-0.step.ending in
+    let asked : Bool = c.in-Ok.field-0.step.clock in
+    let worked = c.in-Ok.ensures.worked in
+    counted_none old (counted c.args.v t asked (common_entry (Some c.args.op) u c.in-Ok.field-0.reply) mid) (seen had.places c.count_step.new.self) _ _
     (c.count_step.ensures had.places)
-    (counted_moves c.args.v t asked (Some c.args.op) c.in-Ok.reply mid) (c.settle.ensures.calls ∙ worked.rest.calls)
+    (counted_moves c.args.v t asked (Some c.args.op) c.in-Ok.field-0.reply mid) (c.settle.ensures.calls ∙ worked.rest.calls)

@@ -43,8 +43,8 @@ returns-clause-many g c =
     is
     (λ told. ap had.stores (sym c.of-user.ensures) ∙ c.advance-ticks.ensures.worked.was told)
     (λ told. ap has.stores (sym c.of-user.ensures) ∙ c.advance-ticks.ensures.worked.mine told ∙ (λ j. record { core = after.core; files = c.advance-ticks.ensures.files j }))
-    (λ x pos other. c.advance-ticks.ensures.worked.rest.others x pos (λ e. other (e ∙ c.of-user.ensures)))
-    c.advance-ticks.ensures.worked.rest.tells
+    (λ x other. c.advance-ticks.ensures.worked.rest.others x (omega arith) (λ e. other (e ∙ c.of-user.ensures)))
+    c.advance-ticks.ensures.worked.rest.tells c.advance-ticks.ensures.worked.rest.rules.common
 
 pub returns-clause-tied : goal.returns-clause-tied
 returns-clause-tied g c =

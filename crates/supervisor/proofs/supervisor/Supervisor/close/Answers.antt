@@ -15,15 +15,15 @@ returns-clause-record g c = λ told places.
     let r : Run = run_with places c.args.self in
     let lists : List (List FileBody) = lists_from 1 (length r.system.users) (files_in stores) in
     let is : seen places c.close.new.self ≡ closed r = c.in_ok-close.ensures.ok places ∙ ap (λ (b : Bare). closed (run_with places b)) c.self.view_is in
-    let files : c.from_vec-3.result ≡ lists = c.from_vec-3.ensures ∙ c.in_ok-files.ensures.lists told ∙ ap (λ (n : ℕ). lists_from 1 n (files_in stores)) c.requires.agrees.directories in
+    let files : c.from_vec-3.result ≡ lists = c.from_vec-3.ensures ∙ c.in_ok-lists.ensures.lists told ∙ ap (λ (n : ℕ). lists_from 1 n (files_in stores)) c.requires.agrees.tied.directories in
     (λ j. record {
       entries = c.from_vec.ensures j;
       transcripts = (c.from_vec-2.ensures ∙ c.in_ok-transcripts.ensures) j;
       files = files j;
-      common = c.in_ok-common.ensures j;
+      common = c.in_ok-lists.ensures.common told j;
       clock = c.close.new.self.clock;
     })
-    ∙ ap (record_with lists) is ∙ closed_with stores r
+    ∙ ap (record_with lists (stores 0).files) is ∙ closed_with stores r
 
 pub returns-clause-said : goal.returns-clause-said
 returns-clause-said g c = λ places.
@@ -33,7 +33,7 @@ returns-clause-said g c = λ places.
       entries = c.from_vec.ensures j;
       transcripts = (c.from_vec-2.ensures ∙ c.in_ok-transcripts.ensures) j;
       files = [];
-      common = c.in_ok-common.ensures j;
+      common = [];
       clock = c.close.new.self.clock;
     })
-    ∙ ap (record_with []) (is ∙ sym (closes r))
+    ∙ ap (record_with [] []) (is ∙ sym (closes r))

@@ -8,7 +8,7 @@ use Rattle.supervisor.specs.Seen.{seen}
 use Rattle.supervisor.proofs.Counting.{counted_same, counted_on}
 use Rattle.supervisor.proofs.Doing.{does_fall}
 use Rattle.supervisor.proofs.Serving.{fails_map, fails_both, fails_to, rose_on}
-use Rattle.supervisor.proofs.Running.{sound_places, leads_on, part_on, part_none, run_done, held_on, part_shown, sound_files, sound_still, stops_at_load}
+use Rattle.supervisor.proofs.Running.{sound_places, leads_on, part_on, part_none, run_done, held_on, part_shown, sound_still, stops_at_load}
 use Rattle.supervisor.specs.Steps.{IsHeld}
 use Rattle.supervisor.specs.Shows.{texts_of, rows_of}
 use Rattle.supervisor.proofs.Passing.{pass_leads, pass_part, pass_falls, pass_held, pass_told, pass_texts_lead, pass_texts_part, pass_grow}
@@ -123,7 +123,7 @@ returns-in-Err-clause-sound g c =
     fails_to c.in-Err.fault _ _ _ _
     (λ s. sound_places no_places new (sound_still old new had has held.sound s))
     (λ f. subst Sound (sym f.0) (sound_places no_places old held.sound))
-    (λ d. sound_places no_places new (subst Sound (sym d.0) (sound_files new.system.files old held.sound)))
+    (λ d. sound_places no_places new (subst Sound (sym d.0) held.sound))
     c.in-Err.ensures.ended
 
 pub returns-clause-sound : goal.returns-clause-sound

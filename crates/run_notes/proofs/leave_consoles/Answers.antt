@@ -1,7 +1,7 @@
 use Rattle.std.proofs.Common.{◌<◌, length, ap, set, ◌∙◌, arith}
 use Rattle.std.proofs.lemmas.List.Edits.{map_over_more}
 use Rattle.time_sharing.specs.System.{out_of}
-use Rattle.supervisor.proofs.notes.leave_consoles.Goals as goal
+use Rattle.run_notes.proofs.leave_consoles.Goals as goal
 
 pub loop-i-preserved : goal.loop-i-preserved
 loop-i-preserved c =

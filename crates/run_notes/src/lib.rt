@@ -1,4 +1,7 @@
-//! The entries that a step writes, and small parts of the state.
+//! What a run notes in its schedule, and small parts of its state behind a step: the definitions are those of time_sharing `System` and
+//! system_model `Cases`.
+#![tactic(auto)]
+
 ghost use Rattle.std.specs.Prelude.{◌≡◌, ◌<◌, ◌≤◌, ◌+◌, ◌-◌, ◌^◌, ◌++◌, ◌∷◌, [], vec_len, vec_capacity, option_to_list};
 ghost use Rattle.time_sharing.specs.System.{without, out_of, cause_of as cause_from, clock_entry, service_entry, service_after as service_behind};
 ghost use Rattle.system_model.specs.Cases.{idle_notes, idle_start, stop_notes, not_served, end_notes};
@@ -6,7 +9,7 @@ ghost use Rattle.system_model.specs.Cases.{idle_notes, idle_start, stop_notes, n
 use ctss_types::{Cause, Console, Ending, Entry, Service};
 
 /// An entry more, where there is room.
-pub(crate) fn note(entries: &mut Vec<Entry>, entry: Entry)
+pub fn note(entries: &mut Vec<Entry>, entry: Entry)
     requires { vec_len entries.old < vec_capacity entries.old }
     ensures items { entries.new.items ≡ entries.old.items ++ entry ∷ [] }
     ensures len { vec_len entries.new ≡ vec_len entries.old + 1 }
@@ -16,7 +19,7 @@ pub(crate) fn note(entries: &mut Vec<Entry>, entry: Entry)
 }
 
 /// An entry more, if there is one.
-pub(crate) fn note_some(entries: &mut Vec<Entry>, entry: Option<Entry>)
+pub fn note_some(entries: &mut Vec<Entry>, entry: Option<Entry>)
     requires { vec_len entries.old < vec_capacity entries.old }
     ensures items { entries.new.items ≡ entries.old.items ++ option_to_list entry }
     ensures len { vec_len entries.new ≤ vec_len entries.old + 1 }
@@ -28,7 +31,7 @@ pub(crate) fn note_some(entries: &mut Vec<Entry>, entry: Option<Entry>)
 }
 
 /// The entry for idling that ends now, if nobody was served.
-pub(crate) fn idle_note(idling: Option<u64>, now: u64) -> Option<Entry>
+pub fn idle_note(idling: Option<u64>, now: u64) -> Option<Entry>
     ensures { option_to_list result ≡ idle_notes idling now }
 {
     match idling {
@@ -38,7 +41,7 @@ pub(crate) fn idle_note(idling: Option<u64>, now: u64) -> Option<Entry>
 }
 
 /// The entry for the open service, if it is the user's, which stops.
-pub(crate) fn stop_note(service: Option<Service>, user: u8) -> Option<Entry>
+pub fn stop_note(service: Option<Service>, user: u8) -> Option<Entry>
     ensures { option_to_list result ≡ stop_notes service user }
 {
     match service {
@@ -60,7 +63,7 @@ pub(crate) fn stop_note(service: Option<Service>, user: u8) -> Option<Entry>
 }
 
 /// The entry for a service that is open at the end.
-pub(crate) fn end_note(service: Option<Service>) -> Option<Entry>
+pub fn end_note(service: Option<Service>) -> Option<Entry>
     ensures { option_to_list result ≡ end_notes service }
 {
     match service {
@@ -76,7 +79,7 @@ pub(crate) fn end_note(service: Option<Service>) -> Option<Entry>
 }
 
 /// The entry for an answer of the clock, if it was asked.
-pub(crate) fn note_clock(entries: &mut Vec<Entry>, asked: bool, now: u64, user: u8)
+pub fn note_clock(entries: &mut Vec<Entry>, asked: bool, now: u64, user: u8)
     requires { vec_len entries.old < vec_capacity entries.old }
     ensures items { entries.new.items ≡ entries.old.items ++ clock_entry asked now user }
     ensures len { vec_len entries.new ≤ vec_len entries.old + 1 }
@@ -88,7 +91,7 @@ pub(crate) fn note_clock(entries: &mut Vec<Entry>, asked: bool, now: u64, user: 
 }
 
 /// The entry for a service that ends with its step, if it does.
-pub(crate) fn note_service(entries: &mut Vec<Entry>, v: Service, cause: Option<Cause>)
+pub fn note_service(entries: &mut Vec<Entry>, v: Service, cause: Option<Cause>)
     requires room { vec_len entries.old < vec_capacity entries.old }
     requires ran { v.ran < 2 ^ 64 - 1 }
     ensures { entries.new.items ≡ entries.old.items ++ service_entry v cause }
@@ -108,7 +111,7 @@ pub(crate) fn note_service(entries: &mut Vec<Entry>, v: Service, cause: Option<C
 }
 
 /// The open service, if it isn't the user's.
-pub(crate) fn service_left(service: Option<Service>, user: u8) -> Option<Service>
+pub fn service_left(service: Option<Service>, user: u8) -> Option<Service>
     ensures { result ≡ not_served service user }
 {
     match service {
@@ -118,7 +121,7 @@ pub(crate) fn service_left(service: Option<Service>, user: u8) -> Option<Service
 }
 
 /// The service after a step of it, if it goes on.
-pub(crate) fn service_after(v: Service, cause: Option<Cause>) -> Option<Service>
+pub fn service_after(v: Service, cause: Option<Cause>) -> Option<Service>
     requires { v.ran < 2 ^ 64 - 1 }
     ensures { result ≡ service_behind v cause }
 {
@@ -149,7 +152,7 @@ fn left_console(console: Console, user: u8) -> Console
 }
 
 /// The user's session is over.
-pub(crate) fn leave_consoles(consoles: &mut Vec<Console>, user: u8)
+pub fn leave_consoles(consoles: &mut Vec<Console>, user: u8)
     ensures items { consoles.new.items ≡ without user consoles.old.items }
     ensures len { vec_len consoles.new ≡ vec_len consoles.old }
 {
@@ -159,7 +162,7 @@ pub(crate) fn leave_consoles(consoles: &mut Vec<Console>, user: u8)
 }
 
 /// Since when nobody is served.
-pub(crate) fn idle_from(idling: Option<u64>, now: u64) -> u64
+pub fn idle_from(idling: Option<u64>, now: u64) -> u64
     ensures { result ≡ idle_start idling now }
 {
     match idling {
@@ -169,7 +172,7 @@ pub(crate) fn idle_from(idling: Option<u64>, now: u64) -> u64
 }
 
 /// Why a service ends behind a step, if it does.
-pub(crate) fn cause_of(ending: Ending, left: bool) -> Option<Cause>
+pub fn cause_of(ending: Ending, left: bool) -> Option<Cause>
     ensures { result ≡ cause_from ending left }
 {
     match ending {

@@ -1,6 +1,6 @@
 use Rattle.std.proofs.Common.{◌≡◌, ◌++◌, map, take, drop, vec_len}
 use Rattle.time_sharing.specs.System.{out_of}
-use Rattle.supervisor.proofs.notes.leave_consoles.Given as goal
+use Rattle.run_notes.proofs.leave_consoles.Given as goal
 
 abbrev pub invariant-loop-i : goal.invariant-loop-i
 invariant-loop-i l = record {

@@ -1,10 +1,10 @@
 //! What consoles show of a run.
 ghost use Rattle.std.specs.Prelude.{◌≡◌, false, IfOk};
-ghost use Rattle.text_model.specs.Reading.{IsInRange};
+ghost use Rattle.text_model.specs.Lawful.{IsLawful};
 
 use ctss_types::{ConsoleNo, Script, Timed};
 use live_core::LiveCore;
-use live_run::begin;
+use live_run::{Begun, begin};
 use medium::MemoryMedium;
 use script_read::read_script;
 use std::alloc::Global;
@@ -42,9 +42,9 @@ static SECOND: &[u8] =
     b"PASSWORD\r\nLOGIN REFUSED\r\nPASSWORD\r\nBETA LOGGED IN\r\nQUIT,\r\nPASSWORD\r\nALFA LOGGED IN\r\n";
 
 /// A script that is lawful.
-#[tactic(auto, using(text_model::proofs::InRange::scripts_are_in_range))]
+#[tactic(auto, using(text_model::proofs::LawfulLaws::scripts_are_lawful))]
 fn script_of(rt: &impl Abort, alloc: Global, text: &[u8]) -> Result<Script, Fail>
-    ensures { IfOk result IsInRange }
+    ensures { IfOk result IsLawful }
 {
     match read_script(alloc, text) {
         Ok(script) => Ok(script),
@@ -87,7 +87,11 @@ fn shows<R: LiveCore>(rt: &impl Abort, run: &R, number: u8, from: usize, all: &[
 fn each_console_shows_its_own_in_any_parts(rt: HostRuntime) -> Result<(), Fail> {
     let script = script_of(&rt, rt.alloc(), SCRIPT)?;
     let mut drum = MemoryMedium::new(rt.alloc(), 3840, 256, &[], &[], 0)?;
-    let mut run = begin(rt.alloc(), &script, &mut drum)?;
+    let mut disk = MemoryMedium::new(rt.alloc(), 10000, 432, &[], &[], 0)?;
+    let Begun { mut run, wrote } = begin(rt.alloc(), &script, &mut drum, &mut disk)?;
+    let Ok(()) = wrote else {
+        panic!(rt; "the disk failed");
+    };
     play(&mut run, script.events.as_slice())?;
     // From its beginning, inside a line, at its end, at the end of all, and past it.
     for from in [0, 3, 10, FIRST.len(), 10_000] {

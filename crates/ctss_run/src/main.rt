@@ -1,4 +1,4 @@
-//! The program: the words of its command line, standard input, standard output, a drum in memory and the sockets of this
+//! The program: the words of its command line, standard input, standard output, drum and disk in memory and the sockets of this
 //! machine, handed to the top call.
 #![tactic(auto)]
 
@@ -37,6 +37,9 @@ fn main(rt: HostRuntime) -> ExitCode {
     let Ok(mut drum) = MemoryMedium::new(rt.alloc(), 3840, 256, &[], &[], 0) else {
         return ExitCode::from(8);
     };
+    let Ok(mut disk) = MemoryMedium::new(rt.alloc(), 10000, 432, &[], &[], 0) else {
+        return ExitCode::from(8);
+    };
     let Ok(mut link) = MioLink::new(rt.alloc(), &rt) else {
         return ExitCode::from(8);
     };
@@ -48,6 +51,7 @@ fn main(rt: HostRuntime) -> ExitCode {
         &mut source,
         &mut sink,
         &mut drum,
+        &mut disk,
         &mut link,
     );
     ExitCode::from(outcome.status)

@@ -37,7 +37,7 @@ memory_by_bytes : (mode : Option Mode) (left : Option (List ℕ)) → WhereTold 
 memory_by_bytes None left = always left (IsOneOf 8 (1 ∷ 4 ∷ 8 ∷ [])) refl
 memory_by_bytes (Some Replay) left = told_no_memory left
 memory_by_bytes (Some Dump) left = told_no_memory left
-memory_by_bytes (Some (Load n)) left = always left (IsOneOf 8 (0 ∷ 4 ∷ 5 ∷ 8 ∷ [])) refl
+memory_by_bytes (Some (Load n)) left = always left (IsOneOf 8 (0 ∷ 4 ∷ 5 ∷ 6 ∷ 8 ∷ [])) refl
 memory_by_bytes (Some Asm) left = allowed_no_memory left
 memory_by_bytes (Some (Serve port turns)) left = live_told_no_memory left
 

@@ -17,22 +17,21 @@ use Rattle.text_model.specs.Causes.{cause_number}
 use Rattle.text_model.specs.Words.{mode_of, script_refused}
 use Rattle.text_model.specs.Reading.{script_of, max_bytes}
 use Rattle.script_read.specs.Bases.{base_of}
-use Rattle.system_model.specs.Record.{record_of, EachIsAlone, IsOneList}
+use Rattle.system_model.specs.Record.{EachIsAlone, IsOneList}
 use Rattle.system_model.proofs.AloneLaws.{users_are_alone, commons_are_one}
-use Rattle.supervisor.specs.Counts.{IsCounted}
 use Rattle.live_laws.specs.Parts.{live_script}
 use Rattle.live_serve.specs.Talks.{IsTalk}
 use Rattle.live_serve.specs.declared.ending.Served.{Served}
-use Rattle.live_serve.specs.declared.ending.Served.TheVariants.{Done}
-use Rattle.live_serve.specs.Live.{IsServed, IsLiveRecord, StopsInTurn}
+use Rattle.live_serve.specs.declared.ending.Served.TheVariants.{Done, DrumFailed, DiskFailed}
+use Rattle.live_serve.specs.Live.{IsServed, IsLiveRecord, IsStopped as LiveIsStopped, IsLost as LiveIsLost}
 use Rattle.console_link.specs.Links.{LinkSeen}
-use Rattle.medium.specs.Medium.{CallList}
+use Rattle.live_run.specs.Media.{MediaSeen}
 use Rattle.ctss_top.specs.declared.outcome.Outcome.{Outcome}
-use Rattle.ctss_top.specs.Outcomes.{bare}
+use Rattle.ctss_top.specs.Outcomes.{bare, failed}
 use Rattle.ctss_top.specs.Devices.{DevicesSeen}
-use Rattle.ctss_top.specs.Played.{IsStopped}
+use Rattle.ctss_top.specs.Played.{IsStopped, IsDone, IsLost}
 use Rattle.ctss_top.specs.Modes.{runs_script, reads_script, replays, serves, script_for, Comes, IsSpelled, IsRefused, text_for}
-use Rattle.ctss_top.specs.Top.{IsRun, RunIsStopped, ScriptIsStopped, StopsFor, ScriptIsRefused, OfRefusal, OfRun, IsCutOff, IsSilent, statuses_for, statuses_live}
+use Rattle.ctss_top.specs.Top.{IsRun, RunIsStopped, ScriptIsStopped, StopsFor, RunLosesFiles, ScriptLosesFiles, LosesFor, ScriptIsRefused, OfRefusal, OfRun, IsCutOff, IsSilent, statuses_for, statuses_live}
 
 -- a list with one more behind its first
 one_more_said : (a n rest : Bool) → (a || rest) ≡ true → (a || (n || rest)) ≡ true
@@ -43,8 +42,8 @@ one_more_said false false rest h = h
 refused_status : (status : ℕ) → list_any (nat_eq status) (2 ∷ 4 ∷ 8 ∷ []) ≡ true → list_any (nat_eq status) (2 ∷ 3 ∷ 4 ∷ 8 ∷ []) ≡ true
 refused_status status h = one_more_said (nat_eq status 2) (nat_eq status 3) (list_any (nat_eq status) (4 ∷ 8 ∷ [])) h
 
-done_status : (status : ℕ) → list_any (nat_eq status) (0 ∷ 4 ∷ 5 ∷ 8 ∷ []) ≡ true → list_any (nat_eq status) (0 ∷ 3 ∷ 4 ∷ 5 ∷ 8 ∷ []) ≡ true
-done_status status h = one_more_said (nat_eq status 0) (nat_eq status 3) (list_any (nat_eq status) (4 ∷ 5 ∷ 8 ∷ [])) h
+done_status : (status : ℕ) → list_any (nat_eq status) (0 ∷ 4 ∷ 5 ∷ 6 ∷ 8 ∷ []) ≡ true → list_any (nat_eq status) (0 ∷ 3 ∷ 4 ∷ 5 ∷ 6 ∷ 8 ∷ []) ≡ true
+done_status status h = one_more_said (nat_eq status 0) (nat_eq status 3) (list_any (nat_eq status) (4 ∷ 5 ∷ 6 ∷ 8 ∷ [])) h
 
 too_many : (bytes : List ℕ) → 4194305 ≤ length bytes → nat_le (length bytes) max_bytes ≡ false
 too_many bytes h = grind (arith, nat_tests)
@@ -87,12 +86,12 @@ long_read : (mode : Mode) (left rest : Option (List ℕ)) (bytes : List ℕ) →
 long_read mode left rest bytes size came =
     record { came = came; whole = λ h. absurd (omega (arith, size, h)); refused = long_for mode bytes (omega (arith, size)) }
 
-pub refused_long : (mode : Mode) (old new : DevicesSeen) (o : Outcome) → ShrankBy 4194305 old.input.left new.input.left → o ≡ bare 2 0 8 → new.output.held ≡ after old.output.held (script_refused 0 8) → new.drum ≡ old.drum → new.link ≡ old.link → ScriptIsRefused mode old new o
+pub refused_long : (mode : Mode) (old new : DevicesSeen) (o : Outcome) → ShrankBy 4194305 old.input.left new.input.left → o ≡ bare 2 0 8 → new.output.held ≡ after old.output.held (script_refused 0 8) → new.media ≡ old.media → new.link ≡ old.link → ScriptIsRefused mode old new o
 refused_long mode old new o gone is written drum link =
-    record { bytes = gone.0; refusal = too_long; read = long_read mode old.input.left new.input.left gone.0 gone.1 gone.2; outcome = is; written = written; drum = drum; link = link }
+    record { bytes = gone.0; refusal = too_long; read = long_read mode old.input.left new.input.left gone.0 gone.1 gone.2; outcome = is; written = written; media = drum; link = link }
 
 pub refused_short : (mode : Mode) (old new : DevicesSeen) (o : Outcome) (bytes : List ℕ) (refusal : ScriptRefusal) (number : ℕ) → old.input.left ≡ before bytes new.input.left → IsAtEnd new.input.left → script_for mode bytes ≡ Err refusal
-    → number ≡ cause_number refusal.cause → o ≡ bare 2 refusal.card number → new.output.held ≡ after old.output.held (script_refused refusal.card number) → new.drum ≡ old.drum → new.link ≡ old.link → ScriptIsRefused mode old new o
+    → number ≡ cause_number refusal.cause → o ≡ bare 2 refusal.card number → new.output.held ≡ after old.output.held (script_refused refusal.card number) → new.media ≡ old.media → new.link ≡ old.link → ScriptIsRefused mode old new o
 refused_short mode old new o bytes refusal number came whole refused why is written drum link =
     record {
       bytes = bytes;
@@ -100,13 +99,13 @@ refused_short mode old new o bytes refusal number came whole refused why is writ
       read = record { came = came; whole = λ h. whole; refused = refused };
       outcome = is ∙ ap (bare 2 refusal.card) why;
       written = written ∙ ap (λ (n : ℕ). after old.output.held (script_refused refusal.card n)) why;
-      drum = drum;
+      media = drum;
       link = link;
     }
 
 -- a refusal that was cut off
 cut_refusal : (words : List (List ℕ)) (mode : Mode) → mode_of words ≡ Some mode → reads_script mode ≡ true → (old new : DevicesSeen) (o : Outcome) (bytes : List ℕ) (refusal : ScriptRefusal)
-    → IsRefused mode old.input.left new.input.left bytes refusal → o ≡ bare 4 0 0 → GrewByProperPrefix old.output.held (script_refused refusal.card (cause_number refusal.cause)) new.output.held → new.drum ≡ old.drum → IsCutOff words old new o
+    → IsRefused mode old.input.left new.input.left bytes refusal → o ≡ bare 4 0 0 → GrewByProperPrefix old.output.held (script_refused refusal.card (cause_number refusal.cause)) new.output.held → new.media ≡ old.media → IsCutOff words old new o
 cut_refusal words mode asked reads old new o bytes refusal read is part drum =
     record {
       text = script_refused refusal.card (cause_number refusal.cause);
@@ -117,12 +116,12 @@ cut_refusal words mode asked reads old new o bytes refusal read is part drum =
     }
 
 pub cut_long : (words : List (List ℕ)) (mode : Mode) → mode_of words ≡ Some mode → reads_script mode ≡ true → (old new : DevicesSeen) (o : Outcome)
-    → ShrankBy 4194305 old.input.left new.input.left → o ≡ bare 4 0 0 → GrewByProperPrefix old.output.held (script_refused 0 8) new.output.held → new.drum ≡ old.drum → IsCutOff words old new o
+    → ShrankBy 4194305 old.input.left new.input.left → o ≡ bare 4 0 0 → GrewByProperPrefix old.output.held (script_refused 0 8) new.output.held → new.media ≡ old.media → IsCutOff words old new o
 cut_long words mode asked reads old new o gone is part drum =
     cut_refusal words mode asked reads old new o gone.0 too_long (long_read mode old.input.left new.input.left gone.0 gone.1 gone.2) is part drum
 
 pub cut_short : (words : List (List ℕ)) (mode : Mode) → mode_of words ≡ Some mode → reads_script mode ≡ true → (old new : DevicesSeen) (o : Outcome) (bytes : List ℕ) (refusal : ScriptRefusal) (number : ℕ)
-    → old.input.left ≡ before bytes new.input.left → IsAtEnd new.input.left → script_for mode bytes ≡ Err refusal → number ≡ cause_number refusal.cause → o ≡ bare 4 0 0 → GrewByProperPrefix old.output.held (script_refused refusal.card number) new.output.held → new.drum ≡ old.drum
+    → old.input.left ≡ before bytes new.input.left → IsAtEnd new.input.left → script_for mode bytes ≡ Err refusal → number ≡ cause_number refusal.cause → o ≡ bare 4 0 0 → GrewByProperPrefix old.output.held (script_refused refusal.card number) new.output.held → new.media ≡ old.media
     → IsCutOff words old new o
 cut_short words mode asked reads old new o bytes refusal number came whole refused why is part drum =
     cut_refusal words mode asked reads old new o bytes refusal (record { came = came; whole = λ h. whole; refused = refused }) is
@@ -152,26 +151,27 @@ replays_runs Asm is = is
 replays_runs (Serve port turns) is = refl
 
 pub is_run : (mode : Mode) (old new : DevicesSeen) (o : Outcome) (script : Script) → Comes mode old new script
-    → (old.drum.tells ≡ true → o.run ≡ record_of script) → IsCounted [] o.run.entries old.drum.calls new.drum.calls → (o.card ≡ 0) × (o.cause ≡ 0) → new.output.held ≡ after old.output.held (text_for mode script o.run) → IsRun mode old new o
-is_run mode old new o script comes run counted numbers written =
+    → IsDone script old.media new.media o.run → (o.card ≡ 0) × (o.cause ≡ 0) → new.output.held ≡ after old.output.held (text_for mode script o.run) → IsRun mode old new o
+is_run mode old new o script comes done numbers written =
     record {
       script = script;
       comes = comes;
       written = written;
-      run = run;
-      alone = λ t. subst (EachIsAlone script) (sym (run t)) (users_are_alone script);
-      shared = λ t. subst (IsOneList script) (sym (run t)) (commons_are_one script);
-      counted = counted;
+      run = done.record_is;
+      alone = λ t. subst (EachIsAlone script) (sym (done.record_is t)) (users_are_alone script);
+      shared = λ t. subst (IsOneList script) (sym (done.record_is t)) (commons_are_one script);
+      counted = done.counted;
+      lie = done.lie;
       card = numbers.0;
       cause = numbers.1;
     }
 
 pub cut_run : (words : List (List ℕ)) (mode : Mode) → mode_of words ≡ Some mode → (old new : DevicesSeen) (o : Outcome) (script : Script) → Comes mode old new script
-    → (old.drum.tells ≡ true → o.run ≡ record_of script) → IsCounted [] o.run.entries old.drum.calls new.drum.calls → (o.card ≡ 0) × (o.cause ≡ 0) → GrewByProperPrefix old.output.held (text_for mode script o.run) new.output.held → IsCutOff words old new o
-cut_run words mode asked old new o script comes run counted numbers part =
+    → IsDone script old.media new.media o.run → (o.card ≡ 0) × (o.cause ≡ 0) → GrewByProperPrefix old.output.held (text_for mode script o.run) new.output.held → IsCutOff words old new o
+cut_run words mode asked old new o script comes done numbers part =
     record {
       text = text_for mode script o.run;
-      said = OfRun mode asked script comes run counted refl;
+      said = OfRun mode asked script comes done refl;
       part = part;
       card = numbers.0;
       cause = numbers.1;
@@ -192,12 +192,31 @@ replays_alone Asm is = refl
 replays_alone (Serve port turns) is = sym is
 
 pub is_stopped : (words : List (List ℕ)) (mode : Mode) → serves mode ≡ false → (old new : DevicesSeen) (o : Outcome) (script : Script) → mode_of words ≡ Some mode → Comes mode old new script
-    → new.output.held ≡ old.output.held → (old.drum.tells ≡ true → IsStopped script o.run old.drum.calls new.drum.calls) → (o.card ≡ 0) × (o.cause ≡ 0) → RunIsStopped words old new o
+    → new.output.held ≡ old.output.held → (old.media.tells ≡ true → IsStopped script o.run old.media.drum_calls new.media.drum_calls) → (o.card ≡ 0) × (o.cause ≡ 0) → RunIsStopped words old new o
 is_stopped words mode alone old new o script asked comes silent stopped numbers =
     record {
       mode = mode;
       asked = asked;
       stopped = stops_for mode alone old new o (record { script = script; comes = comes; stopped = stopped });
+      silent = silent;
+      card = numbers.0;
+      cause = numbers.1;
+    }
+
+loses_for : (mode : Mode) → serves mode ≡ false → (old new : DevicesSeen) (o : Outcome) → ScriptLosesFiles mode old new o → LosesFor mode old new o
+loses_for Replay is old new o s = s
+loses_for Dump is old new o s = s
+loses_for (Load n) is old new o s = s
+loses_for Asm is old new o s = s.comes
+loses_for (Serve port turns) is old new o s = cc
+
+pub is_lost : (words : List (List ℕ)) (mode : Mode) → serves mode ≡ false → (old new : DevicesSeen) (o : Outcome) (script : Script) → mode_of words ≡ Some mode → Comes mode old new script
+    → new.output.held ≡ old.output.held → IsLost script old.media new.media o.run → (o.card ≡ 0) × (o.cause ≡ 0) → RunLosesFiles words old new o
+is_lost words mode alone old new o script asked comes silent lost numbers =
+    record {
+      mode = mode;
+      asked = asked;
+      loses = loses_for mode alone old new o (record { script = script; comes = comes; lacks = lost.lacks });
       silent = silent;
       card = numbers.0;
       cause = numbers.1;
@@ -214,31 +233,33 @@ live_by turns base events = live_script base events (1000 * turns)
 comes_live : (port turns : ℕ) (old new : DevicesSeen) (base : Script) (events : List Timed) → IsSpelled (Serve port turns) old.input.left new.input.left base → IsTalk turns events old.link new.link → Comes (Serve port turns) old new (live_by turns base events)
 comes_live port turns old new base events spelled talk = record { base = base; events = events; spelled = spelled; talk = talk; script_is = refl }
 
+done_live : (turns : ℕ) (old new : DevicesSeen) (base : Script) (events : List Timed) (rec run : Record) → IsLiveRecord base turns events old.media new.media rec → run ≡ rec → IsDone (live_by turns base events) old.media new.media run
+done_live turns old new base events rec run live is =
+    subst (IsDone (live_by turns base events) old.media new.media) (sym is) (record { record_is = live.record_is; counted = live.counted; lie = live.lie })
+
 pub live_run : (port turns : ℕ) (old new : DevicesSeen) (o : Outcome) (base : Script) (events : List Timed) (rec : Record) → IsSpelled (Serve port turns) old.input.left new.input.left base
-    → IsLiveRecord base turns events old.drum.tells old.drum.calls new.drum.calls rec → IsTalk turns events old.link new.link → o.run ≡ rec → (o.card ≡ 0) × (o.cause ≡ 0)
+    → IsLiveRecord base turns events old.media new.media rec → IsTalk turns events old.link new.link → o.run ≡ rec → (o.card ≡ 0) × (o.cause ≡ 0)
     → new.output.held ≡ after old.output.held (text_for (Serve port turns) (live_by turns base events) o.run) → IsRun (Serve port turns) old new o
 live_run port turns old new o base events rec spelled live talk is numbers written =
-    is_run (Serve port turns) old new o (live_by turns base events) (comes_live port turns old new base events spelled talk) (λ told. is ∙ live.record_is told)
-    (subst (λ (r : Record). IsCounted [] r.entries old.drum.calls new.drum.calls) (sym is) live.counted) numbers written
+    is_run (Serve port turns) old new o (live_by turns base events) (comes_live port turns old new base events spelled talk) (done_live turns old new base events rec o.run live is) numbers written
 
 pub live_cut : (words : List (List ℕ)) (port turns : ℕ) → mode_of words ≡ Some (Serve port turns) → (old new : DevicesSeen) (o : Outcome) (base : Script) (events : List Timed) (rec : Record) → IsSpelled (Serve port turns) old.input.left new.input.left base
-    → IsLiveRecord base turns events old.drum.tells old.drum.calls new.drum.calls rec → IsTalk turns events old.link new.link → o.run ≡ rec → (o.card ≡ 0) × (o.cause ≡ 0)
+    → IsLiveRecord base turns events old.media new.media rec → IsTalk turns events old.link new.link → o.run ≡ rec → (o.card ≡ 0) × (o.cause ≡ 0)
     → GrewByProperPrefix old.output.held (text_for (Serve port turns) (live_by turns base events) o.run) new.output.held → IsCutOff words old new o
 live_cut words port turns asked old new o base events rec spelled live talk is numbers part =
-    cut_run words (Serve port turns) asked old new o (live_by turns base events) (comes_live port turns old new base events spelled talk) (λ told. is ∙ live.record_is told)
-    (subst (λ (r : Record). IsCounted [] r.entries old.drum.calls new.drum.calls) (sym is) live.counted) numbers part
+    cut_run words (Serve port turns) asked old new o (live_by turns base events) (comes_live port turns old new base events spelled talk) (done_live turns old new base events rec o.run live is) numbers part
 
-pub live_stopped : (words : List (List ℕ)) (port turns : ℕ) → mode_of words ≡ Some (Serve port turns) → (old new : DevicesSeen) (o : Outcome) (base : Script) → IsSpelled (Serve port turns) old.input.left new.input.left base
-    → new.output.held ≡ old.output.held → (old.drum.tells ≡ true → StopsInTurn base turns old.drum.calls new.drum.calls o.run) → (o.card ≡ 0) × (o.cause ≡ 0) → RunIsStopped words old new o
-live_stopped words port turns asked old new o base spelled silent stopped numbers =
-    record {
-      mode = Serve port turns;
-      asked = asked;
-      stopped = record { base = base; spelled = spelled; stopped = stopped };
-      silent = silent;
-      card = numbers.0;
-      cause = numbers.1;
-    }
+pub live_stopped : (words : List (List ℕ)) (port turns : ℕ) → mode_of words ≡ Some (Serve port turns) → (old new : DevicesSeen) (o : Outcome) (base : Script) (rec : Record) → IsSpelled (Serve port turns) old.input.left new.input.left base
+    → new.output.held ≡ old.output.held → LiveIsStopped base turns old.media new.media rec → o ≡ failed 5 rec → RunIsStopped words old new o
+live_stopped words port turns asked old new o base rec spelled silent stopped is =
+    subst (RunIsStopped words old new) (sym is)
+    (record { mode = Serve port turns; asked = asked; stopped = record { base = base; spelled = spelled; stopped = stopped.stopped }; silent = silent; card = refl; cause = refl })
+
+pub live_lost : (words : List (List ℕ)) (port turns : ℕ) → mode_of words ≡ Some (Serve port turns) → (old new : DevicesSeen) (o : Outcome) (base : Script) (rec : Record) → IsSpelled (Serve port turns) old.input.left new.input.left base
+    → new.output.held ≡ old.output.held → LiveIsLost base turns old.media new.media old.link new.link rec → o ≡ failed 6 rec → RunLosesFiles words old new o
+live_lost words port turns asked old new o base rec spelled silent lost is =
+    subst (RunLosesFiles words old new) (sym is)
+    (record { mode = Serve port turns; asked = asked; loses = record { base = base; spelled = spelled; lacks = lost.lacks }; silent = silent; card = refl; cause = refl })
 
 -- what is true of all bytes that came is true of those that were told
 pub of_told : (left rest : Option (List ℕ)) (bytes : List ℕ) (P : List ℕ → Type 0) → left ≡ before bytes rest → IsAtEnd rest → P bytes → WhereTold left P
@@ -275,13 +296,13 @@ told_no_memory left = by_said 8 (λ said. at_8 said) left
 pub allows_refused : (status : ℕ) (bytes : List ℕ) (refusal : ScriptRefusal) → script_of bytes ≡ Err refusal → list_any (nat_eq status) (2 ∷ 4 ∷ 8 ∷ []) ≡ true → Allows status bytes
 allows_refused status bytes refusal refused h = rw refused (refused_status status h)
 
-pub allows_done : (status : ℕ) (bytes : List ℕ) (script : Script) → script_of bytes ≡ Ok script → list_any (nat_eq status) (0 ∷ 4 ∷ 5 ∷ 8 ∷ []) ≡ true → Allows status bytes
+pub allows_done : (status : ℕ) (bytes : List ℕ) (script : Script) → script_of bytes ≡ Ok script → list_any (nat_eq status) (0 ∷ 4 ∷ 5 ∷ 6 ∷ 8 ∷ []) ≡ true → Allows status bytes
 allows_done status bytes script spelled h = rw spelled (done_status status h)
 
 -- the same of a base script
 
-live_status : (status : ℕ) → list_any (nat_eq status) (0 ∷ 4 ∷ 5 ∷ 7 ∷ 8 ∷ []) ≡ true → list_any (nat_eq status) (0 ∷ 3 ∷ 4 ∷ 5 ∷ 7 ∷ 8 ∷ []) ≡ true
-live_status status h = one_more_said (nat_eq status 0) (nat_eq status 3) (list_any (nat_eq status) (4 ∷ 5 ∷ 7 ∷ 8 ∷ [])) h
+live_status : (status : ℕ) → list_any (nat_eq status) (0 ∷ 4 ∷ 5 ∷ 6 ∷ 7 ∷ 8 ∷ []) ≡ true → list_any (nat_eq status) (0 ∷ 3 ∷ 4 ∷ 5 ∷ 6 ∷ 7 ∷ 8 ∷ []) ≡ true
+live_status status h = one_more_said (nat_eq status 0) (nat_eq status 3) (list_any (nat_eq status) (4 ∷ 5 ∷ 6 ∷ 7 ∷ 8 ∷ [])) h
 
 abbrev pub AllowsLive : ℕ → List ℕ → Type 0
 AllowsLive status bytes = list_any (nat_eq status) (statuses_live (base_of bytes)) ≡ true
@@ -311,11 +332,17 @@ live_told_no_memory left = by_base 8 (λ said. at_8 said) left
 pub live_allows_refused : (status : ℕ) (bytes : List ℕ) (refusal : ScriptRefusal) → base_of bytes ≡ Err refusal → list_any (nat_eq status) (2 ∷ 4 ∷ 8 ∷ []) ≡ true → AllowsLive status bytes
 live_allows_refused status bytes refusal refused h = rw refused (refused_status status h)
 
-pub live_allows_done : (status : ℕ) (bytes : List ℕ) (base : Script) → base_of bytes ≡ Ok base → list_any (nat_eq status) (0 ∷ 4 ∷ 5 ∷ 7 ∷ 8 ∷ []) ≡ true → AllowsLive status bytes
+pub live_allows_done : (status : ℕ) (bytes : List ℕ) (base : Script) → base_of bytes ≡ Ok base → list_any (nat_eq status) (0 ∷ 4 ∷ 5 ∷ 6 ∷ 7 ∷ 8 ∷ []) ≡ true → AllowsLive status bytes
 live_allows_done status bytes base spelled h = rw spelled (live_status status h)
 
--- what was served, where all turns were done
+-- what was served, by how it ended
 
-pub all_served : (base : Script) (turns : ℕ) (tells : Bool) (was now : Option CallList) (f g : ℕ) (a b : LinkSeen) (s : Served) (events : List Timed) (rec : Record) → s ≡ Done events rec → IsServed base turns tells was now f g a b s
-    → IsLiveRecord base turns events tells was now rec × IsTalk turns events a b
-all_served base turns tells was now f g a b s events rec is h = subst (λ (x : Served). IsServed base turns tells was now f g a b x) is h
+module _ (base : Script) (turns : ℕ) (was now : MediaSeen) (a b : LinkSeen) (s : Served) (is_served : IsServed base turns was now a b s) where
+  pub all_served : (events : List Timed) (rec : Record) → s ≡ Done events rec → IsLiveRecord base turns events was now rec × IsTalk turns events a b
+  all_served events rec is = subst (λ (x : Served). IsServed base turns was now a b x) is is_served
+
+  pub drum_ended : (rec : Record) → s ≡ DrumFailed rec → LiveIsStopped base turns was now rec
+  drum_ended rec is = subst (λ (x : Served). IsServed base turns was now a b x) is is_served
+
+  pub disk_ended : (rec : Record) → s ≡ DiskFailed rec → LiveIsLost base turns was now a b rec
+  disk_ended rec is = subst (λ (x : Served). IsServed base turns was now a b x) is is_served

@@ -1,10 +1,10 @@
--- claim: what is seen of the input, the output, the drum and the link at one moment.
-use Rattle.std.specs.Prelude.{ℕ, Bool, List, Option, is_some}
-use Rattle.medium.specs.Medium.{CallList}
-use Rattle.medium.specs.declared.medium.Medium.{Ghosts as DrumGhosts}
+-- claim: what is seen of the input, the output, drum and disk, and the link at one moment.
+use Rattle.std.specs.Prelude.{ℕ, List, Option}
+use Rattle.medium.specs.declared.medium.Medium.{Ghosts as MediumGhosts}
 use Rattle.ctss_io.specs.declared.outside.Source.{Ghosts as InputGhosts}
 use Rattle.ctss_io.specs.declared.outside.Sink.{Ghosts as OutputGhosts}
 use Rattle.console_link.specs.Links.{LinkSeen}
+use Rattle.live_run.specs.Media.{MediaSeen, media_seen}
 
 -- the bytes that are left, where told, and how often a read failed
 pub record InputSeen : Type 0 where
@@ -16,16 +16,10 @@ pub record OutputSeen : Type 0 where
   pub held : Option (List ℕ)
   pub faults : ℕ
 
--- whether it tells its records; its calls, where told; and how many of them failed
-pub record DrumSeen : Type 0 where
-  pub tells : Bool
-  pub calls : Option CallList
-  pub faults : ℕ
-
 pub record DevicesSeen : Type 0 where
   pub input : InputSeen
   pub output : OutputSeen
-  pub drum : DrumSeen
+  pub media : MediaSeen
   pub link : LinkSeen
 
 abbrev pub input_seen : {S : Type 0} → InputGhosts S → S → InputSeen
@@ -34,11 +28,8 @@ input_seen g input = record { left = g.left input; faults = g.faults input }
 abbrev pub output_seen : {K : Type 0} → OutputGhosts K → K → OutputSeen
 output_seen g output = record { held = g.held output; faults = g.faults output }
 
-abbrev pub drum_seen : {D : Type 0} → DrumGhosts D → D → DrumSeen
-drum_seen g drum = record { tells = is_some (g.rows drum); calls = g.calls drum; faults = g.faults drum }
+abbrev pub devices : InputSeen → OutputSeen → MediaSeen → LinkSeen → DevicesSeen
+devices input output media link = record { input = input; output = output; media = media; link = link }
 
-abbrev pub devices : InputSeen → OutputSeen → DrumSeen → LinkSeen → DevicesSeen
-devices input output drum link = record { input = input; output = output; drum = drum; link = link }
-
-abbrev pub seen : {S K D : Type 0} → InputGhosts S → OutputGhosts K → DrumGhosts D → S → K → D → LinkSeen → DevicesSeen
-seen s k d input output drum link = devices (input_seen s input) (output_seen k output) (drum_seen d drum) link
+abbrev pub seen : {S K D F : Type 0} → InputGhosts S → OutputGhosts K → MediumGhosts D → MediumGhosts F → S → K → D → F → LinkSeen → DevicesSeen
+seen s k d f input output drum disk link = devices (input_seen s input) (output_seen k output) (media_seen d f drum disk) link

@@ -10,6 +10,9 @@ empty_record = record { entries = []; transcripts = []; files = []; common = [];
 abbrev pub bare : ℕ → ℕ → ℕ → Outcome
 bare status card cause = record { status = status; card = card; cause = cause; run = empty_record }
 
+abbrev pub failed : ℕ → Record → Outcome
+failed status run = record { status = status; card = 0; cause = 0; run = run }
+
 abbrev pub cut_off : Outcome → Outcome
 cut_off o = record { status = 4; card = 0; cause = 0; run = o.run }
 

@@ -18,38 +18,41 @@ use Rattle.supervisor.specs.Counts.{IsCounted}
 use Rattle.ctss_top.specs.declared.outcome.Outcome.{Outcome}
 use Rattle.ctss_top.specs.Outcomes.{empty_record, bare, IsOneOf}
 use Rattle.ctss_top.specs.Devices.{DevicesSeen}
-use Rattle.live_serve.specs.Live.{StopsInTurn}
-use Rattle.ctss_top.specs.Played.{IsStopped}
+use Rattle.file_tracks.specs.Lying.{LieOn}
+use Rattle.live_serve.specs.Live.{StopsInTurn, LacksFiles as LiveLacksFiles}
+use Rattle.ctss_top.specs.Played.{IsStopped, IsDone, LacksFiles}
 use Rattle.ctss_top.specs.Modes.{Comes, IsSpelled, IsRefused, text_for, reads_script, runs_script, serves}
 use Rattle.ctss_top.specs.Asm.{IsTextOfCards, CardsAreRefused, InputIsTooLong, statuses_for_cards}
 
 -- The headline. The script is the one that the mode runs: that of all bytes that came, a made one, or a base with what people did
--- over the link. The text of the run has come to the output. Where the drum tells its records, the run is the script's one record,
--- each account's transcript and files are those of the user's machine alone, and all replies of the common files are those of one
--- list of files. Where it tells its calls, they are just those of the run's loads.
+-- over the link. The text of the run has come to the output. Where drum and disk tell their records, the run is the script's one
+-- record, each account's transcript and files are those of the user's machine alone, and all replies of the common files are those of
+-- one list of files. Where the drum tells its calls, they are just those of the run's loads; where the disk tells its records, each
+-- file of the run lies on tracks of its own.
 pub record IsRun (mode : Mode) (old new : DevicesSeen) (result : Outcome) : Type 0 where
   pub script : Script
   pub comes : Comes mode old new script
   pub written : new.output.held ≡ after old.output.held (text_for mode script result.run)
-  pub run : old.drum.tells ≡ true → result.run ≡ record_of script
-  pub alone : old.drum.tells ≡ true → EachIsAlone script result.run
-  pub shared : old.drum.tells ≡ true → IsOneList script result.run
-  pub counted : IsCounted [] result.run.entries old.drum.calls new.drum.calls
+  pub run : old.media.tells ≡ true → result.run ≡ record_of script
+  pub alone : old.media.tells ≡ true → EachIsAlone script result.run
+  pub shared : old.media.tells ≡ true → IsOneList script result.run
+  pub counted : IsCounted [] result.run.entries old.media.drum_calls new.media.drum_calls
+  pub lie : WhereTold new.media.disk_rows (λ rows. LieOn rows result.run.files result.run.common)
   pub card : result.card ≡ 0
   pub cause : result.cause ≡ 0
 
--- Where the drum tells its records, the run is the record of some whole steps of the script, behind which a user is to be brought into
--- core; where it tells its calls, that load was cut off by the last one.
+-- Where drum and disk tell their records, the run is the record of some whole steps of the script, behind which a user is to be brought
+-- into core; where the drum tells its calls, that load was cut off by the last one.
 pub record ScriptIsStopped (mode : Mode) (old new : DevicesSeen) (result : Outcome) : Type 0 where
   pub script : Script
   pub comes : Comes mode old new script
-  pub stopped : old.drum.tells ≡ true → IsStopped script result.run old.drum.calls new.drum.calls
+  pub stopped : old.media.tells ≡ true → IsStopped script result.run old.media.drum_calls new.media.drum_calls
 
 -- the same of a turn of live consoles
 pub record LiveIsStopped (mode : Mode) (turns : ℕ) (old new : DevicesSeen) (result : Outcome) : Type 0 where
   pub base : Script
   pub spelled : IsSpelled mode old.input.left new.input.left base
-  pub stopped : old.drum.tells ≡ true → StopsInTurn base turns old.drum.calls new.drum.calls result.run
+  pub stopped : old.media.tells ≡ true → StopsInTurn base turns old.media new.media result.run
 
 abbrev pub StopsFor : Mode → DevicesSeen → DevicesSeen → Outcome → Type 0
 StopsFor Replay old new result = ScriptIsStopped Replay old new result
@@ -67,14 +70,42 @@ pub record RunIsStopped (words : List (List ℕ)) (old new : DevicesSeen) (resul
   pub card : result.card ≡ 0
   pub cause : result.cause ≡ 0
 
--- the script that came is refused, and so it was written; no call of the drum or the link was made
+-- The disk failed, and nothing was written: where drum and disk tell their records, the run is a record without files, of some whole
+-- steps of the script or of all.
+pub record ScriptLosesFiles (mode : Mode) (old new : DevicesSeen) (result : Outcome) : Type 0 where
+  pub script : Script
+  pub comes : Comes mode old new script
+  pub lacks : old.media.tells ≡ true → LacksFiles script result.run
+
+-- the same of live consoles
+pub record LiveLosesFiles (mode : Mode) (turns : ℕ) (old new : DevicesSeen) (result : Outcome) : Type 0 where
+  pub base : Script
+  pub spelled : IsSpelled mode old.input.left new.input.left base
+  pub lacks : old.media.tells ≡ true → LiveLacksFiles base turns old.link new.link result.run
+
+abbrev pub LosesFor : Mode → DevicesSeen → DevicesSeen → Outcome → Type 0
+LosesFor Replay old new result = ScriptLosesFiles Replay old new result
+LosesFor Dump old new result = ScriptLosesFiles Dump old new result
+LosesFor (Load n) old new result = ScriptLosesFiles (Load n) old new result
+LosesFor Asm old new result = true ≡ false
+LosesFor (Serve port turns) old new result = LiveLosesFiles (Serve port turns) turns old new result
+
+pub record RunLosesFiles (words : List (List ℕ)) (old new : DevicesSeen) (result : Outcome) : Type 0 where
+  pub mode : Mode
+  pub asked : mode_of words ≡ Some mode
+  pub loses : LosesFor mode old new result
+  pub silent : new.output.held ≡ old.output.held
+  pub card : result.card ≡ 0
+  pub cause : result.cause ≡ 0
+
+-- the script that came is refused, and so it was written; no call of drum, disk or link was made
 pub record ScriptIsRefused (mode : Mode) (old new : DevicesSeen) (result : Outcome) : Type 0 where
   pub bytes : List ℕ
   pub refusal : ScriptRefusal
   pub read : IsRefused mode old.input.left new.input.left bytes refusal
   pub outcome : result ≡ bare 2 refusal.card (cause_number refusal.cause)
   pub written : new.output.held ≡ after old.output.held (script_refused refusal.card (cause_number refusal.cause))
-  pub drum : new.drum ≡ old.drum
+  pub media : new.media ≡ old.media
   pub link : new.link ≡ old.link
 
 -- the words ask for nothing, and so it was written; nothing was read
@@ -89,11 +120,10 @@ pub data IsTextOf (words : List (List ℕ)) (old new : DevicesSeen) (run : Recor
   OfWords : mode_of words ≡ None → new.input ≡ old.input → run ≡ empty_record → text ≡ words_refused
       → IsTextOf words old new run text
   OfRefusal : (mode : Mode) → mode_of words ≡ Some mode → reads_script mode ≡ true → (bytes : List ℕ) (refusal : ScriptRefusal)
-      → IsRefused mode old.input.left new.input.left bytes refusal → new.drum ≡ old.drum → run ≡ empty_record
+      → IsRefused mode old.input.left new.input.left bytes refusal → new.media ≡ old.media → run ≡ empty_record
       → text ≡ script_refused refusal.card (cause_number refusal.cause) → IsTextOf words old new run text
   OfRun : (mode : Mode) → mode_of words ≡ Some mode → (script : Script) → Comes mode old new script
-      → (old.drum.tells ≡ true → run ≡ record_of script) → IsCounted [] run.entries old.drum.calls new.drum.calls
-      → text ≡ text_for mode script run → IsTextOf words old new run text
+      → IsDone script old.media new.media run → text ≡ text_for mode script run → IsTextOf words old new run text
   OfCards : mode_of words ≡ Some Asm → run ≡ empty_record → IsTextOfCards old.input.left new.input.left text
       → IsTextOf words old new run text
 
@@ -105,11 +135,11 @@ pub record IsCutOff (words : List (List ℕ)) (old new : DevicesSeen) (result : 
   pub card : result.card ≡ 0
   pub cause : result.cause ≡ 0
 
--- nothing was written; where reading failed no call of the drum was made
+-- nothing was written; where reading failed no call of drum or disk was made
 pub record IsSilent (status : ℕ) (old new : DevicesSeen) (result : Outcome) : Type 0 where
   pub outcome : result ≡ bare status 0 0
   pub same : new.output.held ≡ old.output.held
-  pub drum : status ≡ 3 → new.drum ≡ old.drum
+  pub media : status ≡ 3 → new.media ≡ old.media
 
 -- the refusals, each with its text
 pub record IsRefusal (words : List (List ℕ)) (old new : DevicesSeen) (result : Outcome) : Type 0 where
@@ -122,7 +152,8 @@ pub record IsRefusal (words : List (List ℕ)) (old new : DevicesSeen) (result :
 pub record HasCause (old new : DevicesSeen) (result : Outcome) : Type 0 where
   pub reading : result.status ≡ 3 → Rose old.input.faults new.input.faults
   pub writing : result.status ≡ 4 → Rose old.output.faults new.output.faults
-  pub drum : result.status ≡ 5 → Rose old.drum.faults new.drum.faults
+  pub drum : result.status ≡ 5 → Rose old.media.drum_faults new.media.drum_faults
+  pub disk : result.status ≡ 6 → Rose old.media.disk_faults new.media.disk_faults
   pub link : result.status ≡ 7 → Rose old.link.faults new.link.faults
 
 -- whether the words ask for the run of a script, and for live consoles
@@ -134,38 +165,38 @@ abbrev pub asks_link : Option Mode → Bool
 asks_link None = false
 asks_link (Some mode) = serves mode
 
--- the drum and the link are as they were, none of their calls was made, where the words don't ask for them
+-- drum, disk and link are as they were, none of their calls was made, where the words don't ask for them
 pub record LeavesUnasked (words : List (List ℕ)) (old new : DevicesSeen) : Type 0 where
-  pub drum : asks_run (mode_of words) ≡ false → new.drum ≡ old.drum
+  pub media : asks_run (mode_of words) ≡ false → new.media ≡ old.media
   pub link : asks_link (mode_of words) ≡ false → new.link ≡ old.link
 
 -- which statuses there can be where the bytes spell a script, or are refused
 abbrev pub statuses_for : Result Script ScriptRefusal → List ℕ
 statuses_for (Err refusal) = 2 ∷ 3 ∷ 4 ∷ 8 ∷ []
-statuses_for (Ok script) = 0 ∷ 3 ∷ 4 ∷ 5 ∷ 8 ∷ []
+statuses_for (Ok script) = 0 ∷ 3 ∷ 4 ∷ 5 ∷ 6 ∷ 8 ∷ []
 
 -- the same for a base script
 abbrev pub statuses_live : Result Script ScriptRefusal → List ℕ
 statuses_live (Err refusal) = 2 ∷ 3 ∷ 4 ∷ 8 ∷ []
-statuses_live (Ok base) = 0 ∷ 3 ∷ 4 ∷ 5 ∷ 7 ∷ 8 ∷ []
+statuses_live (Ok base) = 0 ∷ 3 ∷ 4 ∷ 5 ∷ 6 ∷ 7 ∷ 8 ∷ []
 
 -- which statuses there can be, for what the words ask and all bytes that are left
 abbrev pub statuses_of : Option Mode → List ℕ → List ℕ
 statuses_of None bytes = 1 ∷ 4 ∷ 8 ∷ []
 statuses_of (Some Replay) bytes = statuses_for (script_of bytes)
 statuses_of (Some Dump) bytes = statuses_for (script_of bytes)
-statuses_of (Some (Load n)) bytes = 0 ∷ 4 ∷ 5 ∷ 8 ∷ []
+statuses_of (Some (Load n)) bytes = 0 ∷ 4 ∷ 5 ∷ 6 ∷ 8 ∷ []
 statuses_of (Some Asm) bytes = statuses_for_cards bytes
 statuses_of (Some (Serve port turns)) bytes = statuses_live (base_of bytes)
 
 -- the same for what the words ask, whatever the bytes
 abbrev pub statuses_asked : Option Mode → List ℕ
 statuses_asked None = 1 ∷ 4 ∷ 8 ∷ []
-statuses_asked (Some Replay) = 0 ∷ 2 ∷ 3 ∷ 4 ∷ 5 ∷ 8 ∷ []
-statuses_asked (Some Dump) = 0 ∷ 2 ∷ 3 ∷ 4 ∷ 5 ∷ 8 ∷ []
-statuses_asked (Some (Load n)) = 0 ∷ 4 ∷ 5 ∷ 8 ∷ []
+statuses_asked (Some Replay) = 0 ∷ 2 ∷ 3 ∷ 4 ∷ 5 ∷ 6 ∷ 8 ∷ []
+statuses_asked (Some Dump) = 0 ∷ 2 ∷ 3 ∷ 4 ∷ 5 ∷ 6 ∷ 8 ∷ []
+statuses_asked (Some (Load n)) = 0 ∷ 4 ∷ 5 ∷ 6 ∷ 8 ∷ []
 statuses_asked (Some Asm) = 0 ∷ 2 ∷ 3 ∷ 4 ∷ 8 ∷ 9 ∷ []
-statuses_asked (Some (Serve port turns)) = 0 ∷ 2 ∷ 3 ∷ 4 ∷ 5 ∷ 7 ∷ 8 ∷ []
+statuses_asked (Some (Serve port turns)) = 0 ∷ 2 ∷ 3 ∷ 4 ∷ 5 ∷ 6 ∷ 7 ∷ 8 ∷ []
 
 -- no other status comes than those that the words allow and, where the bytes are told, these
 pub record IsAllowed (words : List (List ℕ)) (old : DevicesSeen) (result : Outcome) : Type 0 where

@@ -11,7 +11,8 @@ ghost use Rattle.text_model.specs.Words.{fault_line, faults_text};
 ghost use Rattle.fap_model.specs.Decks.{deck};
 ghost use Rattle.console_link.specs.Links.{LinkSeen};
 ghost use Rattle.ctss_top.specs.Outcomes.{bare, IsOneOf};
-ghost use Rattle.ctss_top.specs.Devices.{DrumSeen, input_seen, output_seen, devices};
+ghost use Rattle.live_run.specs.Media.{MediaSeen};
+ghost use Rattle.ctss_top.specs.Devices.{input_seen, output_seen, devices};
 ghost use Rattle.ctss_top.specs.Top.{IsSilent};
 ghost use Rattle.ctss_top.specs.Asm.{assembled_from, IsDeckOf, AreFaultsOf, DeckIsWritten, CardsAreRefused, InputIsTooLong};
 ghost use Rattle.ctss_top.specs.Asm.{IsCutOfCards, CardsAreCutOff, statuses_by, statuses_for_cards};
@@ -128,24 +129,24 @@ fn write_assembled<K: Sink>(alloc: Global, bytes: &[u8], sink: &mut K) -> Outcom
 /// Cards are read, assembled, and their deck or their faults are written.
 pub(crate) fn asm<S: Source, K: Sink>(alloc: Global, cards: &mut S, sink: &mut K) -> Outcome
     ensures status { IsOneOf result.status (0 ∷ 2 ∷ 3 ∷ 4 ∷ 8 ∷ 9 ∷ []) }
-    ensures deck { (drum : DrumSeen) (link : LinkSeen) → result.status ≡ 0
-        → DeckIsWritten (devices (input_seen S.Source cards.old) (output_seen K.Sink sink.old) drum link)
-        (devices (input_seen S.Source cards.new) (output_seen K.Sink sink.new) drum link) result }
-    ensures faults { (drum : DrumSeen) (link : LinkSeen) → result.status ≡ 9
-        → CardsAreRefused (devices (input_seen S.Source cards.old) (output_seen K.Sink sink.old) drum link)
-        (devices (input_seen S.Source cards.new) (output_seen K.Sink sink.new) drum link) result }
-    ensures long { (drum : DrumSeen) (link : LinkSeen) → result.status ≡ 2
-        → InputIsTooLong (devices (input_seen S.Source cards.old) (output_seen K.Sink sink.old) drum link)
-        (devices (input_seen S.Source cards.new) (output_seen K.Sink sink.new) drum link) result }
+    ensures deck { (media : MediaSeen) (link : LinkSeen) → result.status ≡ 0
+        → DeckIsWritten (devices (input_seen S.Source cards.old) (output_seen K.Sink sink.old) media link)
+        (devices (input_seen S.Source cards.new) (output_seen K.Sink sink.new) media link) result }
+    ensures faults { (media : MediaSeen) (link : LinkSeen) → result.status ≡ 9
+        → CardsAreRefused (devices (input_seen S.Source cards.old) (output_seen K.Sink sink.old) media link)
+        (devices (input_seen S.Source cards.new) (output_seen K.Sink sink.new) media link) result }
+    ensures long { (media : MediaSeen) (link : LinkSeen) → result.status ≡ 2
+        → InputIsTooLong (devices (input_seen S.Source cards.old) (output_seen K.Sink sink.old) media link)
+        (devices (input_seen S.Source cards.new) (output_seen K.Sink sink.new) media link) result }
     ensures unread { result.status ≡ 3 → Rose (S.faults cards.old) (S.faults cards.new) }
     ensures unwritten { result.status ≡ 4 → Rose (K.faults sink.old) (K.faults sink.new) }
     ensures cut { result.status ≡ 4 → result ≡ bare 4 0 0 }
-    ensures part { (drum : DrumSeen) (link : LinkSeen) → result.status ≡ 4
-        → CardsAreCutOff (devices (input_seen S.Source cards.old) (output_seen K.Sink sink.old) drum link)
-        (devices (input_seen S.Source cards.new) (output_seen K.Sink sink.new) drum link) }
-    ensures silent { (drum : DrumSeen) (link : LinkSeen) → IsOneOf result.status (3 ∷ 8 ∷ [])
-        → IsSilent result.status (devices (input_seen S.Source cards.old) (output_seen K.Sink sink.old) drum link)
-        (devices (input_seen S.Source cards.new) (output_seen K.Sink sink.new) drum link) result }
+    ensures part { (media : MediaSeen) (link : LinkSeen) → result.status ≡ 4
+        → CardsAreCutOff (devices (input_seen S.Source cards.old) (output_seen K.Sink sink.old) media link)
+        (devices (input_seen S.Source cards.new) (output_seen K.Sink sink.new) media link) }
+    ensures silent { (media : MediaSeen) (link : LinkSeen) → IsOneOf result.status (3 ∷ 8 ∷ [])
+        → IsSilent result.status (devices (input_seen S.Source cards.old) (output_seen K.Sink sink.old) media link)
+        (devices (input_seen S.Source cards.new) (output_seen K.Sink sink.new) media link) result }
     ensures told { WhereTold (S.left cards.old) (λ bytes. IsOneOf result.status (statuses_for_cards bytes)) }
 {
     match read_bytes(alloc, cards) {

@@ -1,5 +1,5 @@
 ghost use Rattle.std.specs.Prelude.{◌≡◌};
-ghost use Rattle.ctss_top.specs.Outcomes.{bare};
+ghost use Rattle.ctss_top.specs.Outcomes.{bare, failed};
 
 use ctss_types::{Record, Sequence};
 use std::alloc::Global;
@@ -12,12 +12,13 @@ use std::alloc::Global;
 /// - 3: the source failed
 /// - 4: the sink failed
 /// - 5: the drum failed
+/// - 6: the disk failed
 /// - 7: the listener failed
 /// - 8: memory ran out
 /// - 9: the cards are at fault
 ///
 /// `card` and `cause` are 0 but for status 2. `run` is the record with status 0 (none for cards), and with 4 where the text of
-/// a run was cut off; with 5 that of the steps so far, without files; else it is empty.
+/// a run was cut off; with 5 and 6 that of the steps so far, without files; else it is empty.
 #[derive(Debug, Drop)]
 pub struct Outcome {
     pub status: u8,
@@ -42,6 +43,18 @@ impl Outcome {
                 common: Sequence::new(alloc),
                 clock: 0,
             },
+        }
+    }
+
+    /// Drum or disk failed, which left this record.
+    pub(crate) fn failed(status: u8, run: Record) -> Outcome
+        ensures { result ≡ failed status run }
+    {
+        Outcome {
+            status,
+            card: 0,
+            cause: 0,
+            run,
         }
     }
 }

@@ -1,26 +1,28 @@
-//! The record of a script, over a drum.
-ghost use Rattle.std.specs.Prelude.{◌≡◌, true, is_some, IfOk, OnOk};
+//! The record of a script, over drum and disk.
+ghost use Rattle.std.specs.Prelude.{◌≡◌, IfOk, OnOk};
 ghost use Rattle.std.specs.List.{All};
-ghost use Rattle.faults.specs.Faults.{Rose};
 ghost use Rattle.drum_slots.specs.Kept.{Serves};
+ghost use Rattle.track_store.specs.Tracks.{Serves as Holds};
+ghost use Rattle.track_directories.specs.Tables.{disk_of};
 ghost use Rattle.image_map.specs.Image.{state, seen};
 ghost use Rattle.plan_model.specs.Loads.{Places, no_places};
-ghost use Rattle.text_model.specs.Reading.{IsInRange};
+ghost use Rattle.text_model.specs.Lawful.{IsLawful};
 ghost use Rattle.time_sharing.specs.System.{Timed};
 ghost use Rattle.system_model.specs.Run.{given_all};
 ghost use Rattle.system_model.specs.Sound.{HasSeat};
 ghost use Rattle.supervisor.specs.Seen.{run_with};
 ghost use Rattle.supervisor.specs.Steps.{Lasts};
 ghost use Rattle.supervisor.specs.Whole.{whole_of};
-ghost use Rattle.ctss_top.specs.Played.{IsPlayed, Counts, Faulted, IsScriptRun};
+ghost use Rattle.live_run.specs.Media.{media_seen};
+ghost use Rattle.ctss_top.specs.Played.{IsPlayed, IsScriptRun};
 
-use ctss_types::{NoMemory, Record, RunFault, Script, StepFault, Timed};
-use directories::MemoryDirectories;
+use ctss_types::{NoMemory, Record, RunFault, Script, Timed};
 use image_map::Image;
-use live_run::begin;
+use live_run::{Begun, begin};
 use medium::Medium;
 use std::alloc::Global;
-use supervisor::Supervisor;
+use supervisor::{Closed, Supervisor};
+use track_directories::TrackDirectories;
 use user_cores::Behind;
 
 /// How the run of a script ended.
@@ -29,7 +31,9 @@ pub enum Played {
     /// The script's end was reached.
     Done(Record),
     /// The drum failed. The record has no files.
-    Stopped(Record),
+    DrumFailed(Record),
+    /// The disk failed. The record has no files.
+    DiskFailed(Record),
 }
 
 /// Events are given to a supervisor, in their order.
@@ -47,29 +51,40 @@ fn give_all(supervisor: &mut Supervisor, events: &[Timed]) -> Result<(), NoMemor
 
 /// A supervisor and what lies behind its users' sessions, behind the run of its script, and how that ended.
 #[derive(Drop)]
-pub struct ScriptRun<'a, D: Medium> {
+pub struct ScriptRun<'a, 'd, D: Medium, F: Medium> {
     pub supervisor: Supervisor,
-    pub behind: Behind<Image<'a, D>, MemoryDirectories>,
+    pub behind: Behind<Image<'a, D>, TrackDirectories<'d, F>>,
     pub ended: Result<(), RunFault>,
 }
 
-/// The run of a script: all its events are given, and it goes to the script's end, unless the drum fails or memory lacks.
-pub fn run_script<'a, D: Medium>(
+/// The run of a script: all its events are given, and it goes to the script's end, unless drum or disk fails or memory lacks. Where the
+/// first files can't be written it never begins.
+pub fn run_script<'a, 'd, D: Medium, F: Medium>(
     alloc: Global,
     script: &Script,
     drum: &'a mut D,
-) -> Result<ScriptRun<'a, D>, NoMemory>
-    requires range { IsInRange script.now }
-    requires serves { Serves (D.rows drum.old) (D.record_count drum.old) (D.words_each drum.old) 3840 }
+    disk: &'d mut F,
+) -> Result<ScriptRun<'a, 'd, D, F>, NoMemory>
+    requires lawful { IsLawful script.now }
+    requires drum { Serves (D.rows drum.old) (D.record_count drum.old) (D.words_each drum.old) 3840 }
+    requires disk { Holds (F.rows disk.old) (F.record_count disk.old) (F.words_each disk.old) 10000 }
     ensures drum { IfOk result (λ p. (state p.behind.cores).drum.name ≡ (seen D.Medium drum.entry).name) }
+    ensures disk { IfOk result (λ p. (disk_of p.behind.files).ghost_name ≡ disk.entry.ghost_name) }
     ensures works { IfOk result (λ p. Lasts p.ended
-        (⟦<Behind<Image<'a, D>, MemoryDirectories> as user_cores::Backing>⟧.Works p.behind)) }
-    ensures ran { IfOk result (λ p. IsScriptRun script.now (is_some (D.rows drum.old)) (D.calls drum.old) (D.faults drum.old)
-        p.ended (whole_of p.supervisor
-        (⟦<Behind<Image<'a, D>, MemoryDirectories> as user_cores::Backing>⟧.state p.behind))) }
+        (⟦<Behind<Image<'a, D>, TrackDirectories<'d, F>> as user_cores::Backing>⟧.Works p.behind)) }
+    ensures ran { IfOk result (λ p. IsScriptRun script.now (media_seen D.Medium F.Medium drum.old disk.old) p.ended
+        (whole_of p.supervisor
+        (⟦<Behind<Image<'a, D>, TrackDirectories<'d, F>> as user_cores::Backing>⟧.state p.behind))) }
 {
-    let run = begin(alloc, script, drum)?;
+    let Begun { run, wrote } = begin(alloc, script, drum, disk)?;
     let (mut supervisor, mut behind) = run.into_parts();
+    if wrote.is_err() {
+        return Ok(ScriptRun {
+            supervisor,
+            behind,
+            ended: Err(RunFault::Disk),
+        });
+    }
     give_all(&mut supervisor, script.events.as_slice())?;
     let ended = supervisor.advance(&mut behind, script.end);
     Ok(ScriptRun {
@@ -79,42 +94,41 @@ pub fn run_script<'a, D: Medium>(
     })
 }
 
-/// The record of a script, unless the drum fails.
-pub fn record_script<D: Medium>(
+/// The record of a script, unless drum or disk fails.
+pub fn record_script<D: Medium, F: Medium>(
     alloc: Global,
     script: &Script,
     drum: &mut D,
+    disk: &mut F,
 ) -> Result<Played, NoMemory>
-    requires range { IsInRange script.now }
-    requires serves { Serves (D.rows drum.old) (D.record_count drum.old) (D.words_each drum.old) 3840 }
-    ensures played { is_some (D.rows drum.old) ≡ true
-        → IfOk result (λ p. IsPlayed script.now (D.calls drum.old) (D.calls drum.new) p) }
-    ensures counted { IfOk result (λ p. Counts (D.calls drum.old) (D.calls drum.new) p) }
-    ensures cause { IfOk result (λ p. Faulted p (Rose (D.faults drum.old) (D.faults drum.new))) }
+    requires lawful { IsLawful script.now }
+    requires drum { Serves (D.rows drum.old) (D.record_count drum.old) (D.words_each drum.old) 3840 }
+    requires disk { Holds (F.rows disk.old) (F.record_count disk.old) (F.words_each disk.old) 10000 }
+    ensures { IfOk result (IsPlayed script.now (media_seen D.Medium F.Medium drum.old disk.old)
+        (media_seen D.Medium F.Medium drum.new disk.new)) }
 {
-    let run = run_script(alloc, script, drum)?;
+    let run = run_script(alloc, script, drum, disk)?;
     let ScriptRun {
         supervisor,
         mut behind,
         ended,
     } = run;
-    match ended {
-        Ok(()) => {
-            let closed = supervisor.close(alloc, &mut behind);
-            let (cores, _) = behind.into_parts();
-            let _ = cores.back();
-            match closed {
-                Ok(record) => Ok(Played::Done(record)),
-                Err(StepFault::Disk | StepFault::NoMemory) => Err(NoMemory),
-            }
-        }
-        Err(fault) => {
-            let (cores, _) = behind.into_parts();
-            let _ = cores.back();
-            match fault {
-                RunFault::Drum => Ok(Played::Stopped(supervisor.stop(alloc)?)),
-                RunFault::Disk | RunFault::NoMemory => Err(NoMemory),
-            }
-        }
+    if let Err(fault) = ended {
+        let (cores, files) = behind.into_parts();
+        let _ = cores.back();
+        let _ = files.back();
+        return match fault {
+            RunFault::Drum => Ok(Played::DrumFailed(supervisor.stop(alloc)?)),
+            RunFault::Disk => Ok(Played::DiskFailed(supervisor.stop(alloc)?)),
+            RunFault::NoMemory => Err(NoMemory),
+        };
+    }
+    let closed = supervisor.close(alloc, &mut behind);
+    let (cores, files) = behind.into_parts();
+    let _ = cores.back();
+    let _ = files.back();
+    match closed? {
+        Closed::Complete(record) => Ok(Played::Done(record)),
+        Closed::WithoutFiles(record) => Ok(Played::DiskFailed(record)),
     }
 }

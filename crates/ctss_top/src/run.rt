@@ -1,20 +1,21 @@
-ghost use Rattle.std.specs.Prelude.{◌≡◌, ◌≢◌, ◌∷◌, [], ℕ, List, Some, true, is_some, IfOk};
+ghost use Rattle.std.specs.Prelude.{◌≡◌, ◌≢◌, ◌∷◌, [], ℕ, List, Some, true, IfOk};
 ghost use Rattle.faults.specs.Faults.{Rose, WhereTold};
 ghost use Rattle.ctss_io.specs.Outside.{after};
 ghost use Rattle.ctss_io.specs.Whole.{GrewByProperPrefix};
-ghost use Rattle.system_model.specs.Record.{record_of};
 ghost use Rattle.text_model.specs.Words.{mode_of};
 ghost use Rattle.text_model.specs.Made.{made_script};
-ghost use Rattle.text_model.specs.Reading.{script_of, IsInRange};
+ghost use Rattle.text_model.specs.Reading.{script_of};
+ghost use Rattle.text_model.specs.Lawful.{IsLawful};
 ghost use Rattle.drum_slots.specs.Kept.{Serves};
-ghost use Rattle.supervisor.specs.Counts.{IsCounted};
+ghost use Rattle.track_store.specs.Tracks.{Serves as Holds};
+ghost use Rattle.live_run.specs.Media.{media_seen};
 ghost use Rattle.console_link.specs.Links.{LinkSeen};
 ghost use Rattle.ctss_top.specs.Outcomes.{bare, IsOneOf};
-ghost use Rattle.ctss_top.specs.Played.{IsStopped};
+ghost use Rattle.ctss_top.specs.Played.{IsDone, IsCut, IsLost};
 ghost use Rattle.ctss_top.specs.Modes.{ModeAsked, runs_script, replays, text_for};
 ghost use Rattle.ctss_top.specs.Asm.{DeckIsWritten};
-ghost use Rattle.ctss_top.specs.Devices.{InputSeen, output_seen, drum_seen, devices, seen};
-ghost use Rattle.ctss_top.specs.Top.{IsRun, RunIsStopped, ScriptIsRefused, IsRefusal, HasCause, LeavesUnasked, IsCutOff};
+ghost use Rattle.ctss_top.specs.Devices.{InputSeen, output_seen, devices, seen};
+ghost use Rattle.ctss_top.specs.Top.{IsRun, RunIsStopped, RunLosesFiles, ScriptIsRefused, IsRefusal, HasCause, LeavesUnasked, IsCutOff};
 ghost use Rattle.ctss_top.specs.Top.{IsSilent, IsAllowed, statuses_for};
 
 use crate::asm::asm;
@@ -81,73 +82,75 @@ pub(crate) fn write_run<K: Sink>(
     }
 }
 
-/// A script is run over a drum, and the text of its run is written.
-fn perform<K: Sink, D: Medium>(
+/// A script is run over drum and disk, and the text of its run is written.
+fn perform<K: Sink, D: Medium, F: Medium>(
     alloc: Global,
     mode: Mode,
     script: &Script,
     sink: &mut K,
     drum: &mut D,
+    disk: &mut F,
 ) -> Outcome
     requires mode { runs_script mode ≡ true }
-    requires range { IsInRange script.now }
-    requires serves { Serves (D.rows drum.old) (D.record_count drum.old) (D.words_each drum.old) 3840 }
-    ensures status { IsOneOf result.status (0 ∷ 4 ∷ 5 ∷ 8 ∷ []) }
-    ensures run { is_some (D.rows drum.old) ≡ true → IsOneOf result.status (0 ∷ 4 ∷ [])
-        → result.run ≡ record_of script.now }
-    ensures counted { IsOneOf result.status (0 ∷ 4 ∷ [])
-        → IsCounted [] result.run.entries (D.calls drum.old) (D.calls drum.new) }
+    requires lawful { IsLawful script.now }
+    requires drum { Serves (D.rows drum.old) (D.record_count drum.old) (D.words_each drum.old) 3840 }
+    requires disk { Holds (F.rows disk.old) (F.record_count disk.old) (F.words_each disk.old) 10000 }
+    ensures status { IsOneOf result.status (0 ∷ 4 ∷ 5 ∷ 6 ∷ 8 ∷ []) }
+    ensures done { IsOneOf result.status (0 ∷ 4 ∷ []) → IsDone script.now
+        (media_seen D.Medium F.Medium drum.old disk.old) (media_seen D.Medium F.Medium drum.new disk.new) result.run }
+    ensures stopped { result.status ≡ 5 → IsCut script.now
+        (media_seen D.Medium F.Medium drum.old disk.old) (media_seen D.Medium F.Medium drum.new disk.new) result.run }
+    ensures lost { result.status ≡ 6 → IsLost script.now
+        (media_seen D.Medium F.Medium drum.old disk.old) (media_seen D.Medium F.Medium drum.new disk.new) result.run }
     ensures numbers { (result.card ≡ 0) × (result.cause ≡ 0) }
     ensures text { result.status ≡ 0 → K.held sink.new ≡ after (K.held sink.old) (text_for mode script.now result.run) }
     ensures part { result.status ≡ 4
         → GrewByProperPrefix (K.held sink.old) (text_for mode script.now result.run) (K.held sink.new) }
     ensures cause { result.status ≡ 4 → Rose (K.faults sink.old) (K.faults sink.new) }
-    ensures stopped { is_some (D.rows drum.old) ≡ true → result.status ≡ 5
-        → IsStopped script.now result.run (D.calls drum.old) (D.calls drum.new) }
-    ensures drum_cause { result.status ≡ 5 → Rose (D.faults drum.old) (D.faults drum.new) }
     ensures memory { result.status ≡ 8 → result ≡ bare 8 0 0 }
-    ensures silent { IsOneOf result.status (5 ∷ 8 ∷ []) → K.held sink.new ≡ K.held sink.old }
+    ensures silent { IsOneOf result.status (5 ∷ 6 ∷ 8 ∷ []) → K.held sink.new ≡ K.held sink.old }
 {
-    match record_script(alloc, script, drum) {
+    match record_script(alloc, script, drum, disk) {
         Ok(Played::Done(run)) => write_run(alloc, mode, script, run, sink),
-        Ok(Played::Stopped(run)) => Outcome {
-            status: 5,
-            card: 0,
-            cause: 0,
-            run,
-        },
+        Ok(Played::DrumFailed(run)) => Outcome::failed(5, run),
+        Ok(Played::DiskFailed(run)) => Outcome::failed(6, run),
         Err(_) => Outcome::bare(alloc, 8, 0, 0),
     }
 }
 
 /// A script is read, run, and the text of its run written.
-fn replay<S: Source, K: Sink, D: Medium>(
+fn replay<S: Source, K: Sink, D: Medium, F: Medium>(
     alloc: Global,
     mode: Mode,
     script: &mut S,
     sink: &mut K,
     drum: &mut D,
+    disk: &mut F,
 ) -> Outcome
     requires mode { replays mode ≡ true }
-    requires serves { Serves (D.rows drum.old) (D.record_count drum.old) (D.words_each drum.old) 3840 }
-    ensures status { IsOneOf result.status (0 ∷ 2 ∷ 3 ∷ 4 ∷ 5 ∷ 8 ∷ []) }
+    requires drum { Serves (D.rows drum.old) (D.record_count drum.old) (D.words_each drum.old) 3840 }
+    requires disk { Holds (F.rows disk.old) (F.record_count disk.old) (F.words_each disk.old) 10000 }
+    ensures status { IsOneOf result.status (0 ∷ 2 ∷ 3 ∷ 4 ∷ 5 ∷ 6 ∷ 8 ∷ []) }
     ensures done { (link : LinkSeen) → result.status ≡ 0
-        → IsRun mode (seen S.Source K.Sink D.Medium script.old sink.old drum.old link)
-        (seen S.Source K.Sink D.Medium script.new sink.new drum.new link) result }
+        → IsRun mode (seen S.Source K.Sink D.Medium F.Medium script.old sink.old drum.old disk.old link)
+        (seen S.Source K.Sink D.Medium F.Medium script.new sink.new drum.new disk.new link) result }
     ensures refused { (link : LinkSeen) → result.status ≡ 2
-        → ScriptIsRefused mode (seen S.Source K.Sink D.Medium script.old sink.old drum.old link)
-        (seen S.Source K.Sink D.Medium script.new sink.new drum.new link) result }
-    ensures cause { (link : LinkSeen) → HasCause (seen S.Source K.Sink D.Medium script.old sink.old drum.old link)
-        (seen S.Source K.Sink D.Medium script.new sink.new drum.new link) result }
+        → ScriptIsRefused mode (seen S.Source K.Sink D.Medium F.Medium script.old sink.old drum.old disk.old link)
+        (seen S.Source K.Sink D.Medium F.Medium script.new sink.new drum.new disk.new link) result }
+    ensures cause { (link : LinkSeen) → HasCause (seen S.Source K.Sink D.Medium F.Medium script.old sink.old drum.old disk.old link)
+        (seen S.Source K.Sink D.Medium F.Medium script.new sink.new drum.new disk.new link) result }
     ensures stopped { (words : List (List ℕ)) (link : LinkSeen) → mode_of words ≡ Some mode → result.status ≡ 5
-        → RunIsStopped words (seen S.Source K.Sink D.Medium script.old sink.old drum.old link)
-        (seen S.Source K.Sink D.Medium script.new sink.new drum.new link) result }
+        → RunIsStopped words (seen S.Source K.Sink D.Medium F.Medium script.old sink.old drum.old disk.old link)
+        (seen S.Source K.Sink D.Medium F.Medium script.new sink.new drum.new disk.new link) result }
+    ensures lost { (words : List (List ℕ)) (link : LinkSeen) → mode_of words ≡ Some mode → result.status ≡ 6
+        → RunLosesFiles words (seen S.Source K.Sink D.Medium F.Medium script.old sink.old drum.old disk.old link)
+        (seen S.Source K.Sink D.Medium F.Medium script.new sink.new drum.new disk.new link) result }
     ensures part { (words : List (List ℕ)) (link : LinkSeen) → mode_of words ≡ Some mode → result.status ≡ 4
-        → IsCutOff words (seen S.Source K.Sink D.Medium script.old sink.old drum.old link)
-        (seen S.Source K.Sink D.Medium script.new sink.new drum.new link) result }
+        → IsCutOff words (seen S.Source K.Sink D.Medium F.Medium script.old sink.old drum.old disk.old link)
+        (seen S.Source K.Sink D.Medium F.Medium script.new sink.new drum.new disk.new link) result }
     ensures silent { (link : LinkSeen) → IsOneOf result.status (3 ∷ 8 ∷ []) → IsSilent result.status
-        (seen S.Source K.Sink D.Medium script.old sink.old drum.old link)
-        (seen S.Source K.Sink D.Medium script.new sink.new drum.new link) result }
+        (seen S.Source K.Sink D.Medium F.Medium script.old sink.old drum.old disk.old link)
+        (seen S.Source K.Sink D.Medium F.Medium script.new sink.new drum.new disk.new link) result }
     ensures told { WhereTold (S.left script.old) (λ bytes. IsOneOf result.status (statuses_for (script_of bytes))) }
 {
     let bytes = match read_bytes(alloc, script) {
@@ -157,7 +160,7 @@ fn replay<S: Source, K: Sink, D: Medium>(
         Err(ReadEnd::NoMemory) => return Outcome::bare(alloc, 8, 0, 0),
     };
     match read_script(alloc, &bytes) {
-        Ok(script) => perform(alloc, mode, &script, sink, drum),
+        Ok(script) => perform(alloc, mode, &script, sink, drum, disk),
         Err(ScriptFault::Refused(refusal)) => {
             refuse_script(alloc, sink, refusal.card, refusal.cause.number())
         }
@@ -166,32 +169,43 @@ fn replay<S: Source, K: Sink, D: Medium>(
 }
 
 /// The script that is made of a number is run, and a summary written. Nothing is read.
-fn load<K: Sink, D: Medium>(alloc: Global, n: u32, sink: &mut K, drum: &mut D) -> Outcome
-    requires serves { Serves (D.rows drum.old) (D.record_count drum.old) (D.words_each drum.old) 3840 }
-    ensures status { IsOneOf result.status (0 ∷ 4 ∷ 5 ∷ 8 ∷ []) }
+fn load<K: Sink, D: Medium, F: Medium>(
+    alloc: Global,
+    n: u32,
+    sink: &mut K,
+    drum: &mut D,
+    disk: &mut F,
+) -> Outcome
+    requires drum { Serves (D.rows drum.old) (D.record_count drum.old) (D.words_each drum.old) 3840 }
+    requires disk { Holds (F.rows disk.old) (F.record_count disk.old) (F.words_each disk.old) 10000 }
+    ensures status { IsOneOf result.status (0 ∷ 4 ∷ 5 ∷ 6 ∷ 8 ∷ []) }
     ensures done { (input : InputSeen) (link : LinkSeen) → result.status ≡ 0
-        → IsRun (Mode.Load n) (devices input (output_seen K.Sink sink.old) (drum_seen D.Medium drum.old) link)
-        (devices input (output_seen K.Sink sink.new) (drum_seen D.Medium drum.new) link) result }
+        → IsRun (Mode.Load n) (devices input (output_seen K.Sink sink.old) (media_seen D.Medium F.Medium drum.old disk.old) link)
+        (devices input (output_seen K.Sink sink.new) (media_seen D.Medium F.Medium drum.new disk.new) link) result }
     ensures cause { (input : InputSeen) (link : LinkSeen)
-        → HasCause (devices input (output_seen K.Sink sink.old) (drum_seen D.Medium drum.old) link)
-        (devices input (output_seen K.Sink sink.new) (drum_seen D.Medium drum.new) link) result }
+        → HasCause (devices input (output_seen K.Sink sink.old) (media_seen D.Medium F.Medium drum.old disk.old) link)
+        (devices input (output_seen K.Sink sink.new) (media_seen D.Medium F.Medium drum.new disk.new) link) result }
     ensures stopped { (words : List (List ℕ)) (input : InputSeen) (link : LinkSeen) → mode_of words ≡ Some (Mode.Load n)
-        → result.status ≡ 5 → RunIsStopped words (devices input (output_seen K.Sink sink.old) (drum_seen D.Medium drum.old) link)
-        (devices input (output_seen K.Sink sink.new) (drum_seen D.Medium drum.new) link) result }
+        → result.status ≡ 5 → RunIsStopped words (devices input (output_seen K.Sink sink.old) (media_seen D.Medium F.Medium drum.old disk.old) link)
+        (devices input (output_seen K.Sink sink.new) (media_seen D.Medium F.Medium drum.new disk.new) link) result }
+    ensures lost { (words : List (List ℕ)) (input : InputSeen) (link : LinkSeen) → mode_of words ≡ Some (Mode.Load n)
+        → result.status ≡ 6 → RunLosesFiles words
+        (devices input (output_seen K.Sink sink.old) (media_seen D.Medium F.Medium drum.old disk.old) link)
+        (devices input (output_seen K.Sink sink.new) (media_seen D.Medium F.Medium drum.new disk.new) link) result }
     ensures part { (words : List (List ℕ)) (input : InputSeen) (link : LinkSeen) → mode_of words ≡ Some (Mode.Load n)
-        → result.status ≡ 4 → IsCutOff words (devices input (output_seen K.Sink sink.old) (drum_seen D.Medium drum.old) link)
-        (devices input (output_seen K.Sink sink.new) (drum_seen D.Medium drum.new) link) result }
+        → result.status ≡ 4 → IsCutOff words (devices input (output_seen K.Sink sink.old) (media_seen D.Medium F.Medium drum.old disk.old) link)
+        (devices input (output_seen K.Sink sink.new) (media_seen D.Medium F.Medium drum.new disk.new) link) result }
     ensures silent { (input : InputSeen) (link : LinkSeen) → result.status ≡ 8
-        → IsSilent 8 (devices input (output_seen K.Sink sink.old) (drum_seen D.Medium drum.old) link)
-        (devices input (output_seen K.Sink sink.new) (drum_seen D.Medium drum.new) link) result }
+        → IsSilent 8 (devices input (output_seen K.Sink sink.old) (media_seen D.Medium F.Medium drum.old disk.old) link)
+        (devices input (output_seen K.Sink sink.new) (media_seen D.Medium F.Medium drum.new disk.new) link) result }
 {
     match make_script(alloc, n) {
-        Ok(script) => perform(alloc, Mode::Load(n), &script, sink, drum),
+        Ok(script) => perform(alloc, Mode::Load(n), &script, sink, drum, disk),
         Err(_) => Outcome::bare(alloc, 8, 0, 0),
     }
 }
 
-/// What the words ask for, done, over a drum of at least 3840 records of 256 words:
+/// What the words ask for, done, over a drum of at least 3840 records of 256 words and a disk of at least 10000 of 432 words:
 ///
 /// - `replay` reads a script from `input`, runs it and writes its report to `output`;
 /// - `dump` does the same, with the words of each file in the report;
@@ -199,50 +213,55 @@ fn load<K: Sink, D: Medium>(alloc: Global, n: u32, sink: &mut K, drum: &mut D) -
 /// - `asm` reads cards and writes their deck;
 /// - `serve --port P --turns T` reads a script without events, has people connect over `link` for so many turns, and writes the script
 ///   with what they did and its report.
-pub fn run_ctss<S: Source, K: Sink, D: Medium, L: Link>(
+pub fn run_ctss<S: Source, K: Sink, D: Medium, F: Medium, L: Link>(
     alloc: Global,
     words: &ArgList,
     input: &mut S,
     output: &mut K,
     drum: &mut D,
+    disk: &mut F,
     link: &mut L,
 ) -> Outcome
     requires drum { Serves (D.rows drum.old) (D.record_count drum.old) (D.words_each drum.old) 3840 }
+    requires disk { Holds (F.rows disk.old) (F.record_count disk.old) (F.words_each disk.old) 10000 }
     ensures headline { (mode : ModeAsked) → mode_of words.now ≡ Some mode → runs_script mode ≡ true
-        → result.status ≡ 0 → IsRun mode (seen S.Source K.Sink D.Medium input.old output.old drum.old (L.seen link.old))
-        (seen S.Source K.Sink D.Medium input.new output.new drum.new (L.seen link.new)) result }
+        → result.status ≡ 0 → IsRun mode (seen S.Source K.Sink D.Medium F.Medium input.old output.old drum.old disk.old (L.seen link.old))
+        (seen S.Source K.Sink D.Medium F.Medium input.new output.new drum.new disk.new (L.seen link.new)) result }
     ensures deck { mode_of words.now ≡ Some Mode.Asm → result.status ≡ 0
-        → DeckIsWritten (seen S.Source K.Sink D.Medium input.old output.old drum.old (L.seen link.old))
-        (seen S.Source K.Sink D.Medium input.new output.new drum.new (L.seen link.new)) result }
-    ensures refusals { IsRefusal words.now (seen S.Source K.Sink D.Medium input.old output.old drum.old (L.seen link.old))
-        (seen S.Source K.Sink D.Medium input.new output.new drum.new (L.seen link.new)) result }
+        → DeckIsWritten (seen S.Source K.Sink D.Medium F.Medium input.old output.old drum.old disk.old (L.seen link.old))
+        (seen S.Source K.Sink D.Medium F.Medium input.new output.new drum.new disk.new (L.seen link.new)) result }
+    ensures refusals { IsRefusal words.now (seen S.Source K.Sink D.Medium F.Medium input.old output.old drum.old disk.old (L.seen link.old))
+        (seen S.Source K.Sink D.Medium F.Medium input.new output.new drum.new disk.new (L.seen link.new)) result }
 
     // The faults: only where the object's count rose.
-    ensures causes { HasCause (seen S.Source K.Sink D.Medium input.old output.old drum.old (L.seen link.old))
-        (seen S.Source K.Sink D.Medium input.new output.new drum.new (L.seen link.new)) result }
+    ensures causes { HasCause (seen S.Source K.Sink D.Medium F.Medium input.old output.old drum.old disk.old (L.seen link.old))
+        (seen S.Source K.Sink D.Medium F.Medium input.new output.new drum.new disk.new (L.seen link.new)) result }
     ensures cut_off { result.status ≡ 4 → IsCutOff words.now
-        (seen S.Source K.Sink D.Medium input.old output.old drum.old (L.seen link.old))
-        (seen S.Source K.Sink D.Medium input.new output.new drum.new (L.seen link.new)) result }
+        (seen S.Source K.Sink D.Medium F.Medium input.old output.old drum.old disk.old (L.seen link.old))
+        (seen S.Source K.Sink D.Medium F.Medium input.new output.new drum.new disk.new (L.seen link.new)) result }
 
-    // With a drum that failed nothing is written, and the run is that of whole steps; with a read or a listener that failed
+    // With drum or disk that failed nothing is written, and the run is that of whole steps; with a read or a listener that failed
     // and where memory lacked nothing is written.
     ensures stopped { result.status ≡ 5 → RunIsStopped words.now
-        (seen S.Source K.Sink D.Medium input.old output.old drum.old (L.seen link.old))
-        (seen S.Source K.Sink D.Medium input.new output.new drum.new (L.seen link.new)) result }
+        (seen S.Source K.Sink D.Medium F.Medium input.old output.old drum.old disk.old (L.seen link.old))
+        (seen S.Source K.Sink D.Medium F.Medium input.new output.new drum.new disk.new (L.seen link.new)) result }
+    ensures lost { result.status ≡ 6 → RunLosesFiles words.now
+        (seen S.Source K.Sink D.Medium F.Medium input.old output.old drum.old disk.old (L.seen link.old))
+        (seen S.Source K.Sink D.Medium F.Medium input.new output.new drum.new disk.new (L.seen link.new)) result }
     ensures silent { IsOneOf result.status (3 ∷ 7 ∷ 8 ∷ []) → IsSilent result.status
-        (seen S.Source K.Sink D.Medium input.old output.old drum.old (L.seen link.old))
-        (seen S.Source K.Sink D.Medium input.new output.new drum.new (L.seen link.new)) result }
-    ensures apart { LeavesUnasked words.now (seen S.Source K.Sink D.Medium input.old output.old drum.old (L.seen link.old))
-        (seen S.Source K.Sink D.Medium input.new output.new drum.new (L.seen link.new)) }
-    ensures allowed { IsAllowed words.now (seen S.Source K.Sink D.Medium input.old output.old drum.old (L.seen link.old)) result }
+        (seen S.Source K.Sink D.Medium F.Medium input.old output.old drum.old disk.old (L.seen link.old))
+        (seen S.Source K.Sink D.Medium F.Medium input.new output.new drum.new disk.new (L.seen link.new)) result }
+    ensures apart { LeavesUnasked words.now (seen S.Source K.Sink D.Medium F.Medium input.old output.old drum.old disk.old (L.seen link.old))
+        (seen S.Source K.Sink D.Medium F.Medium input.new output.new drum.new disk.new (L.seen link.new)) }
+    ensures allowed { IsAllowed words.now (seen S.Source K.Sink D.Medium F.Medium input.old output.old drum.old disk.old (L.seen link.old)) result }
 {
     match words.mode() {
-        Ok(Some(Mode::Replay)) => replay(alloc, Mode::Replay, input, output, drum),
-        Ok(Some(Mode::Dump)) => replay(alloc, Mode::Dump, input, output, drum),
-        Ok(Some(Mode::Load(n))) => load(alloc, n, output, drum),
+        Ok(Some(Mode::Replay)) => replay(alloc, Mode::Replay, input, output, drum, disk),
+        Ok(Some(Mode::Dump)) => replay(alloc, Mode::Dump, input, output, drum, disk),
+        Ok(Some(Mode::Load(n))) => load(alloc, n, output, drum, disk),
         Ok(Some(Mode::Asm)) => asm(alloc, input, output),
         Ok(Some(Mode::Serve { port, turns })) => {
-            serve_consoles(alloc, port, turns, input, output, drum, link)
+            serve_consoles(alloc, port, turns, input, output, drum, disk, link)
         }
         Ok(None) => refuse_words(alloc, output),
         Err(_) => Outcome::bare(alloc, 8, 0, 0),

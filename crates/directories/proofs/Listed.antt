@@ -1,5 +1,5 @@
 -- The files of directories that lie in a list.
-use Rattle.std.proofs.Common.{◌≡◌, ◌∙◌, ℕ, zero, suc, List, [], ◌∷◌, ◌++◌, length, map, get_or, refl, sym, ap}
+use Rattle.std.proofs.Common.{◌≡◌, ◌∙◌, ℕ, suc, List, [], ◌∷◌, ◌++◌, length, map, get_or, refl, sym, ap}
 use Rattle.ctss_types.specs.declared.file.FileBody.{FileBody}
 use Rattle.file_map.specs.Directory.{Directory}
 use Rattle.directories.specs.Directories.{lists_from}

@@ -1,7 +1,8 @@
 //! What is asked of all users' directories.
-ghost use Rattle.std.specs.Prelude.{◌≡◌, ◌<◌, ◌≤◌, ◌-◌, ◌*◌, ◌^◌, ℕ, true, length, IfOk, OnErr, IsErrOf};
+ghost use Rattle.std.specs.Prelude.{◌≡◌, ◌<◌, ◌≤◌, ◌-◌, ◌*◌, ◌^◌, ℕ, List, true, length, IfOk, OnErr, IsErrOf};
 ghost use Rattle.faults.specs.Faults.{Rose};
 ghost use Rattle.ctss_types.specs.declared.file.CommonOp.{CommonOp};
+ghost use Rattle.ctss_types.specs.declared.file.FileBody.{FileBody};
 ghost use Rattle.file_model.specs.Commons.{ReplyFits};
 ghost use Rattle.user_session.specs.Stores.{stored, Over, IsToMake};
 ghost use Rattle.user_session.specs.Turns.{IsReplied, IsTurn};
@@ -30,6 +31,9 @@ pub trait Directories {
 
     /// The same objects.
     ghost Keeps: { Self → Self → Type 0 };
+
+    /// What is promised of where the files that were handed out lie: those of users, and the common ones.
+    ghost Lies: { Self → List (List FileBody) → List FileBody → Type 0 };
 
     /// A step of a user's session, over the words of its program and its directory.
     fn turn<M: MemoryPort>(
@@ -107,6 +111,7 @@ pub trait Directories {
         ensures lists { (state self.old).tells ≡ true → IfOk result
             (λ lists. lists.own.items ≡ lists_from 1 (state self.old).count (state self.old).own) }
         ensures common { (state self.old).tells ≡ true → IfOk result (λ lists. lists.common ≡ (state self.old).common) }
+        ensures lies { IfOk result (λ lists. Lies self.new lists.own.items lists.common) }
         ensures keeps { Keeps self.old self.new }
         ensures cause { IsErrOf result StepFault.Disk → Rose (state self.old).faults (state self.new).faults };
 

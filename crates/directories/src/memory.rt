@@ -112,6 +112,8 @@ impl Directories for MemoryDirectories {
 
     ghost Keeps = { λ _ _. Unit {0} };
 
+    ghost Lies = { λ _ _ _. Unit {0} };
+
     fn turn<M: MemoryPort>(
         &mut self,
         user: UserNo,

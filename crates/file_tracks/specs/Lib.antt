@@ -3,3 +3,5 @@ pub mod Stored
 pub mod Directories
 pub mod Seen
 pub mod Kept
+pub mod Lying
+pub mod Ported

@@ -1,4 +1,4 @@
--- proof: how often a track stands in a list of tracks, and whether it is taken.
+-- claim: how often a track stands in a list of tracks, and whether it is taken.
 use Rattle.std.specs.Prelude.{ℕ, ◌+◌, nat_eq, Bool, if◌then◌else◌, List, [], ◌∷◌}
 use Rattle.track_store.specs.Tracks.{is_taken}
 

@@ -103,27 +103,29 @@ fn drop_at<F: Medium>(table: &mut TrackTable, store: &mut TrackStore<'_, F>, at:
     remove_at(table, store, at);
 }
 
-/// Takes the files of mode 0 out. No call of the disk is made.
-pub(crate) fn drop_in<F: Medium>(table: &mut TrackTable, store: &mut TrackStore<'_, F>)
-    requires works { IsDirectory (F.rows store.old.disk.now) store.old.tracks.taken.items
-        table.old.quota table.old.used table.old.files.items }
-    requires small { table.old.used < 2 ^ 32 }
-    ensures left { (rows : List (List ℕ)) → files_on rows table.new.files.items
-        ≡ lasting (files_on rows table.old.files.items) }
-    ensures others { (others : ℕ → ℕ) → StandBeside others store.old.tracks.taken.items table.old.files.items
-        → StandBeside others store.new.tracks.taken.items table.new.files.items }
-    ensures works { IsDirectory (F.rows store.new.disk.now) store.new.tracks.taken.items
-        table.new.quota table.new.used table.new.files.items }
-    ensures quota { table.new.quota ≡ table.old.quota }
-    ensures counts { count_taken store.new.tracks.taken.items + table.old.used
-        ≡ count_taken store.old.tracks.taken.items + table.new.used }
-    ensures many { length store.new.tracks.taken.items ≡ length store.old.tracks.taken.items }
-    ensures same { store.new.disk.ghost_name ≡ store.old.disk.ghost_name }
-    ensures now { store.new.disk.now ≡ store.old.disk.now }
-{
-    // From the last place on, so that the places before stay.
-    let count = table.files.len();
-    'dropping: for k in 0..count {
-        drop_at(table, store, count - 1 - k);
+impl TrackTable {
+    /// Takes the files of mode 0 out. No call of the disk is made.
+    pub fn drop_temporary<F: Medium>(&mut self, store: &mut TrackStore<'_, F>)
+        requires works { IsDirectory (F.rows store.old.disk.now) store.old.tracks.taken.items
+            self.old.quota self.old.used self.old.files.items }
+        requires small { self.old.used < 2 ^ 32 }
+        ensures left { (rows : List (List ℕ)) → files_on rows self.new.files.items
+            ≡ lasting (files_on rows self.old.files.items) }
+        ensures others { (others : ℕ → ℕ) → StandBeside others store.old.tracks.taken.items self.old.files.items
+            → StandBeside others store.new.tracks.taken.items self.new.files.items }
+        ensures works { IsDirectory (F.rows store.new.disk.now) store.new.tracks.taken.items
+            self.new.quota self.new.used self.new.files.items }
+        ensures quota { self.new.quota ≡ self.old.quota }
+        ensures counts { count_taken store.new.tracks.taken.items + self.old.used
+            ≡ count_taken store.old.tracks.taken.items + self.new.used }
+        ensures many { length store.new.tracks.taken.items ≡ length store.old.tracks.taken.items }
+        ensures same { store.new.disk.ghost_name ≡ store.old.disk.ghost_name }
+        ensures now { store.new.disk.now ≡ store.old.disk.now }
+    {
+        // From the last place on, so that the places before stay.
+        let count = self.files.len();
+        'dropping: for k in 0..count {
+            drop_at(self, store, count - 1 - k);
+        }
     }
 }

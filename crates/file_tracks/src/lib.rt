@@ -5,6 +5,7 @@
 #![tactic(auto)]
 
 mod deleting;
+mod listing;
 mod naming;
 mod patches;
 mod port;

@@ -1,7 +1,12 @@
 //! A directory on tracks, as a port.
-ghost use Rattle.std.specs.Prelude.{◌≡◌, true, false, IsErrOf};
+ghost use Rattle.std.specs.Prelude.{◌≡◌, true, false, IfOk, IsErrOf};
+ghost use Rattle.faults.specs.Faults.{Rose};
+ghost use Rattle.file_model.specs.Files.{got, read};
+ghost use Rattle.file_map.specs.Known.{AnswersOver};
+ghost use Rattle.file_tracks.specs.Ported.{files_in, tells_in, calls_in, faults_in, GaveFirst, GavePart};
+ghost use Rattle.file_tracks.specs.Ported.{Works as Sound, Keeps as Stands};
 
-use crate::deleting::{delete_in, drop_in};
+use crate::deleting::delete_in;
 use crate::naming::{chmode_in, rename_in};
 use crate::reading::{get_in, list_in, read_in, stat_in};
 use crate::table::TrackTable;
@@ -21,10 +26,11 @@ use word36::Word;
 /// they were.
 #[derive(Drop)]
 pub struct TrackPort<'a, 'd, F: Medium> {
-    alloc: Global,
-    table: &'a mut TrackTable,
-    store: &'a mut TrackStore<'d, F>,
-    has_failed: bool,
+    pub alloc: Global,
+    pub table: &'a mut TrackTable,
+    pub store: &'a mut TrackStore<'d, F>,
+    /// Whether a call has failed at the disk: not at first.
+    pub has_failed: bool,
 }
 
 /// Whether a call failed at the disk.
@@ -35,63 +41,58 @@ fn is_disk<T>(answer: &Result<T, PortFault>) -> bool
     matches!(answer, Err(PortFault::Disk))
 }
 
-impl<'a, 'd, F: Medium> TrackPort<'a, 'd, F> {
-    /// The port of a directory whose files stand on tracks of a store.
-    pub fn new(
-        alloc: Global,
-        table: &'a mut TrackTable,
-        store: &'a mut TrackStore<'d, F>,
-    ) -> TrackPort<'a, 'd, F>
-        ensures table { result.table.ghost_name ≡ table.entry.ghost_name }
-        ensures table_now { result.table.now ≡ table.old }
-        ensures store { result.store.ghost_name ≡ store.entry.ghost_name }
-        ensures store_now { result.store.now ≡ store.old }
-        ensures well { result.has_failed ≡ false }
-    {
-        TrackPort {
-            alloc,
-            table,
-            store,
-            has_failed: false,
-        }
-    }
-}
-
 impl<F: Medium> FilePort for TrackPort<'_, '_, F> {
-    ghost use Rattle.std.specs.Prelude.{◌≡◌, length, refl};
+    ghost use Rattle.std.specs.Prelude.{◌≡◌, refl};
     ghost use Rattle.std.proofs.Common.{◌∙◌};
-    ghost use Rattle.file_tracks.specs.Seen.{tells_of, seen, seen_is_known};
-    ghost use Rattle.file_tracks.specs.Kept.{IsPort, Goes, goes_stays, goes_both};
+    ghost use Rattle.file_tracks.specs.Seen.{seen_is_known};
+    ghost use Rattle.file_tracks.specs.Kept.{goes_stays, goes_both};
+    ghost use Rattle.file_tracks.specs.Ported.{files_in, tells_in, faults_in, Works as Sound, Keeps as Stands};
 
-    ghost files = { λ p. seen (F.rows p.store.now.disk.now) p.table.now.files.items };
+    ghost files = { λ p. files_in F.Medium p };
 
     ghost quota = { λ p. p.table.now.quota };
 
-    ghost tells = { λ p. tells_of (F.rows p.store.now.disk.now) };
+    ghost tells = { λ p. tells_in F.Medium p };
 
-    ghost faults = { λ p. F.faults p.store.now.disk.now };
+    ghost faults = { λ p. faults_in F.Medium p };
 
-    ghost Works = { λ p. IsPort (F.rows p.store.now.disk.now) (F.record_count p.store.now.disk.now)
-        (F.words_each p.store.now.disk.now) p.store.now.tracks.taken.items p.table.now p.has_failed };
+    ghost Works = { λ p. Sound F.Medium p };
 
-    ghost Keeps = { λ a b. (a.table.ghost_name ≡ b.table.ghost_name) × (a.store.ghost_name ≡ b.store.ghost_name)
-        × (a.store.now.disk.ghost_name ≡ b.store.now.disk.ghost_name)
-        × Goes (F.rows a.store.now.disk.now) (F.rows b.store.now.disk.now)
-        a.store.now.tracks.taken.items b.store.now.tracks.taken.items
-        (F.faults a.store.now.disk.now) (F.faults b.store.now.disk.now)
-        a.table.now b.table.now a.has_failed b.has_failed };
+    ghost Keeps = { λ a b. Stands F.Medium a b };
 
     fn stat(&self, name: FileName) -> Result<Stat, PortFault> {
         stat_in(self.table, name)
     }
 
-    fn read(&mut self, name: FileName, place: u64, count: u16) -> Result<WordList, PortFault> {
+    fn read(&mut self, name: FileName, place: u64, count: u16) -> Result<WordList, PortFault>
+        requires works { Sound F.Medium self.old }
+        ensures answer { AnswersOver (tells_in F.Medium self.old) (files_in F.Medium self.old) result (read name place count) }
+        ensures left { ¬ IsErrOf result PortFault.Disk → files_in F.Medium self.new ≡ files_in F.Medium self.old }
+        ensures told { ¬ IsErrOf result PortFault.Disk → tells_in F.Medium self.new ≡ tells_in F.Medium self.old }
+        ensures works { ¬ IsErrOf result PortFault.Disk → Sound F.Medium self.new }
+        ensures keeps { Stands F.Medium self.old self.new }
+        ensures cause { IsErrOf result PortFault.Disk → Rose (faults_in F.Medium self.old) (faults_in F.Medium self.new) }
+
+        // The words are those that the disk's reads gave in this call.
+        ensures gave { IfOk result (GavePart place (calls_in F.Medium self.old) (calls_in F.Medium self.new)) }
+    {
         let answer = read_in(self.alloc, self.table, self.store, name, place, count);
         self.has_failed = is_disk(&answer);
         answer
     }
 
-    fn get(&mut self, name: FileName) -> Result<WordList, PortFault> {
+    fn get(&mut self, name: FileName) -> Result<WordList, PortFault>
+        requires works { Sound F.Medium self.old }
+        ensures answer { AnswersOver (tells_in F.Medium self.old) (files_in F.Medium self.old) result (got name) }
+        ensures left { ¬ IsErrOf result PortFault.Disk → files_in F.Medium self.new ≡ files_in F.Medium self.old }
+        ensures told { ¬ IsErrOf result PortFault.Disk → tells_in F.Medium self.new ≡ tells_in F.Medium self.old }
+        ensures works { ¬ IsErrOf result PortFault.Disk → Sound F.Medium self.new }
+        ensures keeps { Stands F.Medium self.old self.new }
+        ensures cause { IsErrOf result PortFault.Disk → Rose (faults_in F.Medium self.old) (faults_in F.Medium self.new) }
+
+        // The words are those that the disk's reads gave in this call.
+        ensures gave { IfOk result (GaveFirst (calls_in F.Medium self.old) (calls_in F.Medium self.new)) }
+    {
         let answer = get_in(self.alloc, self.table, self.store, name);
         self.has_failed = is_disk(&answer);
         answer
@@ -140,7 +141,7 @@ impl<F: Medium> FilePort for TrackPort<'_, '_, F> {
     }
 
     fn drop_temporary(&mut self) {
-        drop_in(self.table, self.store);
+        self.table.drop_temporary(self.store);
     }
 
     ghost is_known = { λ a works. seen_is_known (F.rows a.store.now.disk.now) a.table.now.files.items };

@@ -1,12 +1,10 @@
 -- What the consoles show in a run in parts, and in that of the script with all events.
-use Rattle.std.proofs.Common.{◌≡◌, ℕ, ◌≤◌, List, [], ◌∷◌, ◌++◌, refl, sym, ap, subst, ◌∙◌, arith}
-use Rattle.ctss_types.specs.declared.script.Timed.{Timed}
-use Rattle.time_sharing.specs.Record.{AreLate}
+use Rattle.std.proofs.Common.{◌≡◌, ℕ, ◌≤◌, List, [], ◌∷◌, sym, ap, subst, ◌∙◌, arith}
 use Rattle.system_model.specs.Run.{Run, run_to, given_all}
 use Rattle.system_model.specs.Record.{start_of}
 use Rattle.console_texts.specs.Watching.{texts_to}
 use Rattle.console_texts.proofs.Watched.{texts_done}
-use Rattle.live_laws.specs.Parts.{Part, AreInOrder, all_events, run_in, live_script}
+use Rattle.live_laws.specs.Parts.{Part, AreInOrder, all_events, run_in}
 use Rattle.live_laws.proofs.InParts.{last_is_late, all_late, given_more, given_none, all_given}
 use Rattle.live_laws.specs.Texts.{texts_in, LiveTextsAreReplayed}
 use Rattle.live_laws.proofs.TextsInParts.{texts_in_parts, reached}

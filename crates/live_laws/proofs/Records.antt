@@ -1,5 +1,5 @@
 -- The end of a record adds no load.
-use Rattle.std.proofs.Common.{◌≡◌, ℕ, List, ◌++◌, Option, Some, None, refl, ap, ◌∙◌, arith}
+use Rattle.std.proofs.Common.{◌≡◌, ℕ, List, [], ◌++◌, Option, Some, None, refl, sym, ap, ◌∙◌, arith}
 use Rattle.medium.specs.Medium.{CallList}
 use Rattle.time_sharing.specs.System.{Entry, Service}
 use Rattle.schedule_model.specs.Sums.{dumped_in, read_in}
@@ -7,6 +7,8 @@ use Rattle.user_model.specs.Inner.{Stored}
 use Rattle.system_model.specs.Run.{Run, ended}
 use Rattle.system_model.specs.Cases.{closed, end_notes, idle_notes}
 use Rattle.system_model.specs.Joined.{joined}
+use Rattle.supervisor.specs.Seen.{without_files}
+use Rattle.supervisor.proofs.Running.{transcripts_same}
 use Rattle.system_model.specs.Record.{record_from}
 use Rattle.system_model.proofs.CaseLaws.{closes}
 use Rattle.system_model.proofs.SwapLaws.{dumped-append, read-append}
@@ -47,3 +49,11 @@ counted_at_end had r was now h =
 pub counted_joined : (had : List Entry) (stores : ℕ → Stored) (r : Run) (was now : Option CallList) → IsCounted had r.system.entries was now → IsCounted had (record_from (ended (joined stores r))).entries was now
 unfolding joined
 counted_joined had stores r was now h = counted_at_end had (joined stores r) was now h
+
+-- what a run leaves but for files doesn't hang on its users' words and files
+pub ends_joined : (stores : ℕ → Stored) (r : Run) → without_files (record_from (ended r)) ≡ without_files (record_from (ended (joined stores r)))
+unfolding joined closed
+ends_joined stores r =
+    ap (λ (q : Run). without_files (record_from q)) (closes r)
+    ∙ (λ j. record { entries = (closed r).system.entries; transcripts = transcripts_same 1 stores r.system.users j; files = []; common = []; clock = r.system.clock })
+    ∙ ap (λ (q : Run). without_files (record_from q)) (sym (closes (joined stores r)))

@@ -1,10 +1,8 @@
 -- The consoles' texts along runs in parts.
-use Rattle.std.proofs.Common.{◌≡◌, ℕ, ◌≤◌, List, [], refl, sym, ap, ◌∙◌, arith}
+use Rattle.std.proofs.Common.{ℕ, ◌≤◌, List, sym, ap, ◌∙◌, arith}
 use Rattle.std.proofs.lemmas.Bool.Decides.{nat_tests}
 use Rattle.ctss_types.specs.declared.file.FileBody.{FileBody}
-use Rattle.ctss_types.specs.declared.script.Timed.{Timed}
 use Rattle.time_sharing.specs.Rows.{machine}
-use Rattle.time_sharing.specs.Record.{AreLate}
 use Rattle.time_sharing.specs.Texts.{Watched, watched_to}
 use Rattle.time_sharing.proofs.TextsLaws.{watched}
 use Rattle.user_model.specs.Session.{user_rows}

@@ -1,23 +1,29 @@
--- claim: the schedule of a run that stopped is a beginning of the whole run's.
-use Rattle.std.specs.Prelude.{◌≡◌, ℕ, List, [], ◌∷◌, ◌++◌}
+-- claim: the schedule and the transcripts of a run that stopped are beginnings of the whole run's.
+use Rattle.std.specs.Prelude.{◌≡◌, ℕ, List, [], ◌∷◌, ◌++◌, get_or}
 use Rattle.ctss_types.specs.declared.script.Script.{Script}
-use Rattle.time_sharing.specs.System.{Entry}
+use Rattle.ctss_types.specs.declared.history.Record.{Record}
 use Rattle.system_model.specs.Run.{Run, AfterSteps, given_all}
 use Rattle.system_model.specs.Record.{start_of, record_of}
+use Rattle.supervisor.specs.Seen.{record_so_far}
 use Rattle.live_laws.specs.Parts.{Part, AreInOrder, all_events, run_in, live_script}
 
--- a schedule, and one that has more at its end
-abbrev pub IsBeginning : List Entry → List Entry → Type 0
-IsBeginning es all = (more : List Entry) × (all ≡ es ++ more)
+-- a list, and one that has more at its end
+abbrev pub IsBeginning : {A : Type 0} → List A → List A → Type 0
+IsBeginning {A = A} xs all = (more : List A) × (all ≡ xs ++ more)
 
--- Behind some whole steps of a script's run its schedule is a beginning of the record's.
+-- a record, and one whose schedule and whose transcripts have more at their ends
+pub record IsBeginningOf (so_far all : Record) : Type 0 where
+  pub entries : IsBeginning so_far.entries all.entries
+  pub transcripts : (k : ℕ) → IsBeginning (get_or so_far.transcripts k []) (get_or all.transcripts k [])
+
+-- Behind some whole steps of a script's run the record so far is a beginning of the script's.
 abbrev pub StoppedRunsAreBeginnings : Type 0
 StoppedRunsAreBeginnings =
-    (script : Script) (at : Run) → AfterSteps script.end (start_of script) at → IsBeginning at.system.entries (record_of script).entries
+    (script : Script) (at : Run) → AfterSteps script.end (start_of script) at → IsBeginningOf (record_so_far at) (record_of script)
 
 -- So it is of a run in parts that stopped in its last part, and the record of the script with all events of these parts.
 abbrev pub StoppedPartsAreBeginnings : Type 0
 StoppedPartsAreBeginnings =
     (base : Script) (parts : List Part) (p : Part) (last : ℕ) (at : Run) → AreInOrder 0 last (parts ++ p ∷ []) →
     AfterSteps p.limit (given_all p.events (run_in parts (start_of (record base { events = [] })))) at →
-    IsBeginning at.system.entries (record_of (live_script base (all_events (parts ++ p ∷ [])) last)).entries
+    IsBeginningOf (record_so_far at) (record_of (live_script base (all_events (parts ++ p ∷ [])) last))

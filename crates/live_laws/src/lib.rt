@@ -19,13 +19,13 @@ pub fn calls_are_runs()
     ensures { CallsAreRuns }
 {}
 
-/// The schedule of a script's run that stopped is a beginning of that of the script's record.
+/// Schedule and transcripts of a script's run that stopped are beginnings of those of the script's record.
 #[tactic(auto, using(crate::proofs::Beginnings::stopped_runs_are_beginnings))]
 pub fn stopped_runs_are_beginnings()
     ensures { StoppedRunsAreBeginnings }
 {}
 
-/// The schedule of a run in parts that stopped is a beginning of that of the script with all events of these parts.
+/// Those of a run in parts that stopped are beginnings of those of the script with all events of these parts.
 #[tactic(auto, using(crate::proofs::Beginnings::stopped_parts_are_beginnings))]
 pub fn stopped_parts_are_beginnings()
     ensures { StoppedPartsAreBeginnings }

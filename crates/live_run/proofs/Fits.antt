@@ -1,16 +1,17 @@
 -- Scripts that are read fit what a supervisor asks.
-use Rattle.std.proofs.Common.{◌≡◌, ℕ, zero, suc, ◌+◌, ◌-◌, ◌<◌, ◌≤◌, Bool, true, false, not, ◌&&◌, ◌||◌, List, [], ◌∷◌, map, filter, cond, nat_eq, length, get_or, refl, ap, subst, ◌∙◌, arith}
-use Rattle.std.specs.List.{All, IsDistinct, AllByRecursion, list_any}
-use Rattle.std.proofs.lemmas.List.Elements.{All-from_recursion, recursion_from_All}
+use Rattle.std.proofs.Common.{◌≡◌, ℕ, zero, suc, ◌-◌, ◌<◌, ◌≤◌, Bool, true, false, not, ◌&&◌, ◌||◌, List, [], ◌∷◌, map, length, get_or, refl, sym, ap, subst, ◌∙◌, arith}
+use Rattle.std.specs.List.{IsDistinct, AllByRecursion, list_any}
 use Rattle.ctss_types.specs.declared.script.Script.{Script}
 use Rattle.ctss_types.specs.declared.script.Account.{Account}
 use Rattle.ctss_types.specs.declared.file.FileBody.{FileBody}
-use Rattle.ctss_types.specs.declared.file.OwnedFile.{OwnedFile}
 use Rattle.file_model.specs.Files.{same_name, tracks_of}
 use Rattle.file_model.specs.Owned.{files_of}
 use Rattle.file_map.specs.Directory.{NamesDiffer}
 use Rattle.text_model.specs.Reading.{IsInRange, names_differ}
-use Rattle.directories.specs.Memory.{AreFit}
+use Rattle.user_model.specs.Session.{no_account}
+use Rattle.directories.specs.Directories.{DirectoriesState}
+use Rattle.track_directories.specs.Firsts.{HaveNone, AreFirst}
+use Rattle.live_run.proofs.Starts.{may_first, count_first}
 
 first_false : (a b : Bool) → (not a && b) ≡ true → a ≡ false
 first_false false b h = refl
@@ -38,45 +39,30 @@ differ [] h = tt
 differ (f ∷ fs) h =
     (none_same f fs (first_false (list_any (λ (g : FileBody). same_name f.name g.name) fs) (names_differ fs) h), differ fs (second_true (list_any (λ (g : FileBody). same_name f.name g.name) fs) (names_differ fs) h))
 
--- a user's files have modes 0 to 3
-modes_by : (v : ℕ) (files : List OwnedFile) → AllByRecursion (λ (f : OwnedFile). f.body.mode ≤ 3) files → AllByRecursion (λ (f : FileBody). f.mode ≤ 3) (files_of v files)
-modes_by v [] h = tt
-modes_by v (f ∷ fs) h =
-    elim (nat_eq f.owner v) as
-    (λ b. AllByRecursion (λ (g : FileBody). g.mode ≤ 3) (map (λ (g : OwnedFile). g.body) (cond b (f ∷ filter (λ (g : OwnedFile). nat_eq g.owner v) fs) (filter (λ (g : OwnedFile). nat_eq g.owner v) fs))))
-    [ true ↦ (h.0, modes_by v fs h.1) | false ↦ modes_by v fs h.1 ]
-
-modes_of : (v : ℕ) (files : List OwnedFile) → All (λ (f : OwnedFile). f.body.mode ≤ 3) files → All (λ (f : FileBody). f.mode ≤ 3) (files_of v files)
-modes_of v files h = All-from_recursion (λ (f : FileBody). f.mode ≤ 3) (files_of v files) (modes_by v files (recursion_from_All (λ (f : OwnedFile). f.body.mode ≤ 3) files h))
-
-fit_from : (u : ℕ) (accounts : List Account) (files : List OwnedFile)
-    → ((v : ℕ) → names_differ (files_of v files) ≡ true) → ((v : ℕ) → All (λ (f : FileBody). f.mode ≤ 3) (files_of v files))
-    → ((k : ℕ) (d : Account) → k < length accounts → tracks_of (files_of (u + k) files) ≤ (get_or accounts k d).tracks) → AreFit u accounts files
-fit_from u [] files names modes tracks = tt
-fit_from u (a ∷ accounts) files names modes tracks =
-    let here : u + 0 ≡ u = omega arith in (
-      differ (files_of u files) (names u),
-      modes u,
-      subst (λ (v : ℕ). tracks_of (files_of v files) ≤ a.tracks) here (tracks 0 a (omega arith)),
-      fit_from (suc u) accounts files names modes
-          (λ k d h. let e : u + suc k ≡ suc u + k = omega arith in subst (λ (v : ℕ). tracks_of (files_of v files) ≤ (get_or accounts k d).tracks) e (tracks (suc k) d (omega (arith, h)))),
-    )
-
 any_default : (accounts : List Account) (k : ℕ) (d e : Account) → k < length accounts → get_or accounts k d ≡ get_or accounts k e
 any_default [] k d e h = absurd (omega arith)
 any_default (a ∷ accounts) zero d e h = refl
 any_default (a ∷ accounts) (suc k) d e h = any_default accounts k d e (omega (arith, h))
 
-pub fits : (script : Script) → IsInRange script → AreFit 1 script.accounts script.files
-fits script range =
-    fit_from 1 script.accounts script.files range.names (λ v. modes_of v script.files range.modes)
-    (λ k d h.
-    let some : 1 ≤ 1 + k = omega arith in
-    let within : 1 + k ≤ length script.accounts = omega (arith, h) in
-    let back : 1 + k - 1 ≡ k = omega arith in
-    subst (λ (n : ℕ). tracks_of (files_of (1 + k) script.files) ≤ n)
-    (ap (λ (i : ℕ). (get_or script.accounts i nobody_account).tracks) back ∙ ap (λ (a : Account). a.tracks) (any_default script.accounts k nobody_account d h))
-    (range.tracks (1 + k) some within))
-  where
-    nobody_account : Account
-    nobody_account = record { name = 0; password = 0; blocks = 0; tracks = 0 }
+-- the files of a script can be the first in its directories
+module _ (script : Script) (range : IsInRange script) (told : Bool) (faults : ℕ) (quotas : List ℕ) (are : quotas ≡ script.params.common ∷ map (λ (a : Account). a.tracks) script.accounts) (s : DirectoriesState) (none : HaveNone quotas told faults s) where
+  count : s.count ≡ length script.accounts
+  count = count_first script.params.common script.accounts script.files told faults quotas are s none
+
+  most : (u : ℕ) → 1 ≤ u → u ≤ s.count → tracks_of (files_of u script.files) ≤ s.may u
+  most u pos within =
+      let inside : u ≤ length script.accounts = omega (arith, within, count) in
+      subst (λ (n : ℕ). tracks_of (files_of u script.files) ≤ n)
+      (ap (λ (a : Account). a.tracks) (any_default script.accounts (u - 1) _ no_account (omega (arith, pos, inside)))
+      ∙ sym (may_first script.params.common script.accounts script.files told faults quotas are s none u pos inside))
+      (range.tracks u pos inside)
+
+  pub can_be_first : AreFirst script.files s
+  can_be_first =
+      record {
+        none = none.own;
+        owners = λ k d low. let o = range.owners k d low in (o.0, omega (arith, o.1, count));
+        modes = range.modes;
+        names = λ u. differ (files_of u script.files) (range.names u);
+        tracks = most;
+      }

@@ -1,6 +1,6 @@
 -- The start of a run: its users have no words and no blocks, and agree with cores of which no user has any.
-use Rattle.std.proofs.Common.{◌≡◌, ℕ, zero, suc, ◌+◌, ◌-◌, ◌<◌, ◌≤◌, Bool, true, false, ◌&&◌, List, [], ◌∷◌, map, length, replicate, get_or, refl, sym, ap, subst, ◌∙◌, arith}
-use Rattle.std.specs.Prelude.{slice_index_or}
+use Rattle.std.proofs.Common.{◌≡◌, ℕ, zero, suc, ◌+◌, ◌-◌, ◌<◌, ◌≤◌, Bool, true, false, ◌&&◌, List, [], ◌∷◌, map, length, replicate, get_or, Option, Some, None, Ok, Err, is_some, refl, sym, ap, subst, ◌∙◌, arith}
+use Rattle.std.specs.Prelude.{slice_index_or, OnOk}
 use Rattle.std.specs.List.{All}
 use Rattle.std.proofs.lemmas.List.{length-map}
 use Rattle.std.proofs.lemmas.List.Elements.{All-nil, All-cons}
@@ -21,16 +21,22 @@ use Rattle.system_model.specs.Run.{Run}
 use Rattle.system_model.specs.Joined.{joined, with_stores}
 use Rattle.system_model.specs.Cases.{user_at}
 use Rattle.system_model.specs.Record.{start_of, users_from}
-use Rattle.file_map.specs.Directory.{Directory}
 use Rattle.directories.specs.Directories.{DirectoriesState}
-use Rattle.directories.specs.Memory.{no_directory, directory_at, directories_from, first_kept, state_of}
+use Rattle.file_tracks.specs.Seen.{tells_of}
+use Rattle.track_directories.specs.Firsts.{HaveNone, Adds}
 use Rattle.user_cores.specs.Cores.{CoresState}
 use Rattle.user_cores.specs.Backing.{Held, BackState, back_of}
-use Rattle.supervisor.specs.Seen.{Bare, run_with}
+use Rattle.supervisor.specs.Seen.{Bare, run_with, record_so_far}
 use Rattle.supervisor.specs.Steps.{IsTied}
 use Rattle.supervisor.specs.Whole.{whole_of}
 use Rattle.live_run.specs.Calls.{IsReady, run_over}
 use Rattle.live_run.specs.Starts.{HasFirstCores, HasFirstFiles, Begins}
+use Rattle.user_cores.proofs.Listed.{disk_told}
+use Rattle.file_map.specs.Known.{known, whole_is_known}
+use Rattle.ctss_types.specs.declared.file.FileBody.{FileBody}
+use Rattle.ctss_types.specs.declared.history.Item.{Item}
+use Rattle.ctss_types.specs.declared.fault.StepFault.{StepFault}
+use Rattle.std.specs.declared.result.Result.{Result}
 
 -- users whose words and files lie elsewhere, with these
 stored_users : (k : ℕ) (accounts : List Account) (files : List OwnedFile) (stores : ℕ → Stored) → ((u : ℕ) → k ≤ u → u < k + length accounts → stores u ≡ stored [] (files_of u files))
@@ -134,8 +140,20 @@ and_true : (b : Bool) → (b && true) ≡ b
 and_true true = refl
 and_true false = refl
 
--- a supervisor, first cores and first directories of the same accounts
-module _ (script : Script) (b : Bare) (told : Bool) (cores : CoresState) (dirs : DirectoriesState) (is : run_with no_places b ≡ start_of (record script { events = []; files = [] })) (first : HasFirstCores script.accounts told cores) (files : HasFirstFiles script.params.common script.accounts script.files dirs) where
+-- what the start of a script shows does not hang on its events and files
+transcripts_of_files : (u : ℕ) (accounts : List Account) (files : List OwnedFile) → map (λ (p : User). p.transcript) (users_from u accounts []) ≡ map (λ (p : User). p.transcript) (users_from u accounts files)
+transcripts_of_files u [] files = refl
+transcripts_of_files u (a ∷ accounts) files = ap (λ (ts : List (List Item)). [] ∷ ts) (transcripts_of_files (suc u) accounts files)
+
+shows_at_start : (script : Script) → record_so_far (start_of (record script { events = []; files = [] })) ≡ record_so_far (start_of script)
+unfolding start_of
+shows_at_start script = λ j. record (record_so_far (start_of script)) { transcripts = transcripts_of_files 1 script.accounts script.files j }
+
+known_told : (tells : Bool) (files : List FileBody) → tells ≡ true → known tells files ≡ files
+known_told tells files told = ap (λ (b : Bool). known b files) told ∙ whole_is_known files
+
+-- a supervisor, first cores and directories of the same accounts
+module _ (script : Script) (b : Bare) (drum disk : Bool) (cores : CoresState) (dirs : DirectoriesState) (is : run_with no_places b ≡ start_of (record script { events = []; files = [] })) (first : HasFirstCores script.accounts drum cores) where
   abbrev none : Script
   none = record script { events = []; files = [] }
 
@@ -148,66 +166,81 @@ module _ (script : Script) (b : Bare) (told : Bool) (cores : CoresState) (dirs :
   count : length b.users ≡ length script.accounts
   count = ap length users ∙ count_users 1 script.accounts []
 
-  pub ready_at_first : IsReady (whole_of b back)
-  ready_at_first =
+  pub shown_at_first : record_so_far (run_with no_places b) ≡ record_so_far (start_of script)
+  shown_at_first = ap record_so_far is ∙ shows_at_start script
+
+  module _ (files : HasFirstFiles script.params.common script.accounts script.files disk dirs) where
+    ready_at_first : IsReady (whole_of b back)
+    ready_at_first =
+        record {
+          agrees = record {
+            tied = tied_first b.users back.held (first.quotas ∙ ap (λ (ns : List ℕ). 0 ∷ ns) (quotas_are none b is)) (no_user_has none b is) first.sizes
+                (λ u pos within. files.may u pos (omega (arith, within, count)) ∙ ap (λ (a : Account). a.tracks) (sym (account_at 1 script.accounts [] (u - 1))) ∙ ap (λ (ps : List User). (get_or ps (u - 1) nobody).inner.account.tracks) (sym users))
+                (files.count ∙ sym count);
+            common = files.common_may ∙ sym (ap (λ (r : Run). r.common) is ∙ common_at_start none);
+          };
+          seats = subst (λ (cs : List Console). 32 ≤ length cs) (sym (ap (λ (r : Run). r.system.consoles) is)) (seats_at_start none);
+        }
+
+    first_store : disk ≡ true → (u : ℕ) → 1 ≤ u → u < 1 + length script.accounts → back.held.stores u ≡ stored [] (files_of u script.files)
+    first_store told zero pos within = absurd (omega (arith, pos))
+    first_store told (suc u) pos within =
+        let own : dirs.own (suc u) ≡ files_of (suc u) script.files = files.own (suc u) pos (omega (arith, within)) ∙ known_told disk (files_of (suc u) script.files) told in
+        λ j. stored (first.words (suc u) pos j) (own j)
+
+    run_at_first : (drum && disk) ≡ true → run_over (whole_of b back) ≡ start_of (record script { events = [] })
+    run_at_first told =
+        (λ i. joined back.held.stores (run_with (first.places i) b))
+        ∙ ap (joined back.held.stores) is
+        ∙ joined_start script back.held.stores (first_store (disk_told drum disk told)) files.common
+
+    pub begins_at_first : b.texts ≡ replicate 32 [] → b.ended ≡ false → Begins script (drum && disk) (whole_of b back)
+    begins_at_first texts begun =
+        record {
+          run = run_at_first;
+          entries = ap (λ (r : Run). r.system.entries) is ∙ none_at_start none;
+          texts = texts;
+          begun = begun;
+          tells = (λ j. first.tells j && files.tells j);
+          ready = ready_at_first;
+        }
+
+tracks_at : (accounts : List Account) (i : ℕ) → i < length accounts → get_or (map (λ (a : Account). a.tracks) accounts) i 0 ≡ (get_or accounts i no_account).tracks
+tracks_at [] i h = absurd (omega (arith, h))
+tracks_at (a ∷ accounts) zero h = refl
+tracks_at (a ∷ accounts) (suc i) h = tracks_at accounts i (omega (arith, h))
+
+-- directories without files of these accounts' tracks
+module _ (common : ℕ) (accounts : List Account) (files : List OwnedFile) (told : Bool) (faults : ℕ) (quotas : List ℕ) (are : quotas ≡ common ∷ map (λ (a : Account). a.tracks) accounts) (old : DirectoriesState) (none : HaveNone quotas told faults old) where
+  pub may_first : (u : ℕ) → 1 ≤ u → u ≤ length accounts → old.may u ≡ (get_or accounts (u - 1) no_account).tracks
+  may_first zero pos within = absurd (omega (arith, pos))
+  may_first (suc i) pos within =
+      let e : i ≡ suc i - 1 = omega arith in
+      none.may (suc i) ∙ ap (λ (q : List ℕ). get_or q (suc i) 0) are ∙ tracks_at accounts i (omega (arith, within)) ∙ ap (λ (k : ℕ). (get_or accounts k no_account).tracks) e
+
+  pub count_first : old.count ≡ length accounts
+  count_first = none.count ∙ ap (λ (q : List ℕ). length q - 1) are ∙ (let l = length-map accounts (λ (a : Account). a.tracks) in omega (arith, l))
+
+  -- behind the writing of first files
+  pub first_files : (result : Result Unit StepFault) (new : DirectoriesState) → result ≡ Ok tt → Adds files result old new → HasFirstFiles common accounts files told new
+  first_files result new is adds =
+      let a : Adds files (Ok tt) old new = subst (λ (r : Result Unit StepFault). Adds files r old new) is adds in
       record {
-        agrees = record {
-          tied = tied_first b.users back.held (first.quotas ∙ ap (λ (ns : List ℕ). 0 ∷ ns) (quotas_are none b is)) (no_user_has none b is) first.sizes
-              (λ u pos within. files.may u pos (omega (arith, within, count)) ∙ ap (λ (a : Account). a.tracks) (sym (account_at 1 script.accounts [] (u - 1))) ∙ ap (λ (ps : List User). (get_or ps (u - 1) nobody).inner.account.tracks) (sym users))
-              (files.count ∙ sym count);
-          common = files.common_may ∙ sym (ap (λ (r : Run). r.common) is ∙ common_at_start none);
-        };
-        seats = subst (λ (cs : List Console). 32 ≤ length cs) (sym (ap (λ (r : Run). r.system.consoles) is)) (seats_at_start none);
+        own = λ u pos within. a.own u pos (omega (arith, within, count_first)) ∙ ap (λ (b : Bool). known b (files_of u files)) none.tells;
+        may = λ u pos within. a.users.may u ∙ may_first u pos within;
+        common = a.common ∙ none.common;
+        common_may = a.users.common ∙ none.common_may ∙ ap (λ (q : List ℕ). get_or q 0 0) are;
+        count = a.users.count ∙ count_first;
+        tells = a.tells ∙ none.tells;
       }
 
-  first_store : (u : ℕ) → 1 ≤ u → u < 1 + length script.accounts → back.held.stores u ≡ stored [] (files_of u script.files)
-  first_store zero pos within = absurd (omega (arith, pos))
-  first_store (suc u) pos within = λ j. stored (first.words (suc u) pos j) (files.own (suc u) pos (omega (arith, within)) j)
+-- a disk that tells its records
+pub told_is_some : (o : Option (List (List ℕ))) → tells_of o ≡ is_some o
+unfolding tells_of
+told_is_some None = refl
+told_is_some (Some rows) = refl
 
-  run_at_first : run_over (whole_of b back) ≡ start_of (record script { events = [] })
-  run_at_first =
-      (λ i. joined back.held.stores (run_with (first.places i) b))
-      ∙ ap (joined back.held.stores) is
-      ∙ joined_start script back.held.stores first_store files.common
-
-  pub begins_at_first : b.texts ≡ replicate 32 [] → b.ended ≡ false → Begins script told (whole_of b back)
-  begins_at_first texts begun =
-      record {
-        run = run_at_first;
-        entries = ap (λ (r : Run). r.system.entries) is ∙ none_at_start none;
-        texts = texts;
-        begun = begun;
-        tells = (λ j. first.tells j && files.tells j) ∙ and_true told;
-      }
-
--- the first directories, in memory
-directory_from : (u k : ℕ) (accounts : List Account) (files : List OwnedFile) → k < length accounts
-    → get_or (directories_from u accounts files) k no_directory ≡ record { files = files_of (u + k) files; quota = (get_or accounts k no_account).tracks }
-directory_from u k [] files h = absurd (omega arith)
-directory_from u zero (a ∷ accounts) files h = let e : u ≡ u + 0 = omega arith in ap (λ (v : ℕ). record { files = files_of v files; quota = a.tracks }) e
-directory_from u (suc k) (a ∷ accounts) files h =
-    let e : suc u + k ≡ u + suc k = omega arith in
-    directory_from (suc u) k accounts files (omega (arith, h)) ∙ ap (λ (v : ℕ). record { files = files_of v files; quota = (get_or accounts k no_account).tracks }) e
-
-directory_is : (accounts : List Account) (files : List OwnedFile) (u : ℕ) → 1 ≤ u → u ≤ length accounts
-    → directory_at (directories_from 1 accounts files) u ≡ record { files = files_of u files; quota = (get_or accounts (u - 1) no_account).tracks }
-directory_is accounts files zero pos within = absurd (omega (arith, pos))
-directory_is accounts files (suc k) pos within =
-    let e : k ≡ suc k - 1 = omega arith in
-    let one : 1 + k ≡ suc k = omega arith in
-    directory_from 1 k accounts files (omega (arith, within)) ∙ ap (λ (v : ℕ). record { files = files_of v files; quota = (get_or accounts k no_account).tracks }) one ∙ ap (λ (i : ℕ). record { files = files_of (suc k) files; quota = (get_or accounts i no_account).tracks }) e
-
-count_directories : (u : ℕ) (accounts : List Account) (files : List OwnedFile) → length (directories_from u accounts files) ≡ length accounts
-count_directories u [] files = refl
-count_directories u (a ∷ accounts) files = ap suc (count_directories (suc u) accounts files)
-
-pub directories_first : (common : ℕ) (accounts : List Account) (files : List OwnedFile) → HasFirstFiles common accounts files (state_of (first_kept common accounts files))
-directories_first common accounts files =
-    record {
-      own = λ u pos within. ap (λ (d : Directory). d.files) (directory_is accounts files u pos within);
-      may = λ u pos within. ap (λ (d : Directory). d.quota) (directory_is accounts files u pos within);
-      common = refl;
-      common_may = refl;
-      count = count_directories 1 accounts files;
-      tells = refl;
-    }
+-- what follows where a call answered Ok
+pub on_ok : {T E : Type 0} (r : Result T E) (P Q : Type 0) → (P → Q) → OnOk r P → OnOk r Q
+on_ok (Ok x) P Q f h = f h
+on_ok (Err e) P Q f h = tt

@@ -1,16 +1,21 @@
 -- claim: the start of a run: the accounts and files of a script, before any event, where no user has a word or a block yet.
-use Rattle.std.specs.Prelude.{◌≡◌, ℕ, ◌-◌, ◌≤◌, Bool, true, false, List, [], ◌∷◌, length, map, replicate, get_or}
+use Rattle.std.specs.Prelude.{◌≡◌, ℕ, ◌-◌, ◌≤◌, Bool, true, false, List, [], ◌∷◌, length, map, replicate, get_or, OnOk, OnErr}
+use Rattle.std.specs.declared.result.Result.{Result}
+use Rattle.faults.specs.Faults.{Rose}
 use Rattle.ctss_types.specs.declared.script.Script.{Script}
 use Rattle.ctss_types.specs.declared.script.Account.{Account}
 use Rattle.ctss_types.specs.declared.file.OwnedFile.{OwnedFile}
 use Rattle.file_model.specs.Owned.{files_of}
+use Rattle.file_map.specs.Known.{known}
 use Rattle.user_model.specs.Session.{no_account}
 use Rattle.directories.specs.Directories.{DirectoriesState}
 use Rattle.plan_model.specs.Loads.{no_places}
 use Rattle.system_model.specs.Record.{start_of}
 use Rattle.user_cores.specs.Cores.{CoresState}
-use Rattle.supervisor.specs.Whole.{Whole}
-use Rattle.live_run.specs.Calls.{run_over}
+use Rattle.supervisor.specs.Seen.{record_so_far}
+use Rattle.supervisor.specs.Whole.{Whole, run_apart}
+use Rattle.live_run.specs.Calls.{run_over, IsReady}
+use Rattle.live_run.specs.Media.{MediaSeen}
 
 -- no user of these accounts has a word or a block yet
 pub record HasFirstCores (accounts : List Account) (told : Bool) (s : CoresState) : Type 0 where
@@ -20,19 +25,31 @@ pub record HasFirstCores (accounts : List Account) (told : Bool) (s : CoresState
   pub quotas : s.memory.quotas ≡ 0 ∷ map (λ (a : Account). a.blocks) accounts
   pub tells : s.memory.tells ≡ told
 
--- the run is that of the script without events, and no console has shown anything
-pub record Begins (script : Script) (told : Bool) (s : Whole) : Type 0 where
-  pub run : run_over s ≡ start_of (record script { events = [] })
-  pub entries : s.bare.entries ≡ []
-  pub texts : s.bare.texts ≡ replicate 32 []
-  pub begun : s.bare.ended ≡ false
-  pub tells : s.back.held.tells ≡ told
-
--- the directories of these accounts hold their first files, and there is no common file, for so many tracks
-pub record HasFirstFiles (quota : ℕ) (accounts : List Account) (files : List OwnedFile) (s : DirectoriesState) : Type 0 where
-  pub own : (u : ℕ) → 1 ≤ u → u ≤ length accounts → s.own u ≡ files_of u files
+-- the directories of these accounts hold their first files, as far as the disk tells them, and there is no common file, for so many
+-- tracks
+pub record HasFirstFiles (quota : ℕ) (accounts : List Account) (files : List OwnedFile) (told : Bool) (s : DirectoriesState) : Type 0 where
+  pub own : (u : ℕ) → 1 ≤ u → u ≤ length accounts → s.own u ≡ known told (files_of u files)
   pub may : (u : ℕ) → 1 ≤ u → u ≤ length accounts → s.may u ≡ (get_or accounts (u - 1) no_account).tracks
   pub common : s.common ≡ []
   pub common_may : s.common_may ≡ quota
   pub count : s.count ≡ length accounts
-  pub tells : s.tells ≡ true
+  pub tells : s.tells ≡ told
+
+-- The run is that of the script without events, where drum and disk tell their records, and no console has shown anything.
+pub record Begins (script : Script) (told : Bool) (s : Whole) : Type 0 where
+  pub run : told ≡ true → run_over s ≡ start_of (record script { events = [] })
+  pub entries : s.bare.entries ≡ []
+  pub texts : s.bare.texts ≡ replicate 32 []
+  pub begun : s.bare.ended ≡ false
+  pub tells : s.back.held.tells ≡ told
+  pub ready : IsReady s
+
+-- A run begins if the first files could be written on the disk, else that failed; the drum was not called. What it shows is the start
+-- in any case.
+pub record IsBegun (script : Script) (m : MediaSeen) {E : Type 0} (wrote : Result Unit E) (s : Whole) : Type 0 where
+  pub begins : OnOk wrote (Begins script m.tells s)
+  pub shown : record_so_far (run_apart s) ≡ record_so_far (start_of script)
+  pub calls : s.back.calls ≡ m.drum_calls
+  pub drum : s.back.faults ≡ m.drum_faults
+  pub disk : m.disk_faults ≤ s.back.disk_faults
+  pub cause : OnErr wrote (Rose m.disk_faults s.back.disk_faults)

@@ -1,10 +1,10 @@
 //! A run of the supervisor with its users' cores, as a core that consoles are served from.
 //!
-//! The definitions stand in `specs/`: `Starts` and `Calls`.
+//! The definitions stand in `specs/`: `Media`, `Starts` and `Calls`.
 #![tactic(auto)]
 
 mod run;
 mod start;
 
 pub use run::LiveRun;
-pub use start::{begin, quotas_of};
+pub use start::{Begun, begin, quotas_of};

@@ -1,5 +1,5 @@
 -- A run behind the calls of turns, and what it counts.
-use Rattle.std.proofs.Common.{◌≡◌, ℕ, suc, ◌+◌, ◌*◌, List, [], ◌∷◌, ◌++◌, map, Option, None, refl, sym, ap, ◌∙◌}
+use Rattle.std.proofs.Common.{◌≡◌, ℕ, suc, ◌+◌, ◌*◌, ◌≤◌, List, [], ◌∷◌, ◌++◌, map, Option, None, refl, sym, ap, ◌∙◌, arith}
 use Rattle.medium.specs.Medium.{CallList}
 use Rattle.ctss_types.specs.declared.script.Timed.{Timed}
 use Rattle.image_map.specs.Loads.{with_calls, cut}
@@ -7,6 +7,7 @@ use Rattle.image_map.proofs.Calls.{with_calls-append}
 use Rattle.time_sharing.specs.System.{Entry}
 use Rattle.live_core.specs.Core.{CoreCall, Took, Went}
 use Rattle.supervisor.specs.Counts.{IsCounted, IsCountedToLoad}
+use Rattle.user_cores.specs.Backing.{BackState}
 use Rattle.supervisor.specs.Whole.{Whole}
 use Rattle.supervisor.proofs.Counting.{counted_on}
 use Rattle.live_run.specs.Calls.{Follows}
@@ -47,3 +48,9 @@ counted_then_cut es fs gs a b c most one two =
       writes = loads.writes;
       reads = loads.reads;
     }
+
+-- the disk's count of faults never falls
+pub disk_rises : (calls : List CoreCall) (a b : Whole) → Follows calls a b → a.back.disk_faults ≤ b.back.disk_faults
+disk_rises [] a b h = let same = ap (λ (w : Whole). w.back.disk_faults) h in omega (arith, same)
+disk_rises (Took e ∷ calls) a b h = let same = ap (λ (k : BackState). k.disk_faults) h.1.back in let more = disk_rises calls h.0 b h.2 in omega (arith, same, more)
+disk_rises (Went limit fault ∷ calls) a b h = let one = h.1.disk in let more = disk_rises calls h.0 b h.2 in omega (arith, one, more)

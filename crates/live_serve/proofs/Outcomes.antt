@@ -1,41 +1,41 @@
 -- What a run leaves behind the talk that was had over it.
-use Rattle.std.proofs.Common.{◌≡◌, ℕ, ◌*◌, Bool, true, false, List, [], ◌++◌, length, map, replicate, Option, Ok, Err, refl, subst}
-use Rattle.std.specs.Prelude.{OnOk, IfOk, IfErr}
+use Rattle.std.proofs.Common.{◌≡◌, ℕ, ◌*◌, ◌≤◌, true, false, List, [], ◌++◌, length, map, replicate, Ok, Err, refl, sym, subst, arith}
+use Rattle.std.specs.Prelude.{OnOk, OnErr, IfOk, IfErr, is_err}
 use Rattle.std.specs.declared.result.Result.{Result}
-use Rattle.faults.specs.Faults.{Rose}
-use Rattle.medium.specs.Medium.{CallList}
+use Rattle.faults.specs.Faults.{Rose, WhereTold}
+use Rattle.file_tracks.specs.Lying.{LieOn}
 use Rattle.ctss_types.specs.declared.script.Script.{Script}
 use Rattle.ctss_types.specs.declared.script.Timed.{Timed}
 use Rattle.ctss_types.specs.declared.history.Record.{Record}
 use Rattle.plan_model.specs.Loads.{Places}
 use Rattle.system_model.specs.Run.{ended}
-use Rattle.system_model.specs.Joined.{joined}
-use Rattle.system_model.specs.Record.{record_from}
+use Rattle.system_model.specs.Record.{start_of, record_from}
 use Rattle.live_core.specs.Core.{CoreCall, Took}
 use Rattle.supervisor.specs.Seen.{run_with, record_so_far, without_files}
 use Rattle.supervisor.specs.Whole.{Whole, run_apart}
-use Rattle.live_run.specs.Calls.{Follows}
+use Rattle.live_run.specs.Calls.{Follows, seen_of}
+use Rattle.live_run.specs.Media.{MediaSeen}
 use Rattle.live_run.specs.Starts.{Begins}
+use Rattle.supervisor.specs.Closes.{EndsComplete}
 use Rattle.console_link.specs.Links.{LinkSeen, Did, DidOpen}
 use Rattle.console_server.specs.declared.fault.ServeFault.{ServeFault}
 use Rattle.console_server.specs.declared.fault.ServeFault.TheVariants as serve
 use Rattle.console_server.specs.Readings.{Then}
 use Rattle.console_server.specs.Turns.{events_of_turn}
 use Rattle.console_server.specs.History.{heard_in}
-use Rattle.console_server.specs.Server.{CutAt, Waiting, Hanging, Accepting, Dialling, Reading, Advancing, MayMeet, GivenUntil, ends_with}
+use Rattle.console_server.specs.Server.{IsCause, CutAt, Waiting, Hanging, Accepting, Dialling, Reading, Advancing, MayMeet, GivenUntil, ends_with}
 use Rattle.console_server.specs.Conversation.{events_of_turns, desk_behind, texts_behind}
 use Rattle.live_serve.specs.Talks.{empty_desk, IsTalk, TalkIsDone, TalkIsCut}
-use Rattle.live_serve.specs.Live.{IsLiveRecord, IsStopped}
-use Rattle.live_serve.proofs.Ends.{live_record, stops_in_turn}
+use Rattle.live_serve.specs.Live.{IsLiveRecord, IsStopped, IsLost, IsServed, IsLeft, AtStart, InTurn, AtEnd}
+use Rattle.live_serve.specs.declared.ending.Served.{Served}
+use Rattle.live_serve.proofs.Behind.{disk_rises}
+use Rattle.live_serve.proofs.Ends.{live_record, stops_in_turn, lost_in_turn, lost_at_end}
 
 pub on_ok : {T E : Type 0} (r : Result T E) (x : T) (P : Type 0) → r ≡ Ok x → OnOk r P → P
 on_ok r x P is h = subst (λ (q : Result _ _). OnOk q P) is h
 
-pub if_ok : {T E : Type 0} (r : Result T E) (x : T) (P : T → Type 0) → r ≡ Ok x → IfOk r P → P x
-if_ok r x P is h = subst (λ (q : Result _ _). IfOk q P) is h
-
-pub if_err : {T E : Type 0} (r : Result T E) (f g : E) (P : E → Type 0) → r ≡ Err f → f ≡ g → IfErr r P → P g
-if_err r f g P is same h = subst P same (subst (λ (q : Result _ _). IfErr q P) is h)
+pub if_err : {T E : Type 0} (r : Result T E) (f : E) (P : E → Type 0) → r ≡ Err f → IfErr r P → P f
+if_err r f P is h = subst (λ (q : Result _ _). IfErr q P) is h
 
 pub rose_as : (a b c d : ℕ) → a ≡ c → Rose a b → b ≡ d → Rose c d
 rose_as a b c d one rose two = subst (λ (n : ℕ). Rose c n) two (subst (λ (n : ℕ). Rose n b) one rose)
@@ -55,35 +55,109 @@ of_drum Dialling is = absurd (subst IsDrum is tt)
 of_drum Reading is = absurd (subst IsDrum is tt)
 of_drum Advancing is = refl
 
--- all but users' files is what the run leaves, wherever their blocks lie
-abbrev Said : Record → Whole → Type 0
-Said rec b = (p : Places) → without_files rec ≡ without_files (record_from (ended (run_with p b.bare)))
+abbrev IsDisk : ServeFault → Type 0
+IsDisk serve.Link = ⊥
+IsDisk serve.Drum = ⊥
+IsDisk serve.Disk = Unit {0}
+IsDisk serve.NoMemory = ⊥
 
-module _ (base : Script) (told : Bool) (a b : Whole) (begins : Begins base told a) {C : Type 0} (goes : C → List CoreCall → C → Type 0) (old new : C) (follow : (calls : List CoreCall) → goes old calls new → Follows calls a b) (was now : Option CallList) (was_is : a.back.calls ≡ was) (now_is : b.back.calls ≡ now) where
-  served : (count : ℕ) (events : List Timed) (k l m : LinkSeen) (rec : Record) → Did (DidOpen false) k l → TalkIsDone goes a.bare.texts count events l m old new
-      → (b.back.held.tells ≡ true → (p : Places) → rec ≡ record_from (ended (joined b.back.held.stores (run_with p b.bare)))) → Said rec b → IsLiveRecord base count events told was now rec × IsTalk count events k m
-  served count events k l m rec opened talk rec_is said =
-      let t : TalkIsDone goes (replicate 32 []) count events l m old new = subst (λ (texts : List (List ℕ)). TalkIsDone goes texts count events l m old new) begins.texts talk in (
-        live_record base told t.turns a b begins was was_is count events rec now t.many t.events_are (follow _ t.core) rec_is said now_is,
-        record { turns = t.turns; many = t.many; lawful = t.lawful; link = Then (DidOpen false) _ k l m opened t.link; events_are = t.events_are },
-      )
+-- so it does with a fault of the disk
+of_disk : (at : CutAt) → MayMeet at serve.Disk → at ≡ Advancing
+of_disk Waiting is = absurd (subst IsDisk is tt)
+of_disk Hanging is = absurd (subst IsDisk is tt)
+of_disk Accepting is = absurd (subst IsDisk is tt)
+of_disk Dialling is = absurd (subst IsDisk is tt)
+of_disk Reading is = absurd (subst IsDisk is tt)
+of_disk Advancing is = refl
 
-  pub served_as : (count : ℕ) (events shown : List Timed) (k l m : LinkSeen) (rec : Record) → events ≡ shown → Did (DidOpen false) k l → TalkIsDone goes a.bare.texts count events l m old new
-      → (b.back.held.tells ≡ true → (p : Places) → rec ≡ record_from (ended (joined b.back.held.stores (run_with p b.bare)))) → Said rec b → IsLiveRecord base count shown told was now rec × IsTalk count shown k m
-  served_as count events shown k l m rec is opened talk rec_is said =
-      served count shown k l m rec opened (subst (λ (es : List Timed). TalkIsDone goes a.bare.texts count es l m old new) is talk) rec_is said
+abbrev blank : List (List ℕ)
+blank = replicate 32 []
 
-  pub stopped : (count : ℕ) (faults_were faults_are : ℕ) (k m : LinkSeen) (rec : Record) → TalkIsCut goes a.bare.texts count serve.Drum k m old new → rec ≡ record_so_far (run_apart b) → Rose faults_were faults_are
-      → IsStopped base count told was now faults_were faults_are rec
-  stopped count faults_were faults_are k m rec talk rec_is rose =
-      let t : TalkIsCut goes (replicate 32 []) count serve.Drum k m old new = subst (λ (texts : List (List ℕ)). TalkIsCut goes texts count serve.Drum k m old new) begins.texts talk in
-      let here = texts_behind (replicate 32 []) t.turns in
-      let desk = desk_behind (replicate 32 []) empty_desk t.turns in
-      let at_limit : t.at ≡ Advancing = of_drum t.at t.cut.met in
-      let given : t.events ≡ events_of_turn (1000 * length t.turns) here desk t.answers = subst (λ (x : CutAt). GivenUntil (1000 * length t.turns) here desk t.answers x t.events) at_limit t.cut.given in
-      let core : goes old (heard_in 0 (events_of_turns 0 (replicate 32 []) empty_desk t.turns) ++ (map Took t.events ++ ends_with (length t.turns) serve.Drum Advancing)) new =
-      subst (λ (x : CutAt). goes old (heard_in 0 (events_of_turns 0 (replicate 32 []) empty_desk t.turns) ++ (map Took t.events ++ ends_with (length t.turns) serve.Drum x)) new) at_limit t.core in
+module _ (base : Script) (was now : MediaSeen) (a b : Whole) (begins : Begins base was.tells a) {C : Type 0} (goes : C → List CoreCall → C → Type 0) (old new : C) (follow : (calls : List CoreCall) → goes old calls new → Follows calls a b)
+    (was_is : a.back.calls ≡ was.drum_calls) (count : ℕ) where
+  talk_from_blank : (events : List Timed) (l m : LinkSeen) → TalkIsDone goes a.bare.texts count events l m old new → TalkIsDone goes blank count events l m old new
+  talk_from_blank events l m talk = subst (λ (texts : List (List ℕ)). TalkIsDone goes texts count events l m old new) begins.texts talk
+
+  talk_is : (events : List Timed) (k l m : LinkSeen) → Did (DidOpen false) k l → TalkIsDone goes blank count events l m old new → IsTalk count events k m
+  talk_is events k l m opened t = record { turns = t.turns; many = t.many; lawful = t.lawful; link = Then (DidOpen false) _ k l m opened t.link; events_are = t.events_are }
+
+  -- all turns were done
+  pub served : (events shown : List Timed) (k l m : LinkSeen) (rec : Record) → events ≡ shown → Did (DidOpen false) k l → TalkIsDone goes a.bare.texts count events l m old new
+      → EndsComplete b.bare b.back.held rec → b.back.calls ≡ now.drum_calls → WhereTold now.disk_rows (λ rows. LieOn rows rec.files rec.common) → IsLiveRecord base count shown was now rec × IsTalk count shown k m
+  served events shown k l m rec is opened talk ends now_is lie =
+      let t : TalkIsDone goes blank count shown l m old new = subst (λ (es : List Timed). TalkIsDone goes blank count es l m old new) is (talk_from_blank events l m talk) in
+      (live_record base was t.turns a b begins was_is now count shown rec t.many t.events_are (follow _ t.core) ends now_is lie, talk_is shown k l m opened t)
+
+  -- and then the disk failed
+  pub lost_behind : was.disk_faults ≤ a.back.disk_faults → (events : List Timed) (k l m : LinkSeen) (rec : Record) → Did (DidOpen false) k l → TalkIsDone goes a.bare.texts count events l m old new
+      → ((places : Places) → rec ≡ without_files (record_from (ended (run_with places b.bare)))) → Rose b.back.disk_faults now.disk_faults → IsLost base count was now k m rec
+  lost_behind was_disk events k l m rec opened talk said rose =
+      let t = talk_from_blank events l m talk in
+      let more = disk_rises _ a b (follow _ t.core) in
       record {
-        stopped = λ tells. stops_in_turn base told t.turns a b begins was now was_is now_is count t.events t.answers rec t.few t.lawful tells given (follow _ core) rec_is;
+        lacks = λ told. AtEnd events (talk_is events k l m opened t) (lost_at_end base was t.turns a b begins was_is count events rec t.many t.events_are (follow _ t.core) said told);
+        cause = omega (arith, was_disk, more, rose);
+      }
+
+  module _ (fault : ServeFault) (k m : LinkSeen) (talk : TalkIsCut goes a.bare.texts count fault k m old new) where
+    cut_from_blank : TalkIsCut goes blank count fault k m old new
+    cut_from_blank = subst (λ (texts : List (List ℕ)). TalkIsCut goes texts count fault k m old new) begins.texts talk
+
+    module _ (at_limit : cut_from_blank.at ≡ Advancing) where
+      given_all_of_turn : cut_from_blank.events ≡ events_of_turn (1000 * length cut_from_blank.turns) (texts_behind blank cut_from_blank.turns) (desk_behind blank empty_desk cut_from_blank.turns) cut_from_blank.answers
+      given_all_of_turn =
+          subst (λ (x : CutAt). GivenUntil (1000 * length cut_from_blank.turns) (texts_behind blank cut_from_blank.turns) (desk_behind blank empty_desk cut_from_blank.turns) cut_from_blank.answers x cut_from_blank.events) at_limit cut_from_blank.cut.given
+
+      went : Follows (heard_in 0 (events_of_turns 0 blank empty_desk cut_from_blank.turns) ++ (map Took cut_from_blank.events ++ ends_with (length cut_from_blank.turns) fault Advancing)) a b
+      went =
+          follow _
+          (subst (λ (x : CutAt). goes old (heard_in 0 (events_of_turns 0 blank empty_desk cut_from_blank.turns) ++ (map Took cut_from_blank.events ++ ends_with (length cut_from_blank.turns) fault x)) new) at_limit cut_from_blank.core)
+
+  pub stopped : (k m : LinkSeen) (rec : Record) → TalkIsCut goes a.bare.texts count serve.Drum k m old new → rec ≡ record_so_far (run_apart b) → b.back.calls ≡ now.drum_calls → Rose was.drum_faults now.drum_faults
+      → IsStopped base count was now rec
+  stopped k m rec talk rec_is now_is rose =
+      let t = cut_from_blank serve.Drum k m talk in
+      let at_limit = of_drum t.at t.cut.met in
+      record {
+        stopped = λ told.
+            stops_in_turn base was t.turns a b begins was_is count t.events t.answers rec t.few t.lawful told (given_all_of_turn serve.Drum k m talk at_limit) rec_is now now_is (went serve.Drum k m talk at_limit);
         cause = rose;
       }
+
+  pub lost : (j k m : LinkSeen) (rec : Record) → TalkIsCut goes a.bare.texts count serve.Disk k m old new → rec ≡ record_so_far (run_apart b) → Rose was.disk_faults now.disk_faults → IsLost base count was now j m rec
+  lost j k m rec talk rec_is rose =
+      let t = cut_from_blank serve.Disk k m talk in
+      let at_limit = of_disk t.at t.cut.met in
+      record {
+        lacks = λ told. InTurn (lost_in_turn base was t.turns a b begins was_is count t.events t.answers rec t.few t.lawful told (given_all_of_turn serve.Disk k m talk at_limit) rec_is (went serve.Disk k m talk at_limit));
+        cause = rose;
+      }
+
+  -- whatever failed in a turn
+  pub cut_served : (was_drum : a.back.faults ≡ was.drum_faults) (was_disk : was.disk_faults ≤ a.back.disk_faults)
+      → b.back.calls ≡ now.drum_calls → b.back.faults ≡ now.drum_faults → b.back.disk_faults ≡ now.disk_faults
+      → (fault : ServeFault) (j k m : LinkSeen) → TalkIsCut goes a.bare.texts count fault k m old new → IsCause fault k m (seen_of a) (seen_of b)
+      → (rec : Record) → rec ≡ record_so_far (run_apart b) → (s : Served) → IsLeft fault rec s → IsServed base count was now j m s
+  cut_served was_drum was_disk calls drum disk serve.Link j k m talk cause rec is s left = absurd left
+  cut_served was_drum was_disk calls drum disk serve.NoMemory j k m talk cause rec is s left = absurd left
+  cut_served was_drum was_disk calls drum disk serve.Drum j k m talk cause rec is s left =
+      subst (IsServed base count was now j m) (sym left) (stopped k m rec talk is calls (rose_as a.back.faults b.back.faults was.drum_faults now.drum_faults was_drum cause drum))
+  cut_served was_drum was_disk calls drum disk serve.Disk j k m talk cause rec is s left =
+      subst (IsServed base count was now j m) (sym left) (lost j k m rec talk is (omega (arith, was_disk, cause, disk)))
+
+-- the first files could not be written
+pub lost_at_start : (base : Script) (turns : ℕ) (was now : MediaSeen) (a b : LinkSeen) (rec : Record) → b ≡ a → rec ≡ record_so_far (start_of base) → Rose was.disk_faults now.disk_faults → IsLost base turns was now a b rec
+lost_at_start base turns was now a b rec same is rose = record { lacks = λ told. AtStart same is; cause = rose }
+
+-- a call that failed, and one that didn't
+pub err_of : {T E : Type 0} (r : Result T E) (P : Type 0) → is_err r ≡ true → OnErr r P → P
+err_of (Ok x) P is h = cc
+err_of (Err e) P is h = h
+
+pub ok_of : {T E : Type 0} (r : Result T E) (P : Type 0) → is_err r ≡ false → OnOk r P → P
+ok_of (Ok x) P is h = h
+ok_of (Err e) P is h = cc
+
+pub ok_map : {T E : Type 0} (r : Result T E) (P Q : T → Type 0) → ((x : T) → P x → Q x) → IfOk r P → IfOk r Q
+ok_map (Ok x) P Q f h = f x h
+ok_map (Err e) P Q f h = tt

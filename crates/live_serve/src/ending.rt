@@ -6,5 +6,7 @@ pub enum Served {
     /// All turns were done: the events that people gave, and the record.
     Done { events: TimedList, record: Record },
     /// The drum failed. The record has no files.
-    Stopped(Record),
+    DrumFailed(Record),
+    /// The disk failed. The record has no files.
+    DiskFailed(Record),
 }

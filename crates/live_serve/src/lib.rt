@@ -1,8 +1,8 @@
 //! Live consoles over a run of the supervisor: people connect, what they do is given to the run turn by turn, and the run's
 //! record is that of a script with these events.
 //!
-//! The definitions stand in `specs/`: `Talks` (what passes over the link) and `Live` (the record, or what a run leaves that the
-//! drum stopped).
+//! The definitions stand in `specs/`: `Talks` (what passes over the link) and `Live` (the record, or what a run leaves that drum or
+//! disk stopped).
 #![tactic(auto)]
 
 mod ending;

@@ -1,38 +1,65 @@
-//! Live consoles over a drum and a link.
-ghost use Rattle.std.specs.Prelude.{◌≡◌, ◌≤◌, Err, is_some, IfOk};
+//! Live consoles over drum, disk and a link.
+ghost use Rattle.std.specs.Prelude.{◌≡◌, ◌≤◌, Err, IfOk};
 ghost use Rattle.faults.specs.Faults.{Rose};
 ghost use Rattle.drum_slots.specs.Kept.{Serves};
-ghost use Rattle.text_model.specs.Reading.{IsInRange};
-ghost use Rattle.live_serve.specs.Live.{IsServed};
+ghost use Rattle.track_store.specs.Tracks.{Serves as Holds};
+ghost use Rattle.text_model.specs.Lawful.{IsLawful};
+ghost use Rattle.live_run.specs.Media.{media_seen};
+ghost use Rattle.plan_model.specs.Loads.{no_places};
+ghost use Rattle.supervisor.specs.Seen.{record_so_far, run_with};
+ghost use Rattle.live_serve.specs.Live.{IsServed, IsLeft};
 
 use crate::ending::Served;
 use crate::fault::ServingFault;
 use crate::talking::{Talked, talk};
 use console_link::Link;
 use console_server::ServeFault;
-use ctss_types::{NoMemory, Script, StepFault};
-use live_run::begin;
+use ctss_types::Script;
+use live_run::{Begun, begin};
 use medium::Medium;
 use std::alloc::Global;
+use supervisor::{Closed, Supervisor};
 
-/// So many turns of 1000 ticks each, in which people connect at a port, over the accounts and files of a base script and a drum of at
-/// least 3840 records of 256 words.
-pub fn serve<D: Medium, L: Link>(
+/// What is left of a run in which a turn failed.
+fn cut_off(alloc: Global, run: Supervisor, fault: ServeFault) -> Result<Served, ServingFault>
+    ensures served { IfOk result (IsLeft fault (record_so_far (run_with no_places run))) }
+    ensures link { result ≡ Err ServingFault.Link → fault ≡ ServeFault.Link }
+{
+    match fault {
+        ServeFault::Link => Err(ServingFault::Link),
+        ServeFault::Drum => Ok(Served::DrumFailed(run.stop(alloc)?)),
+        ServeFault::Disk => Ok(Served::DiskFailed(run.stop(alloc)?)),
+        ServeFault::NoMemory => Err(ServingFault::NoMemory),
+    }
+}
+
+/// So many turns of 1000 ticks each, in which people connect at a port, over the accounts and files of a base script, a drum of at
+/// least 3840 records of 256 words and a disk of at least 10000 records of 432 words.
+pub fn serve<D: Medium, F: Medium, L: Link>(
     alloc: Global,
     base: &Script,
     port: u16,
     turns: u32,
     drum: &mut D,
+    disk: &mut F,
     link: &mut L,
 ) -> Result<Served, ServingFault>
-    requires range { IsInRange base.now }
+    requires lawful { IsLawful base.now }
     requires turns { turns ≤ 100000 }
-    requires serves { Serves (D.rows drum.old) (D.record_count drum.old) (D.words_each drum.old) 3840 }
-    ensures served { IfOk result (λ s. IsServed base.now turns (is_some (D.rows drum.old))
-        (D.calls drum.old) (D.calls drum.new) (D.faults drum.old) (D.faults drum.new) (L.seen link.old) (L.seen link.new) s) }
+    requires drum { Serves (D.rows drum.old) (D.record_count drum.old) (D.words_each drum.old) 3840 }
+    requires disk { Holds (F.rows disk.old) (F.record_count disk.old) (F.words_each disk.old) 10000 }
+    ensures served { IfOk result (IsServed base.now turns (media_seen D.Medium F.Medium drum.old disk.old)
+        (media_seen D.Medium F.Medium drum.new disk.new) (L.seen link.old) (L.seen link.new)) }
     ensures link { result ≡ Err ServingFault.Link → Rose (L.seen link.old).faults (L.seen link.new).faults }
 {
-    let run = begin(alloc, base, drum)?;
+    let Begun { run, wrote } = begin(alloc, base, drum, disk)?;
+    if wrote.is_err() {
+        let (supervisor, behind) = run.into_parts();
+        let (cores, files) = behind.into_parts();
+        let _ = cores.back();
+        let _ = files.back();
+        return Ok(Served::DiskFailed(supervisor.stop(alloc)?));
+    }
     if link.open(port).is_err() {
         return Err(ServingFault::Link);
     }
@@ -43,24 +70,18 @@ pub fn serve<D: Medium, L: Link>(
         ended,
     } = talked;
     let (supervisor, mut behind) = core.into_parts();
-    match ended {
-        Ok(()) => {
-            let closed = supervisor.close(alloc, &mut behind);
-            let (cores, _) = behind.into_parts();
-            let _ = cores.back();
-            match closed {
-                Ok(record) => Ok(Served::Done { events, record }),
-                Err(StepFault::Disk | StepFault::NoMemory) => Err(ServingFault::NoMemory),
-            }
-        }
-        Err(fault) => {
-            let (cores, _) = behind.into_parts();
-            let _ = cores.back();
-            match fault {
-                ServeFault::Link => Err(ServingFault::Link),
-                ServeFault::Drum => Ok(Served::Stopped(supervisor.stop(alloc)?)),
-                ServeFault::Disk | ServeFault::NoMemory => Err(ServingFault::NoMemory),
-            }
-        }
+    if let Err(fault) = ended {
+        let (cores, files) = behind.into_parts();
+        let _ = cores.back();
+        let _ = files.back();
+        return cut_off(alloc, supervisor, fault);
+    }
+    let closed = supervisor.close(alloc, &mut behind);
+    let (cores, files) = behind.into_parts();
+    let _ = cores.back();
+    let _ = files.back();
+    match closed? {
+        Closed::Complete(record) => Ok(Served::Done { events, record }),
+        Closed::WithoutFiles(record) => Ok(Served::DiskFailed(record)),
     }
 }

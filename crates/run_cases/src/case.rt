@@ -29,6 +29,23 @@ pub(crate) struct Stream {
     pub(crate) fails: Vec<u64>,
 }
 
+/// What is wrong with drum or disk: which calls fail, and a word that reads give in place of another.
+#[derive(Drop)]
+pub(crate) struct Faults {
+    pub(crate) fails: Vec<u64>,
+    pub(crate) damage: Option<Damage>,
+}
+
+impl Faults {
+    /// Nothing is wrong.
+    pub(crate) fn new(alloc: Global) -> Faults {
+        Faults {
+            fails: Vec::new(alloc),
+            damage: None,
+        }
+    }
+}
+
 /// A run: the words of the command line or the turns of a server, the text that is read, what fails, and the callers in order.
 #[derive(Drop)]
 pub(crate) struct Case {
@@ -40,8 +57,10 @@ pub(crate) struct Case {
     pub(crate) source: Stream,
     pub(crate) room: usize,
     pub(crate) sink: Stream,
-    pub(crate) drum_fails: Vec<u64>,
-    pub(crate) damage: Option<Damage>,
+    pub(crate) drum: Faults,
+    pub(crate) disk: Faults,
+    /// The case is done once for each call of the disk, which fails.
+    pub(crate) each_fails: bool,
     pub(crate) callers: Vec<Caller>,
     pub(crate) link_fails: Vec<LinkAt>,
     pub(crate) link_waits: Vec<LinkAt>,
@@ -66,8 +85,9 @@ impl Case {
                 piece: 4096,
                 fails: Vec::new(alloc),
             },
-            drum_fails: Vec::new(alloc),
-            damage: None,
+            drum: Faults::new(alloc),
+            disk: Faults::new(alloc),
+            each_fails: false,
             callers: Vec::new(alloc),
             link_fails: Vec::new(alloc),
             link_waits: Vec::new(alloc),

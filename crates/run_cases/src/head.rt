@@ -23,16 +23,20 @@ fn stream(alloc: Global, fields: &str) -> Result<Stream> {
     Ok(Stream { piece, fails })
 }
 
-/// A read, a place and an octal word.
+/// A read or EACH, a place and an octal word.
 fn damage(fields: &str) -> Result<Damage> {
     let Some((read, rest)) = fields.split_once(" ") else {
-        bail!("DAMAGE has a read, a place and a word");
+        bail!("a damage has a read, a place and a word");
     };
     let Some((place, word)) = rest.split_once(" ") else {
-        bail!("DAMAGE has a read, a place and a word");
+        bail!("a damage has a read, a place and a word");
+    };
+    let read = match read {
+        "EACH" => None,
+        _ => Some(read.parse::<u64>()?),
     };
     Ok(Damage {
-        read: Some(read.parse::<u64>()?),
+        read,
         place: place.parse::<u16>()?,
         word: u64::from_str_radix(word, 8)?,
     })
@@ -54,8 +58,11 @@ impl Case {
                 self.room = room.parse::<usize>()?;
                 self.sink = stream(alloc, rest)?;
             }
-            "DRUM" => self.drum_fails = numbers(alloc, fields)?,
-            "DAMAGE" => self.damage = Some(damage(fields)?),
+            "DRUM" => self.drum.fails = numbers(alloc, fields)?,
+            "DRUM-DAMAGE" => self.drum.damage = Some(damage(fields)?),
+            "DISK" if fields == "EACH" => self.each_fails = true,
+            "DISK" => self.disk.fails = numbers(alloc, fields)?,
+            "DISK-DAMAGE" => self.disk.damage = Some(damage(fields)?),
             "BYTES" => self.text = hex::decode(alloc, fields)?,
             "LAST" => self.tells_last = true,
             "CALLS" => self.tells_calls = true,

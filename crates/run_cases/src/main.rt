@@ -4,8 +4,11 @@
 //! - `WORDS w ..`: the words of the command line;
 //! - `SOURCE piece n ..`: at most so many bytes a read, of which these fail; `SINK room piece n ..`: room for so many bytes,
 //!   at most so many a put, of which these fail;
-//! - `DRUM n ..`: these calls of the drum fail; `DAMAGE read place word`: this read gives an octal word in this place;
-//! - `BYTES hex`: bytes of the text; `LAST`, `CALLS`: the last entry of the schedule, the calls of the link are told.
+//! - `DRUM n ..`: these calls of the drum fail; `DRUM-DAMAGE read place word`: this read, or with `EACH` each, gives an octal word in
+//!   this place; `DISK` and `DISK-DAMAGE` say the same of the disk; with `DISK EACH` the case is done for each call of the disk,
+//!   which fails, until no call does, and the calls are told with the statuses;
+//! - `BYTES hex`: bytes of the text; `LAST`, `CALLS`: how many entries the schedule has and the last one, the calls of the link are
+//!   told.
 //!
 //! For consoles over a link whose bytes become ready by turns `TURNS n` stands in place of `WORDS` and `TEXT`. The base script ends
 //! with `LINK`, and then come the callers in the order in which they are accepted. `PEER t` is one who connects in turn t, and

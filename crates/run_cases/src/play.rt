@@ -1,14 +1,18 @@
 //! A case that is done.
-ghost use Rattle.std.specs.Prelude.{◌≤◌};
-ghost use Rattle.drum_slots.specs.Kept.{Serves};
+ghost use Rattle.std.specs.Prelude.{◌≡◌, IfOk, length};
+ghost use Rattle.std.specs.List.{All};
+ghost use Rattle.medium.specs.Damages.{IsDamage};
+ghost use Rattle.medium.specs.Medium.{HasShape};
+ghost use Rattle.medium.specs.Rows.{told_rows};
+ghost use Rattle.medium.specs.declared.memory.Damage.{Damage};
 
-use crate::case::Case;
+use crate::case::{Case, Faults};
 use crate::link::link_of;
 use anyhow::{Result, bail};
 use console_link::{Accepted, CallMade, MemoryLink};
 use ctss_io::{MemorySink, MemorySource};
 use ctss_top::{ArgList, Outcome, run_ctss};
-use medium::{Medium, MemoryMedium};
+use medium::{Damage, MemoryMedium};
 use std::alloc::Global;
 use std::io::{Write, writer};
 
@@ -61,7 +65,8 @@ fn tell(
         )?;
     }
     if case.tells_last {
-        println!(rt; "LAST {:?}", outcome.run.entries.as_slice().last())?;
+        let entries = outcome.run.entries.as_slice();
+        println!(rt; "LAST {} {:?}", entries.len(), entries.last())?;
     }
     for (k, _) in (0u32..).zip(&case.callers) {
         let sent = hex::encode(rt.alloc(), link.sent(k))?;
@@ -73,41 +78,79 @@ fn tell(
     Ok(())
 }
 
-/// Does a case over this drum, and answers the status.
-fn play_over<D: Medium>(rt: &HostRuntime, case: &Case, drum: &mut D) -> Result<u8>
-    requires { Serves (D.rows drum.old) (D.record_count drum.old) (D.words_each drum.old) 3840 }
+/// The damage of a medium, whose records have so many words.
+fn damages_of(alloc: Global, damage: Option<Damage>, words: u16) -> Result<Vec<Damage>>
+    ensures { IfOk result (λ damages. All (λ (d : Damage). IsDamage words d) damages.items) }
 {
+    let mut damages = Vec::new(alloc);
+    if let Some(damage) = damage {
+        if damage.place >= words || damage.word >= 1 << 36 {
+            bail!("no such damage");
+        }
+        damages.push(damage)?;
+    }
+    Ok(damages)
+}
+
+/// So many records of so many words in memory, of which this is wrong.
+#[tactic(auto, using(crate::proofs::Shapes::told_shape))]
+fn medium_of(alloc: Global, faults: &Faults, records: u16, words: u16) -> Result<MemoryMedium>
+    ensures shape { IfOk result (λ m. HasShape (told_rows m.damages m.rows) (length m.rows)) }
+    ensures count { IfOk result (λ m. length m.rows ≡ records) }
+    ensures words { IfOk result (λ m. m.words_each ≡ words) }
+{
+    let damages = damages_of(alloc, faults.damage, words)?;
+    Ok(MemoryMedium::new(alloc, records, words, &faults.fails, &damages, 0)?)
+}
+
+/// Does a case over a disk of which this is wrong, and answers the status.
+fn status_of(rt: &HostRuntime, case: &Case, disk: &Faults) -> Result<u8> {
     let alloc = rt.alloc();
     if case.source.piece == 0 || case.sink.piece == 0 {
         bail!("a stream moves a byte or more a call");
     }
     let words = words_of(alloc, case)?;
+    let mut drum = medium_of(alloc, &case.drum, 3840, 256)?;
+    let mut disk = medium_of(alloc, disk, 10000, 432)?;
     let mut link = link_of(alloc, case)?;
     let mut input = MemorySource::new(alloc, &case.text, case.source.piece, &case.source.fails)?;
     let mut output = MemorySink::new(alloc, case.room, case.sink.piece, &case.sink.fails)?;
-    let outcome = run_ctss(alloc, &words, &mut input, &mut output, drum, &mut link);
+    let outcome = run_ctss(
+        alloc,
+        &words,
+        &mut input,
+        &mut output,
+        &mut drum,
+        &mut disk,
+        &mut link,
+    );
     tell(rt, case, &outcome, output.bytes(), &link)?;
     Ok(outcome.status)
 }
 
+/// Does a case for each call of the disk, which fails, until none does. Answers the last status.
+fn play_each(rt: &HostRuntime, case: &Case) -> Result<u8> {
+    for call in 1..1000u64 {
+        let mut disk = Faults::new(rt.alloc());
+        disk.fails.push(call)?;
+        println!(rt; "CALL {call}")?;
+        let status = status_of(rt, case, &disk)?;
+        if status != 6 {
+            return Ok(status);
+        }
+    }
+    bail!("too many calls of the disk");
+}
+
 /// Does a case and writes what came of it. Answers the status; 0 for a case that has a name, whose status is written.
 pub(crate) fn play(rt: &HostRuntime, case: &Case) -> Result<u8> {
-    let alloc = rt.alloc();
     if let Some(name) = &case.name {
         println!(rt; "CASE {name}")?;
     }
-    let status = match case.damage {
-        None => {
-            let mut drum = MemoryMedium::new(alloc, 3840, 256, &case.drum_fails, &[], 0)?;
-            play_over(rt, case, &mut drum)?
-        }
-        Some(damage) => {
-            if damage.place >= 256 || damage.word >= 1 << 36 {
-                bail!("no such damage");
-            }
-            let mut drum = MemoryMedium::new(alloc, 3840, 256, &case.drum_fails, &[damage], 0)?;
-            play_over(rt, case, &mut drum)?
-        }
+    let status = if case.each_fails {
+        play_each(rt, case)?
+    } else {
+        status_of(rt, case, &case.disk)?
     };
     Ok(if case.name.is_some() { 0 } else { status })
 }

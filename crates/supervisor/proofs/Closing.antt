@@ -1,7 +1,6 @@
 -- What a run leaves whose users' words and files lie behind it.
 use Rattle.std.proofs.Common.{◌≡◌, ℕ, suc, List, [], ◌∷◌, length, map, refl, sym, ap, ◌∙◌}
 use Rattle.ctss_types.specs.declared.file.FileBody.{FileBody}
-use Rattle.ctss_types.specs.declared.history.Record.{Record}
 use Rattle.user_model.specs.User.{User}
 use Rattle.user_model.specs.Inner.{Stored}
 use Rattle.directories.specs.Directories.{lists_from}
@@ -10,18 +9,8 @@ use Rattle.system_model.specs.Cases.{closed}
 use Rattle.system_model.specs.Record.{record_from}
 use Rattle.system_model.specs.Joined.{joined, with_stores}
 use Rattle.system_model.proofs.CaseLaws.{closes}
+use Rattle.supervisor.specs.Closes.{record_with}
 use Rattle.supervisor.proofs.Running.{transcripts_same}
-
--- a record with these files
-abbrev pub record_with : List (List FileBody) → List FileBody → Run → Record
-record_with files common r =
-    record {
-      entries = r.system.entries;
-      transcripts = map (λ (p : User). p.transcript) r.system.users;
-      files = files;
-      common = common;
-      clock = r.system.clock;
-    }
 
 abbrev pub files_in : (ℕ → Stored) → ℕ → List FileBody
 files_in stores u = (stores u).files

@@ -14,4 +14,5 @@ mod supervisor;
 mod watch;
 mod whole;
 
+pub use finish::Closed;
 pub use supervisor::Supervisor;

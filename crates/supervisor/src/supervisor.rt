@@ -1,25 +1,22 @@
 ghost use Rattle.std.specs.Prelude.{◌≡◌, ◌≤◌, ◌-◌, ◌^◌, ◌++◌, [], min, length, take, drop, replicate, true, false};
 ghost use Rattle.time_sharing.specs.System.{at};
-ghost use Rattle.system_model.specs.Run.{given, ended};
+ghost use Rattle.system_model.specs.Run.{given};
 ghost use Rattle.plan_model.specs.Loads.{Places, no_places};
-ghost use Rattle.system_model.specs.Record.{start_of, record_from};
+ghost use Rattle.system_model.specs.Record.{start_of};
 ghost use Rattle.system_model.specs.Sound.{HasSeat};
 ghost use Rattle.std.specs.List.{All};
-ghost use Rattle.faults.specs.Faults.{Rose};
 ghost use Rattle.ctss_types.specs.declared.script.Account.{Account};
-ghost use Rattle.system_model.specs.Joined.{joined};
-ghost use Rattle.supervisor.specs.Seen.{record_so_far, run_with, without_files};
+ghost use Rattle.supervisor.specs.Seen.{record_so_far, run_with};
 ghost use Rattle.supervisor.specs.Steps.{Lasts};
 ghost use Rattle.supervisor.specs.Whole.{whole_of, Agrees, Advances};
-ghost use Rattle.std.specs.Prelude.{IfOk, OnOk, OnErr, IsErrOf};
+ghost use Rattle.supervisor.specs.Closes.{Closes, IfComplete};
+ghost use Rattle.std.specs.Prelude.{IfOk, OnOk, OnErr};
 
-use crate::finish::transcripts_of;
+use crate::finish::{Closed, record_of, record_without_files};
 use crate::start::first_state;
 use crate::watch::Watch;
 use console_texts::ConsoleTexts;
-use ctss_types::{
-    ConsoleNo, Entry, NoMemory, Record, RunFault, Script, Sequence, StepFault, Timed,
-};
+use ctss_types::{ConsoleNo, Entry, NoMemory, Record, RunFault, Script, StepFault, Timed};
 use std::alloc::Global;
 use std::marker::Model;
 use user_cores::Backing;
@@ -109,32 +106,26 @@ impl Supervisor {
         self.ended
     }
 
-    /// The end of the record: an open service and open idling end, and all is handed out.
+    /// The end of the record: an open service and open idling end, and all is handed out. The files are read from the disk; where that
+    /// fails, the record has none.
     #[tactic(auto, using(system_model::proofs::CaseLaws::closes))]
-    pub fn close<C: Backing>(self, alloc: Global, cores: &mut C) -> Result<Record, StepFault>
+    pub fn close<C: Backing>(self, alloc: Global, cores: &mut C) -> Result<Closed, NoMemory>
         requires works { C.Works cores.old }
         requires agrees { Agrees (whole_of self (C.state cores.old)) }
-        ensures record { (C.state cores.old).held.tells ≡ true → IfOk result (λ rec. (places : Places)
-            → rec ≡ record_from (ended (joined (C.state cores.old).held.stores (run_with places self)))) }
-        ensures said { IfOk result (λ rec. (places : Places)
-            → without_files rec ≡ without_files (record_from (ended (run_with places self)))) }
+        ensures closes { IfOk result (Closes self (C.state cores.old) (C.state cores.new)) }
+        ensures lies { IfOk result (λ closed. IfComplete closed (λ rec. C.Lies cores.new rec.files rec.common)) }
         ensures calls { (C.state cores.new).calls ≡ (C.state cores.old).calls }
         ensures faults { (C.state cores.new).faults ≡ (C.state cores.old).faults }
         ensures keeps { C.Keeps cores.old cores.new }
-        ensures cause { IsErrOf result StepFault.Disk → Rose (C.state cores.old).disk_faults (C.state cores.new).disk_faults }
     {
         let watch = self.watch;
         let mut state = watch.state;
         state.close()?;
-        let lists = cores.take_lists(alloc)?;
-        let transcripts = transcripts_of(alloc, state.sessions)?;
-        Ok(Record {
-            entries: Sequence::from_vec(state.entries),
-            transcripts: Sequence::from_vec(transcripts),
-            files: Sequence::from_vec(lists.own),
-            common: lists.common,
-            clock: state.clock,
-        })
+        match cores.take_lists(alloc) {
+            Ok(lists) => Ok(Closed::Complete(record_of(alloc, state, lists.own, lists.common)?)),
+            Err(StepFault::Disk) => Ok(Closed::WithoutFiles(record_without_files(alloc, state)?)),
+            Err(StepFault::NoMemory) => Err(NoMemory),
+        }
     }
 
     /// The record of a run that stopped: entries, transcripts and clock so far, and no files.
@@ -142,15 +133,7 @@ impl Supervisor {
         ensures { IfOk result (λ rec. rec ≡ record_so_far (run_with no_places self)) }
     {
         let watch = self.watch;
-        let state = watch.state;
-        let transcripts = transcripts_of(alloc, state.sessions)?;
-        Ok(Record {
-            entries: Sequence::from_vec(state.entries),
-            transcripts: Sequence::from_vec(transcripts),
-            files: Sequence::new(alloc),
-            common: Sequence::new(alloc),
-            clock: state.clock,
-        })
+        record_without_files(alloc, watch.state)
     }
 
     /// The schedule so far.

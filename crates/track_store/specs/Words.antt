@@ -1,4 +1,4 @@
--- proof: what words of tracks are, one track after another, and which words the reads of a disk gave.
+-- claim: what words of tracks are, one track after another, and which words the reads of a disk gave.
 use Rattle.std.specs.Prelude.{◌≡◌, ℕ, List, [], ◌∷◌, ◌++◌, take, drop, slice_index_or, Option, None, Some}
 use Rattle.faults.specs.Faults.{WhereTold}
 use Rattle.medium.specs.Medium.{Call, CallList, with_record}

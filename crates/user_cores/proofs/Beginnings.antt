@@ -1,14 +1,13 @@
 -- Images of no blocks.
 use Rattle.std.specs.Prelude.{Option, None, Some, replicate, nat_lt}
-use Rattle.std.specs.List.{All}
-use Rattle.std.proofs.Common.{◌≡◌, ℕ, zero, suc, ◌≤◌, Bool, true, false, ◌&&◌, List, [], length, refl, sym, ap, subst, ◌∙◌, arith}
+use Rattle.std.proofs.Common.{◌≡◌, ℕ, ◌≤◌, Bool, true, false, ◌&&◌, List, [], length, refl, sym, ap, subst, ◌∙◌}
 use Rattle.std.proofs.lemmas.List.Elements.{All-nil}
 use Rattle.core_bank.specs.Bank.{block_at}
 use Rattle.drum_slots.specs.declared.slots.Slots.{Slots}
 use Rattle.drum_slots.specs.Slots.{slot_of}
 use Rattle.drum_slots.specs.Keys.{key, quota_of}
 use Rattle.drum_slots.specs.Kept.{copies}
-use Rattle.plan_model.specs.Loads.{Places, no_places}
+use Rattle.plan_model.specs.Loads.{no_places}
 use Rattle.image_map.specs.Images.{size_of, image_in, image_over}
 use Rattle.image_map.specs.Places.{places_of, is_kept, is_some}
 use Rattle.image_map.proofs.Moves.{none_in}

@@ -1,5 +1,5 @@
 -- What cores show while a user's program works in its blocks.
-use Rattle.std.proofs.Common.{◌≡◌, ◌≢◌, ℕ, ◌*◌, ◌≤◌, List, true, length, take, drop, refl, arith}
+use Rattle.std.proofs.Common.{◌≡◌, ℕ, ◌*◌, ◌≤◌, List, true, length, drop, refl, arith}
 use Rattle.plan_model.specs.Loads.{is_loaded}
 use Rattle.image_map.specs.State.{ImageState, size, places_in}
 use Rattle.user_cores.specs.Cores.{WorksIn}

@@ -1,5 +1,5 @@
 -- proof: what users' cores show, and what each call does to it.
-use Rattle.std.specs.Prelude.{◌≡◌, ◌≢◌, ℕ, ◌≤◌, ◌+◌, ◌*◌, Bool, true, List, length, slice_set, Option, Result, IfOk, OnErr}
+use Rattle.std.specs.Prelude.{◌≡◌, ◌≢◌, ℕ, ◌≤◌, ◌+◌, ◌*◌, true, List, length, slice_set, Option, Result, IfOk, OnErr}
 use Rattle.faults.specs.Faults.{Rose}
 use Rattle.medium.specs.Medium.{CallList}
 use Rattle.onion_swap.specs.declared.Plan.{Plan}

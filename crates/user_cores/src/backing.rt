@@ -1,6 +1,7 @@
 //! What the supervisor asks of all that lies behind users' sessions: their cores and their directories.
-ghost use Rattle.std.specs.Prelude.{◌≡◌, ◌<◌, ◌≤◌, ◌+◌, ◌-◌, ◌^◌, true, length, IfOk, OnOk, OnErr, IsErrOf};
+ghost use Rattle.std.specs.Prelude.{◌≡◌, ◌<◌, ◌≤◌, ◌+◌, ◌-◌, ◌^◌, List, true, length, IfOk, OnOk, OnErr, IsErrOf};
 ghost use Rattle.faults.specs.Faults.{Rose};
+ghost use Rattle.ctss_types.specs.declared.file.FileBody.{FileBody};
 ghost use Rattle.drum_slots.specs.Keys.{quota_of};
 ghost use Rattle.plan_model.specs.Loads.{is_loaded};
 ghost use Rattle.user_model.specs.Inner.{blocks_of};
@@ -34,6 +35,9 @@ pub trait Backing {
 
     /// The same drum and disk.
     ghost Keeps: { Self → Self → Type 0 };
+
+    /// What is promised of where the files that were handed out lie: those of users, and the common ones.
+    ghost Lies: { Self → List (List FileBody) → List FileBody → Type 0 };
 
     /// Whether all of a user's blocks are in core.
     fn is_loaded(&self, user: UserNo) -> bool
@@ -147,6 +151,7 @@ pub trait Backing {
             ≡ lists_from 1 (state self.old).held.users (λ u. ((state self.old).held.stores u).files)) }
         ensures common { (state self.old).held.tells ≡ true
             → IfOk result (λ lists. lists.common ≡ ((state self.old).held.stores 0).files) }
+        ensures lies { IfOk result (λ lists. Lies self.new lists.own.items lists.common) }
         ensures calls { (state self.new).calls ≡ (state self.old).calls }
         ensures faults { (state self.new).faults ≡ (state self.old).faults }
         ensures keeps { Keeps self.old self.new }

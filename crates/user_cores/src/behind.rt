@@ -45,6 +45,8 @@ impl<C: Cores + Drop, P: Directories + Drop> Backing for Behind<C, P> {
 
     ghost Keeps = { λ a b. C.Keeps a.cores b.cores × P.Keeps a.files b.files };
 
+    ghost Lies = { λ b own common. P.Lies b.files own common };
+
     fn is_loaded(&self, user: UserNo) -> bool {
         self.cores.is_loaded(user)
     }

@@ -9,7 +9,7 @@ use Rattle.text_model.specs.declared.cause.ScriptRefusal.{ScriptRefusal}
 use Rattle.text_model.specs.declared.mode.Mode.TheVariants.{Serve}
 use Rattle.text_model.specs.Causes.{cause_number}
 use Rattle.text_model.specs.Words.{script_refused}
-use Rattle.text_model.proofs.InRange.{scripts_are_in_range}
+use Rattle.text_model.proofs.LawfulLaws.{scripts_are_lawful}
 use Rattle.ctss_top.proofs.Says.{refused_long, cut_long, cut_short, live_told_long}
 use Rattle.ctss_top.proofs.live.serve_consoles.Goals as goal
 
@@ -24,13 +24,13 @@ returns-in-Err-TooLong-clause-part g c words asked h =
 pub returns-in-Err-TooLong-clause-told : goal.returns-in-Err-TooLong-clause-told
 returns-in-Err-TooLong-clause-told g c = live_told_long _ _ (c.in-Err-TooLong.ensures.too_long (ap Err c.in-Err-TooLong.field-0-is)) c.refuse_script.ensures.status
 
-pub host-requires-clause-range : goal.host-requires-clause-range
-host-requires-clause-range g c = scripts_are_in_range _ _ (bases_are_scripts _ _ c.in-Ok-read_base.ensures)
+pub host-requires-clause-lawful : goal.host-requires-clause-lawful
+host-requires-clause-lawful g c = scripts_are_lawful _ _ (bases_are_scripts _ _ c.in-Ok-read_base.ensures)
 
 pub returns-in-Ok-read_base-clause-cause : goal.returns-in-Ok-read_base-clause-cause
 returns-in-Ok-read_base-clause-cause g c =
     let h = c.host.ensures.cause (record { left = g.S.Source.left c.read_bytes.new.source; faults = g.S.Source.faults c.read_bytes.new.source }) in
-    record { reading = λ is. absurd (grind (arith, is, c.host.ensures.status, nat_tests)); writing = h.writing; drum = h.drum; link = h.link }
+    record { reading = λ is. absurd (grind (arith, is, c.host.ensures.status, nat_tests)); writing = h.writing; drum = h.drum; disk = h.disk; link = h.link }
 
 pub returns-in-Ok-read_base-clause-silent : goal.returns-in-Ok-read_base-clause-silent
 returns-in-Ok-read_base-clause-silent g c h = c.host.ensures.silent _ _ (grind (arith, h, c.host.ensures.status, nat_tests))

@@ -1,46 +1,66 @@
-use Rattle.std.proofs.Common.{◌∙◌, Ok, refl, sym, ap, is_some, rules}
+use Rattle.std.proofs.Common.{◌∙◌, List, Option, Ok, sym, ap, subst, rules}
+use Rattle.faults.specs.Faults.{WhereTold}
+use Rattle.file_tracks.specs.Lying.{LieOn}
+use Rattle.ctss_types.specs.declared.fault.RunFault.TheVariants.{Drum, Disk}
 use Rattle.image_map.specs.State.{DrumState}
 use Rattle.image_map.specs.Image.{state}
-use Rattle.directories.specs.Memory.{state_of}
+use Rattle.track_directories.specs.Tables.{disk_of, shown}
 use Rattle.user_cores.specs.Backing.{back_of}
 use Rattle.user_cores.specs.Works.{cores_in}
 use Rattle.supervisor.specs.Whole.{whole_of}
-use Rattle.live_serve.proofs.Outcomes.{if_ok}
-use Rattle.ctss_top.proofs.Playing.{run_as, run_stopped, played, counted, stopped, faulted}
+use Rattle.supervisor.specs.Closes.{Closes, EndsComplete, EndsWithoutFiles, IfComplete}
+use Rattle.supervisor.specs.declared.finish.Closed.{Closed}
+use Rattle.live_run.specs.Media.{media_seen}
+use Rattle.ctss_top.proofs.Playing.{run_as, run_failed, done, lost_at_end, stopped, lost}
 use Rattle.ctss_top.proofs.record.record_script.Goals as goal
 
-pub returns-in-Ok-closed-clause-played : goal.returns-in-Ok-closed-clause-played
-returns-in-Ok-closed-clause-played g c = λ told.
+pub returns-in_ok-stop-in-Drum : goal.returns-in_ok-stop-in-Drum
+returns-in_ok-stop-in-Drum g c =
     let run = c.in_ok-run.run' in
-    let s = whole_of run.supervisor (back_of (cores_in (state run.behind.cores)) (state_of run.behind.files)) in
-    played c.args.script.now (is_some (g.D.Medium.rows c.args.drum.now)) (g.D.Medium.calls c.args.drum.now) s.back.calls (g.D.Medium.faults c.args.drum.now) s refl
-    c.in-Ok.field-0 (run_as _ _ _ _ s run.ended (Ok c.in-Ok.field-0) c.in-Ok.is c.in_ok-run.ensures.ran) told c.in-Ok-closed.record
-    (λ tells. if_ok c.close-closed.result c.in-Ok-closed.record _ c.in-Ok-closed.is (c.close-closed.ensures.record tells))
+    let was = media_seen g.D.Medium g.F.Medium c.args.drum.now c.args.disk.now in
+    let s = whole_of run.supervisor (back_of (cores_in (state run.behind.cores)) (shown g.F.Medium run.behind.files)) in
+    let ends = c.into_parts-cores.ensures in
+    let drum = ap (λ (d : DrumState). d.name) c.back.ensures.seen ∙ ap (λ i. (state i).drum.name) ends.cores ∙ c.in_ok-run.ensures.drum in
+    stopped c.args.script.now was s _ (run_failed c.args.script.now was s run.ended c.in-Err.fault Drum c.in-Err.is c.in-Drum.is c.in_ok-run.ensures.ran)
+    (sym (ap (λ i. (state i).drum.calls) ends.cores) ∙ search (rules, drum)) (sym (ap (λ i. (state i).drum.faults) ends.cores) ∙ search (rules, drum)) c.in_ok-stop-in-Drum.field-0 c.in_ok-stop-in-Drum.ensures
 
-pub returns-in-Ok-closed-clause-counted : goal.returns-in-Ok-closed-clause-counted
-returns-in-Ok-closed-clause-counted g c =
+pub returns-in_ok-stop-in-Disk : goal.returns-in_ok-stop-in-Disk
+returns-in_ok-stop-in-Disk g c =
     let run = c.in_ok-run.run' in
-    let s = whole_of run.supervisor (back_of (cores_in (state run.behind.cores)) (state_of run.behind.files)) in
-    let same = ap (λ (d : DrumState). d.name) c.back.ensures.seen ∙ ap (λ i. (state i).drum.name) c.into_parts-cores.ensures.cores ∙ c.close-closed.ensures.keeps.0 ∙ c.in_ok-run.ensures.drum in
-    counted c.args.script.now (is_some (g.D.Medium.rows c.args.drum.now)) (g.D.Medium.calls c.args.drum.now) _ (g.D.Medium.faults c.args.drum.now) s
-    (sym (ap (λ i. (state i).drum.calls) c.into_parts-cores.ensures.cores ∙ c.close-closed.ensures.calls) ∙ search (rules, same))
-    c.in-Ok.field-0 (run_as _ _ _ _ s run.ended (Ok c.in-Ok.field-0) c.in-Ok.is c.in_ok-run.ensures.ran) c.in-Ok-closed.record
-    (if_ok c.close-closed.result c.in-Ok-closed.record _ c.in-Ok-closed.is c.close-closed.ensures.said)
+    let was = media_seen g.D.Medium g.F.Medium c.args.drum.now c.args.disk.now in
+    let s = whole_of run.supervisor (back_of (cores_in (state run.behind.cores)) (shown g.F.Medium run.behind.files)) in
+    let ends = c.into_parts-cores.ensures in
+    let disk = c.back-in-Err.ensures.same ∙ ap (λ d. (disk_of d).ghost_name) ends.files ∙ c.in_ok-run.ensures.disk in
+    lost c.args.script.now was s _ (run_failed c.args.script.now was s run.ended c.in-Err.fault Disk c.in-Err.is c.in-Disk.is c.in_ok-run.ensures.ran)
+    (sym (ap (λ d. g.F.Medium.faults (disk_of d).now) ends.files) ∙ search (rules, disk)) c.in_ok-stop-in-Disk.field-0 c.in_ok-stop-in-Disk.ensures
 
-pub returns-in_ok-stop-in-Drum-clause-played : goal.returns-in_ok-stop-in-Drum-clause-played
-returns-in_ok-stop-in-Drum-clause-played g c = λ told.
+pub returns-in-Complete : goal.returns-in-Complete
+returns-in-Complete g c =
     let run = c.in_ok-run.run' in
-    let s = whole_of run.supervisor (back_of (cores_in (state run.behind.cores)) (state_of run.behind.files)) in
-    let same = ap (λ (d : DrumState). d.name) c.back-in-Err.ensures.seen ∙ ap (λ i. (state i).drum.name) c.into_parts-cores-in-Err.ensures.cores ∙ c.in_ok-run.ensures.drum in
-    stopped c.args.script.now (is_some (g.D.Medium.rows c.args.drum.now)) (g.D.Medium.calls c.args.drum.now) _ (g.D.Medium.faults c.args.drum.now) s
-    (sym (ap (λ i. (state i).drum.calls) c.into_parts-cores-in-Err.ensures.cores) ∙ search (rules, same))
-    (run_stopped _ _ _ _ s run.ended c.in-Err.fault c.in-Err.is c.in-Drum.is c.in_ok-run.ensures.ran) told c.in_ok-stop-in-Drum.field-0 c.in_ok-stop-in-Drum.ensures
+    let was = media_seen g.D.Medium g.F.Medium c.args.drum.now c.args.disk.now in
+    let s = whole_of run.supervisor (back_of (cores_in (state run.behind.cores)) (shown g.F.Medium run.behind.files)) in
+    let last = c.close-closed.new.cores in
+    let rec = c.in-Complete.record in
+    let ends = c.into_parts-cores-2.ensures in
+    let drum = ap (λ (d : DrumState). d.name) c.back-2.ensures.seen ∙ ap (λ i. (state i).drum.name) ends.cores ∙ c.close-closed.ensures.keeps.0 ∙ c.in_ok-run.ensures.drum in
+    let disk = c.back-3.ensures.same ∙ ap (λ d. (disk_of d).ghost_name) ends.files ∙ c.close-closed.ensures.keeps.1 ∙ c.in_ok-run.ensures.disk in
+    let closes : EndsComplete s.bare s.back.held rec =
+    subst (Closes s.bare s.back (back_of (cores_in (state last.cores)) (shown g.F.Medium last.files))) c.in-Complete.is c.in_ok-record.ensures.closes in
+    let lies = subst (λ (z : Closed). IfComplete z (λ rec. WhereTold (g.F.Medium.rows (disk_of last.files).now) (λ rows. LieOn rows rec.files rec.common))) c.in-Complete.is c.in_ok-record.ensures.lies in
+    done c.args.script.now was s _ c.in_default.field-0 (run_as c.args.script.now was s run.ended (Ok c.in_default.field-0) c.in_default.is c.in_ok-run.ensures.ran)
+    (sym (ap (λ i. (state i).drum.calls) ends.cores ∙ c.close-closed.ensures.calls) ∙ search (rules, drum)) rec closes
+    (subst (λ (o : Option (List (List _))). WhereTold o (λ rows. LieOn rows rec.files rec.common)) (sym (ap (λ d. g.F.Medium.rows (disk_of d).now) ends.files) ∙ search (rules, disk)) lies)
 
-pub returns-in_ok-stop-in-Drum-clause-cause : goal.returns-in_ok-stop-in-Drum-clause-cause
-returns-in_ok-stop-in-Drum-clause-cause g c =
+pub returns-in-WithoutFiles : goal.returns-in-WithoutFiles
+returns-in-WithoutFiles g c =
     let run = c.in_ok-run.run' in
-    let s = whole_of run.supervisor (back_of (cores_in (state run.behind.cores)) (state_of run.behind.files)) in
-    let same = ap (λ (d : DrumState). d.name) c.back-in-Err.ensures.seen ∙ ap (λ i. (state i).drum.name) c.into_parts-cores-in-Err.ensures.cores ∙ c.in_ok-run.ensures.drum in
-    faulted c.args.script.now (is_some (g.D.Medium.rows c.args.drum.now)) (g.D.Medium.calls c.args.drum.now) s.back.calls (g.D.Medium.faults c.args.drum.now) s refl
-    (run_stopped _ _ _ _ s run.ended c.in-Err.fault c.in-Err.is c.in-Drum.is c.in_ok-run.ensures.ran) _
-    (sym (ap (λ i. (state i).drum.faults) c.into_parts-cores-in-Err.ensures.cores) ∙ search (rules, same))
+    let was = media_seen g.D.Medium g.F.Medium c.args.drum.now c.args.disk.now in
+    let s = whole_of run.supervisor (back_of (cores_in (state run.behind.cores)) (shown g.F.Medium run.behind.files)) in
+    let last = c.close-closed.new.cores in
+    let rec = c.in-WithoutFiles.record in
+    let ends = c.into_parts-cores-2.ensures in
+    let disk = c.back-3.ensures.same ∙ ap (λ d. (disk_of d).ghost_name) ends.files ∙ c.close-closed.ensures.keeps.1 ∙ c.in_ok-run.ensures.disk in
+    let closes : EndsWithoutFiles s.bare s.back.disk_faults (g.F.Medium.faults (disk_of last.files).now) rec =
+    subst (Closes s.bare s.back (back_of (cores_in (state last.cores)) (shown g.F.Medium last.files))) c.in-WithoutFiles.is c.in_ok-record.ensures.closes in
+    lost_at_end c.args.script.now was s _ c.in_default.field-0 (run_as c.args.script.now was s run.ended (Ok c.in_default.field-0) c.in_default.is c.in_ok-run.ensures.ran)
+    (g.F.Medium.faults (disk_of last.files).now) (sym (ap (λ d. g.F.Medium.faults (disk_of d).now) ends.files) ∙ search (rules, disk)) rec closes

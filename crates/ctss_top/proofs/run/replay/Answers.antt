@@ -9,8 +9,8 @@ use Rattle.text_model.specs.Causes.{cause_number}
 use Rattle.text_model.specs.Words.{script_refused}
 use Rattle.ctss_top.specs.Outcomes.{bare}
 use Rattle.text_model.specs.Reading.{script_of}
-use Rattle.text_model.proofs.InRange.{scripts_are_in_range}
-use Rattle.ctss_top.proofs.Says.{refused_long, refused_short, cut_long, cut_short, cut_run, comes_read, replays_runs, replays_reads, replays_script, replays_alone, is_run, is_stopped, told_long}
+use Rattle.text_model.proofs.LawfulLaws.{scripts_are_lawful}
+use Rattle.ctss_top.proofs.Says.{refused_long, refused_short, cut_long, cut_short, cut_run, comes_read, replays_runs, replays_reads, replays_script, replays_alone, is_run, is_stopped, is_lost, told_long}
 use Rattle.ctss_top.proofs.run.replay.Goals as goal
 
 pub returns-in-Err-TooLong-clause-refused : goal.returns-in-Err-TooLong-clause-refused
@@ -25,29 +25,36 @@ returns-in-Err-TooLong-clause-told g c = told_long _ _ (c.in-Err-TooLong.ensures
 pub perform-requires-clause-mode : goal.perform-requires-clause-mode
 perform-requires-clause-mode g c = replays_runs c.args.mode c.requires.mode
 
-pub perform-requires-clause-range : goal.perform-requires-clause-range
-perform-requires-clause-range g c = scripts_are_in_range _ _ c.in-Ok-read_script.ensures
+pub perform-requires-clause-lawful : goal.perform-requires-clause-lawful
+perform-requires-clause-lawful g c = scripts_are_lawful _ _ c.in-Ok-read_script.ensures
 
 pub returns-in-Ok-read_script-clause-done : goal.returns-in-Ok-read_script-clause-done
 returns-in-Ok-read_script-clause-done g c link h =
     let spelled : script_of c.in-Ok.bytes.items ≡ Ok c.in-Ok-read_script.script = ap script_of (sym c.deref.ensures.value) ∙ c.in-Ok-read_script.ensures in
     is_run c.args.mode _ _ _ c.in-Ok-read_script.script
     (comes_read c.args.mode c.requires.mode _ _ c.in-Ok.bytes.items c.in-Ok-read_script.script c.in-Ok.ensures.bytes c.in-Ok.ensures.end spelled)
-    (λ told. c.perform.ensures.run told (grind (arith, h, nat_tests))) (c.perform.ensures.counted (grind (arith, h, nat_tests))) c.perform.ensures.numbers (c.perform.ensures.text h)
+    (c.perform.ensures.done (grind (arith, h, nat_tests))) c.perform.ensures.numbers (c.perform.ensures.text h)
 
 pub returns-in-Ok-read_script-clause-part : goal.returns-in-Ok-read_script-clause-part
 returns-in-Ok-read_script-clause-part g c words link asked h =
     let spelled : script_of c.in-Ok.bytes.items ≡ Ok c.in-Ok-read_script.script = ap script_of (sym c.deref.ensures.value) ∙ c.in-Ok-read_script.ensures in
     cut_run words c.args.mode asked _ _ _ c.in-Ok-read_script.script
     (comes_read c.args.mode c.requires.mode _ _ c.in-Ok.bytes.items c.in-Ok-read_script.script c.in-Ok.ensures.bytes c.in-Ok.ensures.end spelled)
-    (λ told. c.perform.ensures.run told (grind (arith, h, nat_tests))) (c.perform.ensures.counted (grind (arith, h, nat_tests))) c.perform.ensures.numbers (c.perform.ensures.part h)
+    (c.perform.ensures.done (grind (arith, h, nat_tests))) c.perform.ensures.numbers (c.perform.ensures.part h)
 
 pub returns-in-Ok-read_script-clause-stopped : goal.returns-in-Ok-read_script-clause-stopped
 returns-in-Ok-read_script-clause-stopped g c words link asked h =
     let spelled : script_of c.in-Ok.bytes.items ≡ Ok c.in-Ok-read_script.script = ap script_of (sym c.deref.ensures.value) ∙ c.in-Ok-read_script.ensures in
     is_stopped words c.args.mode (replays_alone c.args.mode c.requires.mode) _ _ _ c.in-Ok-read_script.script asked
     (comes_read c.args.mode c.requires.mode _ _ c.in-Ok.bytes.items c.in-Ok-read_script.script c.in-Ok.ensures.bytes c.in-Ok.ensures.end spelled)
-    (c.perform.ensures.silent (grind (arith, h, nat_tests))) (λ told. c.perform.ensures.stopped told h) c.perform.ensures.numbers
+    (c.perform.ensures.silent (grind (arith, h, nat_tests))) (c.perform.ensures.stopped h).stopped c.perform.ensures.numbers
+
+pub returns-in-Ok-read_script-clause-lost : goal.returns-in-Ok-read_script-clause-lost
+returns-in-Ok-read_script-clause-lost g c words link asked h =
+    let spelled : script_of c.in-Ok.bytes.items ≡ Ok c.in-Ok-read_script.script = ap script_of (sym c.deref.ensures.value) ∙ c.in-Ok-read_script.ensures in
+    is_lost words c.args.mode (replays_alone c.args.mode c.requires.mode) _ _ _ c.in-Ok-read_script.script asked
+    (comes_read c.args.mode c.requires.mode _ _ c.in-Ok.bytes.items c.in-Ok-read_script.script c.in-Ok.ensures.bytes c.in-Ok.ensures.end spelled)
+    (c.perform.ensures.silent (grind (arith, h, nat_tests))) (c.perform.ensures.lost h) c.perform.ensures.numbers
 
 pub returns-in-Err-Refused-clause-refused : goal.returns-in-Err-Refused-clause-refused
 returns-in-Err-Refused-clause-refused g c link h =

@@ -1,23 +1,32 @@
-use Rattle.std.proofs.Common.{ℕ, List, sym, ap, subst, ◌∙◌}
+use Rattle.std.proofs.Common.{◌≡◌, ◌∙◌, Bool, List, ◌∷◌, map, is_some, Ok, sym, ap, subst}
 use Rattle.ctss_types.specs.declared.script.Account.{Account}
 use Rattle.ctss_types.specs.declared.file.OwnedFile.{OwnedFile}
-use Rattle.directories.specs.Memory.{Kept, first_kept, state_of}
-use Rattle.user_session.proofs.Enters.{ok_map}
+use Rattle.file_tracks.specs.Seen.{tells_of}
+use Rattle.track_directories.specs.Tables.{shown}
+use Rattle.track_directories.specs.Firsts.{AreFirst, Adds}
 use Rattle.live_run.specs.Starts.{HasFirstFiles}
-use Rattle.live_run.proofs.Fits.{fits}
-use Rattle.live_run.proofs.Starts.{directories_first}
+use Rattle.live_run.proofs.Fits.{can_be_first}
+use Rattle.live_run.proofs.Starts.{first_files, on_ok, told_is_some}
 use Rattle.live_run.proofs.start.directories_of.Goals as goal
 
-pub new-requires-clause-fit : goal.new-requires-clause-fit
-new-requires-clause-fit c = rw (c.as_slice.ensures, c.as_slice-2.ensures) (fits c.args.script.now c.requires.range)
+pub add_files-requires-clause-first : goal.add_files-requires-clause-first
+add_files-requires-clause-first g c =
+    let script = c.args.script.now in
+    let are : c.in_ok-empty.empty.quotas ≡ script.params.common ∷ map (λ (a : Account). a.tracks) script.accounts =
+    c.in_ok-empty.ensures.quotas ∙ ap (λ (all : List Account). script.params.common ∷ map (λ (a : Account). a.tracks) all) c.as_slice.ensures in
+    subst (λ (files : List OwnedFile). AreFirst files (shown g.F.Medium c.over-files.result)) (sym c.as_slice-2.ensures)
+    (can_be_first script c.requires.lawful.range (tells_of (g.F.Medium.rows c.args.disk.now)) (g.F.Medium.faults c.args.disk.now) c.in_ok-empty.empty.quotas are (shown g.F.Medium c.over-files.result) c.over-files.ensures.none)
 
-pub returns : goal.returns
-returns c =
-    let accounts : List Account = c.args.script.now.accounts in
-    let files : List OwnedFile = c.args.script.now.files in
-    let common : ℕ = c.args.script.now.params.common in
-    record {
-      first = ok_map _ _ c.new.result
-          (λ d is. subst (λ (kept : Kept). HasFirstFiles common accounts files (state_of kept)) (sym (is ∙ (λ j. first_kept common (c.as_slice.ensures j) (c.as_slice-2.ensures j)))) (directories_first common accounts files))
-          c.new.ensures;
-    }
+pub returns-clause-first : goal.returns-clause-first
+returns-clause-first g c =
+    let script = c.args.script.now in
+    let rows = g.F.Medium.rows c.args.disk.now in
+    let old = shown g.F.Medium c.over-files.result in
+    let new = shown g.F.Medium c.add_files.new.self in
+    let are : c.in_ok-empty.empty.quotas ≡ script.params.common ∷ map (λ (a : Account). a.tracks) script.accounts =
+    c.in_ok-empty.ensures.quotas ∙ ap (λ (all : List Account). script.params.common ∷ map (λ (a : Account). a.tracks) all) c.as_slice.ensures in
+    let adds : Adds script.files c.add_files.result old new = subst (λ (files : List OwnedFile). Adds files c.add_files.result old new) c.as_slice-2.ensures c.add_files.ensures.adds in
+    on_ok c.in_ok-wrote.wrote (c.add_files.result ≡ Ok tt) (HasFirstFiles script.params.common script.accounts script.files (is_some rows) new)
+    (λ is. subst (λ (told : Bool). HasFirstFiles script.params.common script.accounts script.files told new) (told_is_some rows)
+    (first_files script.params.common script.accounts script.files (tells_of rows) (g.F.Medium.faults c.args.disk.now) c.in_ok-empty.empty.quotas are old c.over-files.ensures.none c.add_files.result new is adds))
+    c.in_ok-wrote.ensures.ok

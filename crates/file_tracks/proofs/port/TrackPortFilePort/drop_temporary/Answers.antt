@@ -16,10 +16,10 @@ returns-clause-left g c =
     let d = p.table.now in
     let fs = d.files.items in
     let w = c.requires.works in
-    let e = c.drop_in.ensures in
-    let d' = c.drop_in.new.table in
-    let taken' = c.drop_in.new.store.tracks.taken.items in
-    let same : g.F.Medium.rows c.drop_in.new.store.disk.now ≡ o = ap g.F.Medium.rows e.now in
+    let e = c.drop_temporary.ensures in
+    let d' = c.drop_temporary.new.self in
+    let taken' = c.drop_temporary.new.store.tracks.taken.items in
+    let same : g.F.Medium.rows c.drop_temporary.new.store.disk.now ≡ o = ap g.F.Medium.rows e.now in
     let works = subst (λ (q : Option (List (List ℕ))). IsDirectory q taken' d'.quota d'.used d'.files.items) same e.works in
     let P : List FileBody → List FileBody → Type 0 = λ (xs ys : List FileBody). ys ≡ lasting xs in
     subst (λ (q : Option (List (List ℕ))). P (seen o fs) (seen q d'.files.items)) (sym same)
@@ -33,7 +33,7 @@ returns-clause-works g c =
     let d = p.table.now in
     let fs = d.files.items in
     let w = c.requires.works in
-    let e = c.drop_in.ensures in
+    let e = c.drop_temporary.ensures in
     record {
       directory = e.works;
       serves = serves_still _ _ _ _ _ _ _ _ w.serves (ap g.F.Medium.rows e.now) (ap g.F.Medium.record_count e.now) (ap g.F.Medium.words_each e.now) e.many;
@@ -49,16 +49,16 @@ returns-clause-keeps g c =
     let d = p.table.now in
     let fs = d.files.items in
     let w = c.requires.works in
-    let e = c.drop_in.ensures in (
+    let e = c.drop_temporary.ensures in (
       search rules,
       search rules,
       sym e.same,
       record {
         quota = e.quota;
         rises = le_of_eq (ap g.F.Medium.faults (sym e.now));
-        after = λ well. (w.well, after_taking o (g.F.Medium.rows c.drop_in.new.store.disk.now) taken c.drop_in.new.store.tracks.taken.items d c.drop_in.new.table (ap g.F.Medium.rows e.now) e.many e.counts e.others);
+        after = λ well. (w.well, after_taking o (g.F.Medium.rows c.drop_temporary.new.store.disk.now) taken c.drop_temporary.new.store.tracks.taken.items d c.drop_temporary.new.self (ap g.F.Medium.rows e.now) e.many e.counts e.others);
       },
     )
 
 pub returns-clause-told : goal.returns-clause-told
-returns-clause-told g c = ap (λ x. tells_of (g.F.Medium.rows x)) c.drop_in.ensures.now
+returns-clause-told g c = ap (λ x. tells_of (g.F.Medium.rows x)) c.drop_temporary.ensures.now

@@ -1,0 +1,32 @@
+-- claim: what is seen of drum and disk.
+use Rattle.std.specs.Prelude.{◌≡◌, ℕ, Bool, ◌&&◌, List, Option}
+use Rattle.std.specs.Option.{is_some}
+use Rattle.medium.specs.Medium.{CallList}
+use Rattle.medium.specs.declared.medium.Medium.{Ghosts}
+use Rattle.user_cores.specs.Backing.{BackState}
+
+-- whether both tell their records, what the disk's records hold, where told, the calls of each, where told, and how many of them failed
+pub record MediaSeen : Type 0 where
+  pub tells : Bool
+  pub disk_rows : Option (List (List ℕ))
+  pub drum_calls : Option CallList
+  pub disk_calls : Option CallList
+  pub drum_faults : ℕ
+  pub disk_faults : ℕ
+
+abbrev pub media_seen : {D F : Type 0} → Ghosts D → Ghosts F → D → F → MediaSeen
+media_seen d f drum disk =
+    record {
+      tells = is_some (d.rows drum) && is_some (f.rows disk);
+      disk_rows = f.rows disk;
+      drum_calls = d.calls drum;
+      disk_calls = f.calls disk;
+      drum_faults = d.faults drum;
+      disk_faults = f.faults disk;
+    }
+
+-- what lies behind users' sessions shows these calls and faults
+pub record IsSeen (m : MediaSeen) (back : BackState) : Type 0 where
+  pub calls : back.calls ≡ m.drum_calls
+  pub drum : back.faults ≡ m.drum_faults
+  pub disk : back.disk_faults ≡ m.disk_faults

@@ -4,6 +4,7 @@
 mod log;
 mod medium;
 mod memory;
+mod pages;
 
 pub use medium::{Failed, Medium};
 pub use memory::{Damage, MemoryMedium};

@@ -5,10 +5,10 @@ ghost use Rattle.faults.specs.Faults.{Rose};
 ghost use Rattle.medium.specs.Damages.{IsDamage, damaged_words, hits};
 ghost use Rattle.medium.specs.Medium.{AreWords, read_call, write_call, no_calls, with_call, with_record, Reads, ChangesOnly};
 ghost use Rattle.medium.specs.MediumState.{next, rows_told, fails_next, words_read, after_read, after_write};
-ghost use Rattle.medium.specs.Rows.{items_of, IsRow};
 
 use crate::log::CallLog;
 use crate::medium::{Failed, Medium};
+use crate::pages::Pages;
 use faults::NoMemory;
 use std::alloc::Global;
 use std::marker::Model;
@@ -28,7 +28,7 @@ pub struct Damage {
 /// Records in memory, which are zero at first. With a damage it does not tell what they hold.
 #[derive(Drop)]
 pub struct MemoryMedium {
-    rows: Vec<Vec<u64>>,
+    pages: Pages,
     fails: Vec<u64>,
     damages: Vec<Damage>,
     call_count: u64,
@@ -78,41 +78,6 @@ fn put_damages(damages: &[Damage], read: u64, into: &mut [u64])
     }
 }
 
-/// Records of zeros.
-fn zero_rows(alloc: Global, records: u16, words_each: u16) -> Result<Vec<Vec<u64>>, NoMemory>
-    ensures { IfOk result (λ rows.
-        items_of rows.items ≡ replicate records (replicate words_each 0)) }
-{
-    let mut rows = Vec::with_capacity(alloc, records as usize)?;
-    'rows: while rows.len() < records as usize {
-        rows.push(vec![in alloc; 0u64; words_each as usize]?)?;
-    }
-    Ok(rows)
-}
-
-/// Copies a record out.
-fn read_row(rows: &[Vec<u64>], at: usize, into: &mut [u64])
-    requires inside { at < length rows.now }
-    requires rows { All (λ row. IsRow (length into.old) row) (items_of rows.now) }
-    ensures row { into.new ≡ slice_index_or (items_of rows.now) at [] }
-    ensures words { AreWords into.new }
-{
-    let row = &rows[at];
-    into.copy_from_slice(row);
-}
-
-/// Copies a record in.
-fn write_row(rows: &mut [Vec<u64>], at: usize, from: &[u64])
-    requires inside { at < length rows.old }
-    requires rows { All (λ row. IsRow (length from.now) row) (items_of rows.old) }
-    requires words { AreWords from.now }
-    ensures row { items_of rows.new ≡ slice_set (items_of rows.old) at from.now }
-    ensures rows { All (λ row. IsRow (length from.now) row) (items_of rows.new) }
-{
-    let row = &mut rows[at];
-    row.copy_from_slice(from);
-}
-
 impl MemoryMedium {
     /// A medium of `records` records of `record_words` words, all zero.
     ///
@@ -141,7 +106,7 @@ impl MemoryMedium {
         }) }
     {
         Ok(MemoryMedium {
-            rows: zero_rows(alloc, records, record_words)?,
+            pages: Pages::zeros(alloc, records, record_words)?,
             fails: fails.to_vec(alloc)?,
             damages: damages.to_vec(alloc)?,
             call_count: 0,
@@ -187,7 +152,7 @@ impl Medium for MemoryMedium {
     ghost faults = { λ m. m.fault_count };
 
     fn records(&self) -> u16 {
-        self.rows.len() as u16
+        self.pages.len() as u16
     }
 
     fn record_words(&self) -> u16 {
@@ -219,7 +184,7 @@ impl Medium for MemoryMedium {
         if self.fails_next() {
             return Err(self.fail(false, at));
         }
-        read_row(&self.rows, at as usize, into);
+        self.pages.read(at, into);
         put_damages(&self.damages, self.read_count, into);
         self.log.push(false, at, false, into);
         Ok(())
@@ -244,7 +209,7 @@ impl Medium for MemoryMedium {
         if self.fails_next() {
             return Err(self.fail(true, at));
         }
-        write_row(&mut self.rows, at as usize, from);
+        self.pages.write(at, from);
         self.log.push(true, at, false, &[]);
         Ok(())
     }

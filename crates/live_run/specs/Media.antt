@@ -1,9 +1,8 @@
 -- claim: what is seen of drum and disk.
-use Rattle.std.specs.Prelude.{◌≡◌, ℕ, Bool, ◌&&◌, List, Option}
+use Rattle.std.specs.Prelude.{ℕ, Bool, ◌&&◌, List, Option}
 use Rattle.std.specs.Option.{is_some}
 use Rattle.medium.specs.Medium.{CallList}
 use Rattle.medium.specs.declared.medium.Medium.{Ghosts}
-use Rattle.user_cores.specs.Backing.{BackState}
 
 -- whether both tell their records, what the disk's records hold, where told, the calls of each, where told, and how many of them failed
 pub record MediaSeen : Type 0 where
@@ -24,9 +23,3 @@ media_seen d f drum disk =
       drum_faults = d.faults drum;
       disk_faults = f.faults disk;
     }
-
--- what lies behind users' sessions shows these calls and faults
-pub record IsSeen (m : MediaSeen) (back : BackState) : Type 0 where
-  pub calls : back.calls ≡ m.drum_calls
-  pub drum : back.faults ≡ m.drum_faults
-  pub disk : back.disk_faults ≡ m.disk_faults

@@ -1,5 +1,5 @@
 -- proof: what the fields of a medium in memory stand for.
-use Rattle.std.specs.Prelude.{◌≡◌, ◌^◌, ◌<◌, length}
+use Rattle.std.specs.Prelude.{◌≡◌}
 use Rattle.std.specs.List.{All}
 use Rattle.medium.specs.Rows.{IsRow}
 use Rattle.medium.specs.Damages.{IsDamage}
@@ -19,9 +19,8 @@ medium_state m = record {
   calls = m.log.calls;
 }
 
--- each record has its words, there are no more records than a u16 numbers, and the damages lie in a record
+-- each record has its words, and the damages lie in a record
 pub record IsMedium (m : Inside) : Type 0 where
   pub rows : All (λ row. IsRow m.log.words_each row) m.pages.rows
   pub each : m.pages.each ≡ m.log.words_each
-  pub count : length m.pages.rows < 2 ^ 16
   pub damages : All (λ d. IsDamage m.log.words_each d) m.damages.items

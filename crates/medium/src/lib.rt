@@ -5,6 +5,8 @@ mod log;
 mod medium;
 mod memory;
 mod pages;
+mod plain;
 
 pub use medium::{Failed, Medium};
 pub use memory::{Damage, MemoryMedium};
+pub use plain::PlainMedium;

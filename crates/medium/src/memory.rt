@@ -152,7 +152,7 @@ impl Medium for MemoryMedium {
     ghost faults = { λ m. m.fault_count };
 
     fn records(&self) -> u16 {
-        self.pages.len() as u16
+        self.pages.len()
     }
 
     fn record_words(&self) -> u16 {

@@ -100,10 +100,17 @@ impl Pages {
     }
 
     /// How many there are.
-    pub(crate) fn len(&self) -> usize
+    pub(crate) fn len(&self) -> u16
         ensures { result ≡ length self.now.rows }
     {
-        self.count as usize
+        self.count
+    }
+
+    /// How many words each has.
+    pub(crate) fn each(&self) -> u16
+        ensures { result ≡ self.now.each }
+    {
+        self.each
     }
 
     /// Copies a record out.

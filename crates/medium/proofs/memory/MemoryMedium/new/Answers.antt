@@ -1,6 +1,5 @@
-use Rattle.std.proofs.Common.{◌≡◌, ◌∙◌, ℕ, List, length, replicate, ap, sym, arith}
+use Rattle.std.proofs.Common.{◌≡◌, ◌∙◌, replicate, ap, sym, arith}
 use Rattle.std.proofs.lemmas.Grind.{common_steps}
-use Rattle.std.proofs.lemmas.List.{length-replicate}
 use Rattle.medium.specs.LogState.{LogState}
 use Rattle.medium.proofs.Records.{zero_rows_are}
 use Rattle.medium.proofs.memory.MemoryMedium.new.Goals as goal
@@ -10,10 +9,8 @@ invariant_of-result c =
     let rows : c.in_ok-zeros.field-0.rows ≡ replicate c.args.records (replicate c.args.record_words 0) = c.in_ok-zeros.ensures.rows in
     let words_each : c.in_ok-new.field-0.words_each ≡ c.args.record_words = ap (λ (l : LogState). l.words_each) c.in_ok-new.ensures in
     let damages : c.in_ok-to_vec-2.field-0.items ≡ c.args.damages.now = grind (arith, common_steps) in
-    let count : length c.in_ok-zeros.field-0.rows ≡ c.args.records = ap (λ (l : List (List ℕ)). length l) rows ∙ length-replicate c.args.records (replicate c.args.record_words 0) in
     record {
       rows = rw (words_each, rows) (zero_rows_are c.args.records c.args.record_words);
       each = c.in_ok-zeros.ensures.each ∙ sym words_each;
-      count = omega (arith, count, c.ranges.records.fits);
       damages = rw (words_each, damages) c.requires;
     }

@@ -5,3 +5,4 @@ pub mod Cards
 pub mod Lines
 pub mod Asked
 pub mod Allowed
+pub mod Complete

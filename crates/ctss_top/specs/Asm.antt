@@ -95,3 +95,12 @@ statuses_by (faulty faults) = 3 ∷ 4 ∷ 8 ∷ 9 ∷ []
 
 abbrev pub statuses_for_cards : List ℕ → List ℕ
 statuses_for_cards bytes = if nat_le (length bytes) max_bytes then statuses_by (assembled_from bytes) else 2 ∷ 3 ∷ 4 ∷ 8 ∷ []
+
+-- the one status that bytes define, where nothing fails
+
+abbrev pub status_by : Assembled → ℕ
+status_by (deck words) = 0
+status_by (faulty faults) = 9
+
+abbrev pub status_of_cards : List ℕ → ℕ
+status_of_cards bytes = if nat_le (length bytes) max_bytes then status_by (assembled_from bytes) else 2

@@ -1,10 +1,14 @@
 -- claim: what is seen of the input, the output, drum and disk, and the link at one moment.
-use Rattle.std.specs.Prelude.{ℕ, List, Option}
+use Rattle.std.specs.Prelude.{ℕ, ◌+◌, ◌-◌, ◌^◌, ◌<◌, min, List, Option}
 use Rattle.medium.specs.declared.medium.Medium.{Ghosts as MediumGhosts}
 use Rattle.ctss_io.specs.declared.outside.Source.{Ghosts as InputGhosts}
 use Rattle.ctss_io.specs.declared.outside.Sink.{Ghosts as OutputGhosts}
 use Rattle.console_link.specs.Links.{LinkSeen}
 use Rattle.live_run.specs.Media.{MediaSeen, media_seen}
+
+-- a count of failed calls has not risen: it is below what one more failed call makes of it
+abbrev pub Stands : ℕ → ℕ → Type 0
+Stands before now = now < min (before + 1) (2 ^ 64 - 1)
 
 -- the bytes that are left, where told, and how often a read failed
 pub record InputSeen : Type 0 where

@@ -4,3 +4,4 @@ pub mod Played
 pub mod Modes
 pub mod Asm
 pub mod Top
+pub mod Answer

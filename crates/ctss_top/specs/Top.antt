@@ -17,12 +17,12 @@ use Rattle.system_model.specs.Record.{record_of, EachIsAlone, IsOneList}
 use Rattle.supervisor.specs.Counts.{IsCounted}
 use Rattle.ctss_top.specs.declared.outcome.Outcome.{Outcome}
 use Rattle.ctss_top.specs.Outcomes.{empty_record, bare, IsOneOf}
-use Rattle.ctss_top.specs.Devices.{DevicesSeen}
+use Rattle.ctss_top.specs.Devices.{DevicesSeen, Stands}
 use Rattle.file_tracks.specs.Lying.{LieOn}
 use Rattle.live_serve.specs.Live.{StopsInTurn, LacksFiles as LiveLacksFiles}
 use Rattle.ctss_top.specs.Played.{IsStopped, IsDone, LacksFiles}
 use Rattle.ctss_top.specs.Modes.{Comes, IsSpelled, IsRefused, text_for, reads_script, runs_script, serves}
-use Rattle.ctss_top.specs.Asm.{IsTextOfCards, CardsAreRefused, InputIsTooLong, statuses_for_cards}
+use Rattle.ctss_top.specs.Asm.{IsTextOfCards, CardsAreRefused, InputIsTooLong, statuses_for_cards, status_of_cards}
 
 -- The headline. The script is the one that the mode runs: that of all bytes that came, a made one, or a base with what people did
 -- over the link. The text of the run has come to the output. Where drum and disk tell their records, the run is the script's one
@@ -135,11 +135,12 @@ pub record IsCutOff (words : List (List ℕ)) (old new : DevicesSeen) (result : 
   pub card : result.card ≡ 0
   pub cause : result.cause ≡ 0
 
--- nothing was written; where reading failed no call of drum or disk was made
+-- nothing was written; where reading failed no call of drum, disk or link was made
 pub record IsSilent (status : ℕ) (old new : DevicesSeen) (result : Outcome) : Type 0 where
   pub outcome : result ≡ bare status 0 0
   pub same : new.output.held ≡ old.output.held
   pub media : status ≡ 3 → new.media ≡ old.media
+  pub link : status ≡ 3 → new.link ≡ old.link
 
 -- the refusals, each with its text
 pub record IsRefusal (words : List (List ℕ)) (old new : DevicesSeen) (result : Outcome) : Type 0 where
@@ -202,3 +203,40 @@ statuses_asked (Some (Serve port turns)) = 0 ∷ 2 ∷ 3 ∷ 4 ∷ 5 ∷ 6 ∷ 7
 pub record IsAllowed (words : List (List ℕ)) (old : DevicesSeen) (result : Outcome) : Type 0 where
   pub by_words : IsOneOf result.status (statuses_asked (mode_of words))
   pub by_bytes : WhereTold old.input.left (λ bytes. IsOneOf result.status (statuses_of (mode_of words) bytes))
+
+-- the one status that words and bytes define, where nothing fails
+
+abbrev pub status_of_script : Result Script ScriptRefusal → ℕ
+status_of_script (Ok script) = 0
+status_of_script (Err refusal) = 2
+
+abbrev pub status_due : Option Mode → List ℕ → ℕ
+status_due None bytes = 1
+status_due (Some Replay) bytes = status_of_script (script_of bytes)
+status_due (Some Dump) bytes = status_of_script (script_of bytes)
+status_due (Some (Load n)) bytes = 0
+status_due (Some Asm) bytes = status_of_cards bytes
+status_due (Some (Serve port turns)) bytes = status_of_script (base_of bytes)
+
+-- the answers to what the words ask, where nothing fails, whatever the bytes
+abbrev pub answers_to : Option Mode → List ℕ
+answers_to None = 1 ∷ 8 ∷ []
+answers_to (Some Replay) = 0 ∷ 2 ∷ 8 ∷ []
+answers_to (Some Dump) = 0 ∷ 2 ∷ 8 ∷ []
+answers_to (Some (Load n)) = 0 ∷ 8 ∷ []
+answers_to (Some Asm) = 0 ∷ 2 ∷ 8 ∷ 9 ∷ []
+answers_to (Some (Serve port turns)) = 0 ∷ 2 ∷ 8 ∷ []
+
+-- no call of the input, the output, the drum, the disk or the listener failed; what calls on single connections did is not asked
+pub record NothingFailed (old new : DevicesSeen) : Type 0 where
+  pub input : Stands old.input.faults new.input.faults
+  pub output : Stands old.output.faults new.output.faults
+  pub drum : Stands old.media.drum_faults new.media.drum_faults
+  pub disk : Stands old.media.disk_faults new.media.disk_faults
+  pub link : Stands old.link.faults new.link.faults
+
+-- The answer is the one that words and bytes define, or want of memory. Where the bytes are not told it is one that some bytes could
+-- have.
+pub record IsComplete (words : List (List ℕ)) (old : DevicesSeen) (result : Outcome) : Type 0 where
+  pub by_words : IsOneOf result.status (answers_to (mode_of words))
+  pub by_bytes : WhereTold old.input.left (λ bytes. IsOneOf result.status (status_due (mode_of words) bytes ∷ 8 ∷ []))

@@ -16,7 +16,7 @@ ghost use Rattle.ctss_top.specs.Modes.{ModeAsked, runs_script, replays, text_for
 ghost use Rattle.ctss_top.specs.Asm.{DeckIsWritten};
 ghost use Rattle.ctss_top.specs.Devices.{InputSeen, output_seen, devices, seen};
 ghost use Rattle.ctss_top.specs.Top.{IsRun, RunIsStopped, RunLosesFiles, ScriptIsRefused, IsRefusal, HasCause, LeavesUnasked, IsCutOff};
-ghost use Rattle.ctss_top.specs.Top.{IsSilent, IsAllowed, statuses_for};
+ghost use Rattle.ctss_top.specs.Top.{IsSilent, IsAllowed, NothingFailed, IsComplete, statuses_for};
 
 use crate::asm::asm;
 use crate::live::{live_text, serve_consoles};
@@ -254,6 +254,11 @@ pub fn run_ctss<S: Source, K: Sink, D: Medium, F: Medium, L: Link>(
     ensures apart { LeavesUnasked words.now (seen S.Source K.Sink D.Medium F.Medium input.old output.old drum.old disk.old (L.seen link.old))
         (seen S.Source K.Sink D.Medium F.Medium input.new output.new drum.new disk.new (L.seen link.new)) }
     ensures allowed { IsAllowed words.now (seen S.Source K.Sink D.Medium F.Medium input.old output.old drum.old disk.old (L.seen link.old)) result }
+
+    // Where nothing failed, the answer is the one that words and bytes define, or want of memory.
+    ensures complete { NothingFailed (seen S.Source K.Sink D.Medium F.Medium input.old output.old drum.old disk.old (L.seen link.old))
+        (seen S.Source K.Sink D.Medium F.Medium input.new output.new drum.new disk.new (L.seen link.new))
+        → IsComplete words.now (seen S.Source K.Sink D.Medium F.Medium input.old output.old drum.old disk.old (L.seen link.old)) result }
 {
     match words.mode() {
         Ok(Some(Mode::Replay)) => replay(alloc, Mode::Replay, input, output, drum, disk),

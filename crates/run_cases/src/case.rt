@@ -46,6 +46,34 @@ impl Faults {
     }
 }
 
+/// An object outside whose calls can fail one at a time.
+#[derive(Clone, Copy, Debug, PartialEq, Eq)]
+pub(crate) enum Device {
+    Source,
+    Sink,
+    Drum,
+    Disk,
+}
+
+impl Device {
+    /// The status of a run of which a call of it failed.
+    pub(crate) fn status(self) -> u8 {
+        match self {
+            Device::Source => 3,
+            Device::Sink => 4,
+            Device::Drum => 5,
+            Device::Disk => 6,
+        }
+    }
+}
+
+/// Each call of a device fails in turn, up to the call with this number.
+#[derive(Clone, Copy)]
+pub(crate) struct Each {
+    pub(crate) device: Device,
+    pub(crate) most: u64,
+}
+
 /// A run: the words of the command line or the turns of a server, the text that is read, what fails, and the callers in order.
 #[derive(Drop)]
 pub(crate) struct Case {
@@ -59,8 +87,8 @@ pub(crate) struct Case {
     pub(crate) sink: Stream,
     pub(crate) drum: Faults,
     pub(crate) disk: Faults,
-    /// The case is done once for each call of the disk, which fails.
-    pub(crate) each_fails: bool,
+    /// The case is done once for each of these calls, which fails.
+    pub(crate) each: Option<Each>,
     pub(crate) callers: Vec<Caller>,
     pub(crate) link_fails: Vec<LinkAt>,
     pub(crate) link_waits: Vec<LinkAt>,
@@ -87,7 +115,7 @@ impl Case {
             },
             drum: Faults::new(alloc),
             disk: Faults::new(alloc),
-            each_fails: false,
+            each: None,
             callers: Vec::new(alloc),
             link_fails: Vec::new(alloc),
             link_waits: Vec::new(alloc),

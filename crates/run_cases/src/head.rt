@@ -1,5 +1,5 @@
 //! The lines that say how a case is done.
-use crate::case::{Case, Stream};
+use crate::case::{Case, Device, Each, Stream};
 use anyhow::{Result, bail};
 use medium::Damage;
 use std::alloc::Global;
@@ -42,6 +42,22 @@ fn damage(fields: &str) -> Result<Damage> {
     })
 }
 
+/// A device, and how many of its calls fail at most.
+fn each(fields: &str) -> Result<Each> {
+    let Some((device, most)) = fields.split_once(" ") else {
+        bail!("EACH has a device and a number");
+    };
+    let device = match device {
+        "SOURCE" => Device::Source,
+        "SINK" => Device::Sink,
+        "DRUM" => Device::Drum,
+        "DISK" => Device::Disk,
+        _ => bail!("a device is SOURCE, SINK, DRUM or DISK"),
+    };
+    let most = most.parse::<u64>()?;
+    Ok(Each { device, most })
+}
+
 impl Case {
     /// One more line of how it is done. Answers whether the text begins behind it.
     pub(crate) fn add_head(&mut self, alloc: Global, line: &str) -> Result<bool> {
@@ -60,7 +76,7 @@ impl Case {
             }
             "DRUM" => self.drum.fails = numbers(alloc, fields)?,
             "DRUM-DAMAGE" => self.drum.damage = Some(damage(fields)?),
-            "DISK" if fields == "EACH" => self.each_fails = true,
+            "EACH" => self.each = Some(each(fields)?),
             "DISK" => self.disk.fails = numbers(alloc, fields)?,
             "DISK-DAMAGE" => self.disk.damage = Some(damage(fields)?),
             "BYTES" => self.text = hex::decode(alloc, fields)?,

@@ -5,8 +5,9 @@
 //! - `SOURCE piece n ..`: at most so many bytes a read, of which these fail; `SINK room piece n ..`: room for so many bytes,
 //!   at most so many a put, of which these fail;
 //! - `DRUM n ..`: these calls of the drum fail; `DRUM-DAMAGE read place word`: this read, or with `EACH` each, gives an octal word in
-//!   this place; `DISK` and `DISK-DAMAGE` say the same of the disk; with `DISK EACH` the case is done for each call of the disk,
-//!   which fails, until no call does, and the calls are told with the statuses;
+//!   this place; `DISK` and `DISK-DAMAGE` say the same of the disk;
+//! - `EACH device n`: the case is done for each call of `SOURCE`, `SINK`, `DRUM` or `DISK`, which fails, until no call does, n times at
+//!   most, and each time the call is told first;
 //! - `BYTES hex`: bytes of the text; `LAST`, `CALLS`: how many entries the schedule has and the last one, the calls of the link are
 //!   told.
 //!

@@ -6,14 +6,14 @@ ghost use Rattle.medium.specs.Medium.{HasShape};
 ghost use Rattle.medium.specs.Rows.{told_rows};
 ghost use Rattle.medium.specs.declared.memory.Damage.{Damage};
 
-use crate::case::{Case, Faults};
+use crate::case::{Case, Device, Each};
 use crate::link::link_of;
 use anyhow::{Result, bail};
 use console_link::{Accepted, CallMade, MemoryLink};
 use ctss_io::{MemorySink, MemorySource};
 use ctss_top::{ArgList, Outcome, run_ctss};
 use medium::{Damage, MemoryMedium};
-use std::alloc::Global;
+use std::alloc::{AllocError, Global};
 use std::io::{Write, writer};
 
 /// The words of a case; for turns those that ask for so many.
@@ -92,29 +92,62 @@ fn damages_of(alloc: Global, damage: Option<Damage>, words: u16) -> Result<Vec<D
     Ok(damages)
 }
 
+/// A call of a device that fails.
+#[derive(Clone, Copy)]
+struct FailingCall {
+    device: Device,
+    number: u64,
+}
+
+/// The calls of a device that fail: these, and the one that fails beside them.
+fn fails_of(
+    alloc: Global,
+    device: Device,
+    fails: &[u64],
+    beside: Option<FailingCall>,
+) -> Result<Vec<u64>, AllocError> {
+    let mut all = fails.to_vec(alloc)?;
+    if let Some(call) = beside {
+        if call.device == device {
+            all.push(call.number)?;
+        }
+    }
+    Ok(all)
+}
+
 /// So many records of so many words in memory, of which this is wrong.
 #[tactic(auto, using(crate::proofs::Shapes::told_shape))]
-fn medium_of(alloc: Global, faults: &Faults, records: u16, words: u16) -> Result<MemoryMedium>
+fn medium_of(
+    alloc: Global,
+    fails: &[u64],
+    damage: Option<Damage>,
+    records: u16,
+    words: u16,
+) -> Result<MemoryMedium>
     ensures shape { IfOk result (λ m. HasShape (told_rows m.damages m.rows) (length m.rows)) }
     ensures count { IfOk result (λ m. length m.rows ≡ records) }
     ensures words { IfOk result (λ m. m.words_each ≡ words) }
 {
-    let damages = damages_of(alloc, faults.damage, words)?;
-    Ok(MemoryMedium::new(alloc, records, words, &faults.fails, &damages, 0)?)
+    let damages = damages_of(alloc, damage, words)?;
+    Ok(MemoryMedium::new(alloc, records, words, fails, &damages, 0)?)
 }
 
-/// Does a case over a disk of which this is wrong, and answers the status.
-fn status_of(rt: &HostRuntime, case: &Case, disk: &Faults) -> Result<u8> {
+/// Does a case, of which one call may fail beside those that it names, and answers the status.
+fn status_of(rt: &HostRuntime, case: &Case, beside: Option<FailingCall>) -> Result<u8> {
     let alloc = rt.alloc();
     if case.source.piece == 0 || case.sink.piece == 0 {
         bail!("a stream moves a byte or more a call");
     }
     let words = words_of(alloc, case)?;
-    let mut drum = medium_of(alloc, &case.drum, 3840, 256)?;
-    let mut disk = medium_of(alloc, disk, 10000, 432)?;
+    let fails = fails_of(alloc, Device::Drum, &case.drum.fails, beside)?;
+    let mut drum = medium_of(alloc, &fails, case.drum.damage, 3840, 256)?;
+    let fails = fails_of(alloc, Device::Disk, &case.disk.fails, beside)?;
+    let mut disk = medium_of(alloc, &fails, case.disk.damage, 10000, 432)?;
     let mut link = link_of(alloc, case)?;
-    let mut input = MemorySource::new(alloc, &case.text, case.source.piece, &case.source.fails)?;
-    let mut output = MemorySink::new(alloc, case.room, case.sink.piece, &case.sink.fails)?;
+    let fails = fails_of(alloc, Device::Source, &case.source.fails, beside)?;
+    let mut input = MemorySource::new(alloc, &case.text, case.source.piece, &fails)?;
+    let fails = fails_of(alloc, Device::Sink, &case.sink.fails, beside)?;
+    let mut output = MemorySink::new(alloc, case.room, case.sink.piece, &fails)?;
     let outcome = run_ctss(
         alloc,
         &words,
@@ -128,18 +161,18 @@ fn status_of(rt: &HostRuntime, case: &Case, disk: &Faults) -> Result<u8> {
     Ok(outcome.status)
 }
 
-/// Does a case for each call of the disk, which fails, until none does. Answers the last status.
-fn play_each(rt: &HostRuntime, case: &Case) -> Result<u8> {
-    for call in 1..1000u64 {
-        let mut disk = Faults::new(rt.alloc());
-        disk.fails.push(call)?;
-        println!(rt; "CALL {call}")?;
-        let status = status_of(rt, case, &disk)?;
-        if status != 6 {
-            return Ok(status);
+/// Does a case for each call of a device, which fails, until no call does. Answers the last status.
+fn play_each(rt: &HostRuntime, case: &Case, each: Each) -> Result<u8> {
+    let device = each.device;
+    let mut status = device.status();
+    for number in 1..=each.most {
+        println!(rt; "CALL {number}")?;
+        status = status_of(rt, case, Some(FailingCall { device, number }))?;
+        if status != device.status() {
+            break;
         }
     }
-    bail!("too many calls of the disk");
+    Ok(status)
 }
 
 /// Does a case and writes what came of it. Answers the status; 0 for a case that has a name, whose status is written.
@@ -147,10 +180,9 @@ pub(crate) fn play(rt: &HostRuntime, case: &Case) -> Result<u8> {
     if let Some(name) = &case.name {
         println!(rt; "CASE {name}")?;
     }
-    let status = if case.each_fails {
-        play_each(rt, case)?
-    } else {
-        status_of(rt, case, &case.disk)?
+    let status = match case.each {
+        Some(each) => play_each(rt, case, each)?,
+        None => status_of(rt, case, None)?,
     };
     Ok(if case.name.is_some() { 0 } else { status })
 }

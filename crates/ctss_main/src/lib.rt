@@ -1,0 +1,48 @@
+//! What the program is, but for its `main`: the words of its command line, standard input, standard output and the sockets of this
+//! machine, over a drum and a disk in memory.
+#![tactic(auto)]
+
+mod program;
+
+pub use program::run_program;
+
+use console_link::MioLink;
+use ctss_io::{NoMemory, StdSink, StdSource};
+use ctss_top::ArgList;
+use std::io::ErrorKind;
+use std::{env, io};
+
+/// The words behind the program's own name. Where one is no text there are none, which is refused.
+fn words(rt: &HostRuntime) -> Result<ArgList, NoMemory> {
+    let mut words = ArgList::new(rt.alloc());
+    match env::args(rt) {
+        Ok(all) => {
+            for word in all.skip(1) {
+                words.add(word.as_str())?;
+            }
+            Ok(words)
+        }
+        Err(fault) => {
+            if fault.kind() == ErrorKind::OutOfMemory {
+                Err(NoMemory)
+            } else {
+                Ok(words)
+            }
+        }
+    }
+}
+
+/// Does what the words of the command line ask for, and answers the status.
+pub fn run(rt: &HostRuntime) -> Result<u8, NoMemory> {
+    let words = words(rt)?;
+    let mut link = MioLink::new(rt.alloc(), rt)?;
+    let mut source = StdSource::new(rt.reader());
+    let mut sink = StdSink::new(io::writer(rt));
+    Ok(run_program(
+        rt.alloc(),
+        &words,
+        &mut source,
+        &mut sink,
+        &mut link,
+    ))
+}

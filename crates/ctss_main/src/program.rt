@@ -1,0 +1,29 @@
+//! The top call over a drum and a disk in memory.
+ghost use Rattle.ctss_main.specs.Program.{IsAnswered, handed};
+
+use console_link::Link;
+use ctss_io::{Sink, Source};
+use ctss_top::{ArgList, run_ctss};
+use medium::PlainMedium;
+use std::alloc::Global;
+
+/// What the words ask for, done over a drum of 3840 records of 256 words and a disk of 10000 of 432. Answers the status; 8 too where
+/// there is no memory for drum and disk.
+pub fn run_program<S: Source, K: Sink, L: Link>(
+    alloc: Global,
+    words: &ArgList,
+    input: &mut S,
+    output: &mut K,
+    link: &mut L,
+) -> u8
+    ensures { IsAnswered words.now (handed S.Source K.Sink input.old output.old (L.seen link.old))
+        (handed S.Source K.Sink input.new output.new (L.seen link.new)) result }
+{
+    let Ok(mut drum) = PlainMedium::new(alloc, 3840, 256) else {
+        return 8;
+    };
+    let Ok(mut disk) = PlainMedium::new(alloc, 10000, 432) else {
+        return 8;
+    };
+    run_ctss(alloc, words, input, output, &mut drum, &mut disk, link).status
+}

@@ -25,5 +25,6 @@ pub fn run_program<S: Source, K: Sink, L: Link>(
     let Ok(mut disk) = PlainMedium::new(alloc, 10000, 432) else {
         return 8;
     };
-    run_ctss(alloc, words, input, output, &mut drum, &mut disk, link).status
+    let outcome = run_ctss(alloc, words, input, output, &mut drum, &mut disk, link);
+    outcome.status
 }

@@ -14,7 +14,7 @@ use Rattle.text_model.specs.Reading.{script_of, max_bytes}
 use Rattle.script_read.specs.Bases.{base_of}
 use Rattle.fap_model.specs.Decks.{Assembled, deck, faulty}
 use Rattle.ctss_top.specs.declared.outcome.Outcome.{Outcome}
-use Rattle.ctss_top.specs.Outcomes.{IsOneOf}
+use Rattle.ctss_top.specs.Outcomes.{bare, IsOneOf}
 use Rattle.ctss_top.specs.Devices.{DevicesSeen, Stands}
 use Rattle.ctss_top.specs.Asm.{assembled_from, statuses_by, statuses_for_cards, status_by, status_of_cards}
 use Rattle.ctss_top.specs.Top.{HasCause, IsAllowed, NothingFailed, IsComplete, statuses_asked, statuses_of, statuses_for, statuses_live, status_of_script, status_due, answers_to}
@@ -94,3 +94,32 @@ complete words old new o cause allowed none =
       by_words = left_of o.status (mode_of words) u allowed.by_words;
       by_bytes = of_told o.status (mode_of words) old.input.left u allowed.by_bytes;
     }
+
+-- the causes where few statuses come
+
+pub cards_have_causes : (old new : DevicesSeen) (o : Outcome) → IsOneOf o.status (0 ∷ 2 ∷ 3 ∷ 4 ∷ 8 ∷ 9 ∷ []) → (o.status ≡ 3 → Rose old.input.faults new.input.faults)
+    → (o.status ≡ 4 → Rose old.output.faults new.output.faults) → HasCause old new o
+cards_have_causes old new o is reading writing =
+    record {
+      reading = reading;
+      writing = writing;
+      drum = λ h. absurd (grind (arith, h, is, nat_tests));
+      disk = λ h. absurd (grind (arith, h, is, nat_tests));
+      link = λ h. absurd (grind (arith, h, is, nat_tests));
+    }
+
+pub words_have_causes : (old new : DevicesSeen) (o : Outcome) → IsOneOf o.status (1 ∷ 4 ∷ []) → (o.status ≡ 4 → Rose old.output.faults new.output.faults) → HasCause old new o
+words_have_causes old new o is writing =
+    record {
+      reading = λ h. absurd (grind (arith, h, is, nat_tests));
+      writing = writing;
+      drum = λ h. absurd (grind (arith, h, is, nat_tests));
+      disk = λ h. absurd (grind (arith, h, is, nat_tests));
+      link = λ h. absurd (grind (arith, h, is, nat_tests));
+    }
+
+pub memory_has_causes : (old new : DevicesSeen) (o : Outcome) → o ≡ bare 8 0 0 → HasCause old new o
+memory_has_causes old new o is = subst (HasCause old new) (sym is) (record { reading = λ h. absurd (omega (arith, h)); writing = λ h. absurd (omega (arith, h)); drum = λ h. absurd (omega (arith, h)); disk = λ h. absurd (omega (arith, h)); link = λ h. absurd (omega (arith, h)) })
+
+pub words_allowed : (status : ℕ) → IsOneOf status (1 ∷ 4 ∷ []) → IsOneOf status (1 ∷ 4 ∷ 8 ∷ [])
+words_allowed status h = grind (arith, h, nat_tests)

@@ -4,11 +4,10 @@
 
 mod program;
 
-pub use program::run_program;
-
 use console_link::MioLink;
 use ctss_io::{NoMemory, StdSink, StdSource};
 use ctss_top::ArgList;
+pub use program::run_program;
 use std::io::ErrorKind;
 use std::{env, io};
 
@@ -38,11 +37,5 @@ pub fn run(rt: &HostRuntime) -> Result<u8, NoMemory> {
     let mut link = MioLink::new(rt.alloc(), rt)?;
     let mut source = StdSource::new(rt.reader());
     let mut sink = StdSink::new(io::writer(rt));
-    Ok(run_program(
-        rt.alloc(),
-        &words,
-        &mut source,
-        &mut sink,
-        &mut link,
-    ))
+    Ok(run_program(rt.alloc(), &words, &mut source, &mut sink, &mut link))
 }

@@ -6,7 +6,7 @@ ghost use Rattle.medium.specs.Medium.{HasShape};
 ghost use Rattle.medium.specs.Rows.{told_rows};
 ghost use Rattle.medium.specs.declared.memory.Damage.{Damage};
 
-use crate::case::{Case, Device, Each};
+use crate::case::{Case, Device, Each, Faults};
 use crate::link::link_of;
 use anyhow::{Result, bail};
 use console_link::{Accepted, CallMade, MemoryLink};
@@ -115,12 +115,13 @@ fn fails_of(
     Ok(all)
 }
 
-/// So many records of so many words in memory, of which this is wrong.
+/// So many records of so many words in memory, of which this is wrong, and of which a call may fail beside.
 #[tactic(auto, using(crate::proofs::Shapes::told_shape))]
 fn medium_of(
     alloc: Global,
-    fails: &[u64],
-    damage: Option<Damage>,
+    device: Device,
+    faults: &Faults,
+    beside: Option<FailingCall>,
     records: u16,
     words: u16,
 ) -> Result<MemoryMedium>
@@ -128,26 +129,40 @@ fn medium_of(
     ensures count { IfOk result (λ m. length m.rows ≡ records) }
     ensures words { IfOk result (λ m. m.words_each ≡ words) }
 {
-    let damages = damages_of(alloc, damage, words)?;
-    Ok(MemoryMedium::new(alloc, records, words, fails, &damages, 0)?)
+    let damages = damages_of(alloc, faults.damage, words)?;
+    let fails = fails_of(alloc, device, &faults.fails, beside)?;
+    Ok(MemoryMedium::new(alloc, records, words, &fails, &damages, 0)?)
+}
+
+/// The text of a case as a source.
+fn source_of(alloc: Global, case: &Case, beside: Option<FailingCall>) -> Result<MemorySource> {
+    if case.source.piece == 0 {
+        bail!("a source gives a byte or more a read");
+    }
+    let fails = fails_of(alloc, Device::Source, &case.source.fails, beside)?;
+    let source = MemorySource::new(alloc, &case.text, case.source.piece, &fails)?;
+    Ok(source)
+}
+
+/// The sink of a case.
+fn sink_of(alloc: Global, case: &Case, beside: Option<FailingCall>) -> Result<MemorySink> {
+    if case.sink.piece == 0 {
+        bail!("a sink takes a byte or more a put");
+    }
+    let fails = fails_of(alloc, Device::Sink, &case.sink.fails, beside)?;
+    let sink = MemorySink::new(alloc, case.room, case.sink.piece, &fails)?;
+    Ok(sink)
 }
 
 /// Does a case, of which one call may fail beside those that it names, and answers the status.
 fn status_of(rt: &HostRuntime, case: &Case, beside: Option<FailingCall>) -> Result<u8> {
     let alloc = rt.alloc();
-    if case.source.piece == 0 || case.sink.piece == 0 {
-        bail!("a stream moves a byte or more a call");
-    }
     let words = words_of(alloc, case)?;
-    let fails = fails_of(alloc, Device::Drum, &case.drum.fails, beside)?;
-    let mut drum = medium_of(alloc, &fails, case.drum.damage, 3840, 256)?;
-    let fails = fails_of(alloc, Device::Disk, &case.disk.fails, beside)?;
-    let mut disk = medium_of(alloc, &fails, case.disk.damage, 10000, 432)?;
+    let mut drum = medium_of(alloc, Device::Drum, &case.drum, beside, 3840, 256)?;
+    let mut disk = medium_of(alloc, Device::Disk, &case.disk, beside, 10000, 432)?;
     let mut link = link_of(alloc, case)?;
-    let fails = fails_of(alloc, Device::Source, &case.source.fails, beside)?;
-    let mut input = MemorySource::new(alloc, &case.text, case.source.piece, &fails)?;
-    let fails = fails_of(alloc, Device::Sink, &case.sink.fails, beside)?;
-    let mut output = MemorySink::new(alloc, case.room, case.sink.piece, &fails)?;
+    let mut input = source_of(alloc, case, beside)?;
+    let mut output = sink_of(alloc, case, beside)?;
     let outcome = run_ctss(
         alloc,
         &words,

@@ -71,6 +71,7 @@ impl Accounts {
     pub fn list(&self) -> &[Account]
         ensures list { result.now ≡ self.now.list }
         ensures all { length self.now.on ≡ length self.now.list }
+        ensures few { length self.now.list ≤ 30 }
     {
         self.list.as_slice()
     }
@@ -96,6 +97,6 @@ impl Accounts {
         requires { user ≤ length self.old.list }
         ensures { self.new ≡ record self.old { on = set self.old.on (user - 1) on } }
     {
-        self.on[user.number() as usize - 1] = on;
+        self.on[user.index()] = on;
     }
 }

@@ -5,6 +5,7 @@ use Rattle.std.proofs.lemmas.Bool.Decides.{nat_tests}
 use Rattle.faults.specs.Faults.{Rose}
 use Rattle.console_link.specs.declared.link.LinkGot.{LinkGot}
 use Rattle.console_link.specs.declared.link.LinkGot.TheVariants as got
+use Rattle.faults.proofs.Rises.{rose_later}
 use Rattle.console_link.specs.Links.{LinkSeen, Did, DidRead, Rises, is_failed, not_yet}
 use Rattle.console_server.specs.Readings.{Gave, bytes_of, did_read, DidAll, Nothing, Then, MayStop, IsReading}
 use Rattle.console_laws.specs.Stops.{WhyStopped, Full, NotReady, Faulty, IsOver}
@@ -15,9 +16,6 @@ same_number n = grind (arith, nat_tests)
 pub rises : (must : Bool) (old new : ℕ) → Rises true must old new → old ≤ new
 rises true old new h = h.0
 rises false old new h = h
-
-pub rose_later : (old mid new : ℕ) → old ≤ mid → Rose mid new → Rose old new
-rose_later old mid new le rose = omega (arith, le, rose)
 
 rose_before : (old mid new : ℕ) → Rose old mid → mid ≤ new → Rose old new
 rose_before old mid new rose le = omega (arith, rose, le)

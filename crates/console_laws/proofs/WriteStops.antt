@@ -9,7 +9,8 @@ use Rattle.console_server.specs.Readings.{DidAll, Nothing, Then}
 use Rattle.console_server.specs.Turns.{Wrote, sent_of, MayPut, IsPutting}
 use Rattle.console_server.specs.Writings.{did_write}
 use Rattle.console_laws.specs.Stops.{WhyWritingStopped, AllSent, FullSent, WriteNotReady, WriteFaulty}
-use Rattle.console_laws.proofs.StopLaws.{same_number, rises, rose_later}
+use Rattle.faults.proofs.Rises.{rose_later}
+use Rattle.console_laws.proofs.StopLaws.{same_number, rises}
 
 -- a write on a connection: its counts of faults and of writes that were not ready
 faults_of : (id : ℕ) (answer : LinkTook) (bytes : List ℕ) (a b : LinkSeen) → Did (DidWrite id answer bytes) a b → Rises true (is_failed (DidWrite id answer bytes)) (a.counts id).faults (b.counts id).faults

@@ -11,7 +11,7 @@ pub(crate) fn user_in(console: &Console) -> u8
     ensures { result ≡ user_within console.now }
 {
     match console {
-        Console::Session(user) => *user,
+        Console::Session(user) => user.number(),
         Console::Off | Console::On | Console::Password(_) => 0,
     }
 }

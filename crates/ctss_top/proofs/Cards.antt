@@ -18,10 +18,6 @@ use Rattle.ctss_top.specs.Devices.{DevicesSeen}
 use Rattle.ctss_top.specs.Asm.{assembled_from, IsInput, IsTooLong, IsDeckOf, AreFaultsOf, DeckIsWritten, CardsAreRefused, InputIsTooLong, IsTextOfBytes, DeckOf, FaultsOf, IsTextOfCards, OfDeck, OfFaults, OfLong, IsCutOfCards, CardsAreCutOff, statuses_by, statuses_for_cards}
 use Rattle.ctss_top.specs.Top.{OfCards, IsCutOff, statuses_of}
 
-pub faults_joined : (fs : List CardFault) → flat_map (λ (f : CardFault). fault_line (f.card, f.number)) fs ≡ faults_text (numbered fs)
-faults_joined [] = refl
-faults_joined (f ∷ fs) = ap (λ (l : List ℕ). fault_line (f.card, f.number) ++ l) (faults_joined fs)
-
 input : (left rest : Option (List ℕ)) (bytes : List ℕ) → left ≡ before bytes rest → IsAtEnd rest → length bytes ≤ max_bytes → IsInput left rest bytes
 input left rest bytes came whole size = record { came = came; whole = whole; size = size }
 

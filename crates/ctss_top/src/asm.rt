@@ -1,13 +1,12 @@
 //! Assembly: cards are read, and their deck or their faults are written.
-ghost use Rattle.std.specs.Prelude.{◌≡◌, ◌≢◌, ◌++◌, ◌∷◌, ◌≤◌, [], length, string_bytes, IfOk, OnOk};
-ghost use Rattle.std.specs.List.{flat_map};
+ghost use Rattle.std.specs.Prelude.{◌≡◌, ◌≢◌, ◌∷◌, ◌≤◌, [], length};
 ghost use Rattle.faults.specs.Faults.{Rose, WhereTold};
 ghost use Rattle.ctss_io.specs.Outside.{after};
 ghost use Rattle.ctss_io.specs.Whole.{GrewByProperPrefix};
 ghost use Rattle.fap_assemble.specs.Answers.{IsAssembled};
 ghost use Rattle.fap_assemble.specs.Follows.{numbered};
 ghost use Rattle.text_model.specs.Canonical.{word_cards};
-ghost use Rattle.text_model.specs.Words.{fault_line, faults_text};
+ghost use Rattle.text_model.specs.Words.{faults_text};
 ghost use Rattle.fap_model.specs.Decks.{deck};
 ghost use Rattle.console_link.specs.Links.{LinkSeen};
 ghost use Rattle.ctss_top.specs.Outcomes.{bare, IsOneOf};
@@ -18,14 +17,13 @@ ghost use Rattle.ctss_top.specs.Asm.{assembled_from, IsDeckOf, AreFaultsOf, Deck
 ghost use Rattle.ctss_top.specs.Asm.{IsCutOfCards, CardsAreCutOff, statuses_by, statuses_for_cards};
 
 use crate::outcome::Outcome;
-use crate::write::{refuse_script, write_out};
+use crate::write::refuse_script;
+use assembly_text::{DeckText, FaultsText};
 use ctss_io::{ReadEnd, Sink, Source, read_bytes};
-use ctss_types::{Bytes, NoMemory, Sequence};
 use fap_assemble::{AsmFault, CardFault, Deck, assemble};
 use fap_read::cards_of_text;
-use std::alloc::{AllocError, Global};
-use std::fmt::Write;
-use word_cards::add_word_cards;
+use std::alloc::Global;
+use text_writer::{TextFault, write_text};
 use word36::Word;
 
 /// What the cards of a text make.
@@ -35,41 +33,6 @@ fn assemble_text(alloc: Global, bytes: &[u8]) -> Result<Deck, AsmFault>
 {
     let cards = cards_of_text(alloc, bytes)?;
     assemble(alloc, cards.as_slice())
-}
-
-/// A deck as O cards.
-fn deck_text(alloc: Global, words: &[Word]) -> Result<Bytes, NoMemory>
-    ensures { IfOk result (λ text. text ≡ word_cards words.now) }
-{
-    let mut text = String::new(alloc);
-    add_word_cards(&mut text, words)?;
-    Ok(Sequence::from_vec(text.into_bytes()))
-}
-
-fn add_fault(out: &mut String, fault: &CardFault) -> Result<(), AllocError>
-    ensures { OnOk result (string_bytes out.new ≡ string_bytes out.old ++ fault_line (fault.now.card, fault.now.number)) }
-{
-    let (card, number) = (fault.card, fault.number);
-    write!(out, "CARD {card} FAULT {number}\n")
-}
-
-fn add_faults(out: &mut String, faults: &[CardFault]) -> Result<(), AllocError>
-    ensures { OnOk result (string_bytes out.new ≡ string_bytes out.old ++ flat_map (λ (f : CardFault). fault_line (f.card, f.number)) faults.now) }
-{
-    for fault in faults {
-        add_fault(out, fault)?;
-    }
-    Ok(())
-}
-
-/// A line for each card at fault.
-#[tactic(auto, using(crate::proofs::Cards::faults_joined))]
-fn text_of_faults(alloc: Global, faults: &[CardFault]) -> Result<Bytes, NoMemory>
-    ensures { IfOk result (λ text. text ≡ faults_text (numbered faults.now)) }
-{
-    let mut text = String::new(alloc);
-    add_faults(&mut text, faults)?;
-    Ok(Sequence::from_vec(text.into_bytes()))
 }
 
 /// Writes a deck.
@@ -83,9 +46,10 @@ fn write_deck<K: Sink>(alloc: Global, words: &[Word], sink: &mut K) -> Outcome
     ensures memory { result.status ≡ 8 → result ≡ bare 8 0 0 }
     ensures silent { result.status ≡ 8 → K.held sink.new ≡ K.held sink.old }
 {
-    match deck_text(alloc, words) {
-        Ok(text) => write_out(sink, text.as_slice(), Outcome::bare(alloc, 0, 0, 0)),
-        Err(_) => Outcome::bare(alloc, 8, 0, 0),
+    match write_text(alloc, sink, &DeckText { words }) {
+        Ok(()) => Outcome::bare(alloc, 0, 0, 0),
+        Err(TextFault::Write) => Outcome::bare(alloc, 4, 0, 0),
+        Err(TextFault::NoMemory) => Outcome::bare(alloc, 8, 0, 0),
     }
 }
 
@@ -100,9 +64,10 @@ fn write_faults<K: Sink>(alloc: Global, faults: &[CardFault], sink: &mut K) -> O
     ensures memory { result.status ≡ 8 → result ≡ bare 8 0 0 }
     ensures silent { result.status ≡ 8 → K.held sink.new ≡ K.held sink.old }
 {
-    match text_of_faults(alloc, faults) {
-        Ok(text) => write_out(sink, text.as_slice(), Outcome::bare(alloc, 9, 0, 0)),
-        Err(_) => Outcome::bare(alloc, 8, 0, 0),
+    match write_text(alloc, sink, &FaultsText { faults }) {
+        Ok(()) => Outcome::bare(alloc, 9, 0, 0),
+        Err(TextFault::Write) => Outcome::bare(alloc, 4, 0, 0),
+        Err(TextFault::NoMemory) => Outcome::bare(alloc, 8, 0, 0),
     }
 }
 

@@ -1,8 +1,6 @@
 //! Live consoles: a base script comes in, and the script of what people did goes out with its report.
-ghost use Rattle.std.specs.Prelude.{◌≡◌, ◌≤◌, ◌∷◌, ◌++◌, [], ℕ, List, Some, IfOk, false};
+ghost use Rattle.std.specs.Prelude.{◌≡◌, ◌≤◌, ◌∷◌, [], ℕ, List, Some};
 ghost use Rattle.faults.specs.Faults.{WhereTold};
-ghost use Rattle.text_model.specs.Canonical.{script_text_of};
-ghost use Rattle.text_model.specs.Report.{report_of};
 ghost use Rattle.text_model.specs.Lawful.{IsLawful};
 ghost use Rattle.text_model.specs.Words.{mode_of};
 ghost use Rattle.script_read.specs.Bases.{base_of};
@@ -19,23 +17,12 @@ use crate::run::write_run;
 use crate::write::refuse_script;
 use console_link::Link;
 use ctss_io::{ReadEnd, Sink, Source, read_bytes};
-use ctss_types::{Bytes, NoMemory, Record, Script, Sequence};
+use ctss_types::Script;
 use live_serve::{Served, ServingFault, serve};
 use medium::Medium;
-use report_text::report;
-use script_read::{ScriptFault, read_base, script_text};
+use script_read::{ScriptFault, read_base};
 use std::alloc::Global;
 use text_model::Mode;
-
-/// A script's text, and behind it the report of its record.
-pub(crate) fn live_text(alloc: Global, script: &Script, run: &Record) -> Result<Bytes, NoMemory>
-    ensures { IfOk result (λ text. text ≡ script_text_of script.now ++ report_of script.now run.now false) }
-{
-    let mut text = script_text(alloc, script)?.into_vec();
-    let report = report(alloc, script, run, false)?;
-    text.extend_from_slice(report.as_slice())?;
-    Ok(Sequence::from_vec(text))
-}
 
 /// People are served over a base script, and the text of what they did is written.
 fn host<K: Sink, D: Medium, F: Medium, L: Link>(

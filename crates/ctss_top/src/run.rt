@@ -1,11 +1,13 @@
-ghost use Rattle.std.specs.Prelude.{◌≡◌, ◌≢◌, ◌∷◌, [], ℕ, List, Some, true, IfOk};
+ghost use Rattle.std.specs.Prelude.{◌≡◌, ◌≢◌, ◌∷◌, [], ℕ, List, Some, true};
 ghost use Rattle.faults.specs.Faults.{Rose, WhereTold};
 ghost use Rattle.ctss_io.specs.Outside.{after};
 ghost use Rattle.ctss_io.specs.Whole.{GrewByProperPrefix};
+ghost use Rattle.text_model.specs.Report.{report_of};
 ghost use Rattle.text_model.specs.Words.{mode_of};
 ghost use Rattle.text_model.specs.Made.{made_script};
 ghost use Rattle.text_model.specs.Reading.{script_of};
 ghost use Rattle.text_model.specs.Lawful.{IsLawful};
+ghost use Rattle.text_writer.specs.Writing.{Adds};
 ghost use Rattle.drum_slots.specs.Kept.{Serves};
 ghost use Rattle.track_store.specs.Tracks.{Serves as Holds};
 ghost use Rattle.live_run.specs.Media.{media_seen};
@@ -19,32 +21,65 @@ ghost use Rattle.ctss_top.specs.Top.{IsRun, RunIsStopped, RunLosesFiles, ScriptI
 ghost use Rattle.ctss_top.specs.Top.{IsSilent, IsAllowed, NothingFailed, IsComplete, statuses_for};
 
 use crate::asm::asm;
-use crate::live::{live_text, serve_consoles};
+use crate::live::serve_consoles;
 use crate::outcome::Outcome;
 use crate::record::{Played, record_script};
-use crate::write::{refuse_script, refuse_words, write_out};
+use crate::write::{refuse_script, refuse_words};
 use command_line::ArgList;
 use console_link::Link;
 use ctss_io::{ReadEnd, Sink, Source, read_bytes};
-use ctss_types::{Bytes, NoMemory, Record, Script};
+use ctss_types::{Record, Script};
 use made_script::make_script;
 use medium::Medium;
-use report_text::{report, summary};
-use script_read::{ScriptFault, read_script};
+use report_text::{Report, Summary};
+use script_read::{ScriptFault, ScriptText, read_script};
 use std::alloc::Global;
 use text_model::Mode;
+use text_writer::{Text, TextFault, TextWriter, write_text};
 
-/// The text of a script's run, in a mode that runs one.
-fn text_for(alloc: Global, mode: Mode, script: &Script, run: &Record) -> Result<Bytes, NoMemory>
-    requires { runs_script mode ≡ true }
-    ensures { IfOk result (λ text. text ≡ text_for mode script.now run.now) }
+/// The text of a script's run, in a mode that runs one: that of live consoles begins with the script.
+#[derive(Clone, Copy)]
+struct RunText<'a> {
+    mode: Mode,
+    script: &'a Script,
+    run: &'a Record,
+}
+
+impl Text for RunText<'_> {
+    ghost use Rattle.ctss_top.specs.Modes.{text_for};
+
+    ghost bytes = { λ t. text_for t.mode t.script.now t.run.now };
+
+    fn add_to<K: Sink>(&self, out: &mut TextWriter<'_, K>) {
+        add_run(out, self.mode, self.script, self.run);
+    }
+}
+
+/// Adds a report.
+fn add_report<K: Sink>(out: &mut TextWriter<'_, K>, script: &Script, run: &Record, dump: bool)
+    ensures { Adds K.Sink (report_of script.now run.now dump) out.old out.new }
+{
+    let report = Report { script, run, dump };
+    report.add_to(out);
+}
+
+/// Adds the text of a run.
+fn add_run<K: Sink>(out: &mut TextWriter<'_, K>, mode: Mode, script: &Script, run: &Record)
+    ensures { Adds K.Sink (text_for mode script.now run.now) out.old out.new }
 {
     match mode {
-        Mode::Replay => report(alloc, script, run, false),
-        Mode::Dump => report(alloc, script, run, true),
-        Mode::Load(n) => summary(alloc, n, script, run),
-        Mode::Serve { .. } => live_text(alloc, script, run),
-        Mode::Asm => unreachable!(),
+        Mode::Replay => add_report(out, script, run, false),
+        Mode::Dump => add_report(out, script, run, true),
+        Mode::Load(n) => {
+            let summary = Summary { n, script, run };
+            summary.add_to(out);
+        }
+        Mode::Serve { .. } => {
+            let text = ScriptText { script };
+            text.add_to(out);
+            add_report(out, script, run, false);
+        }
+        Mode::Asm => {}
     }
 }
 
@@ -67,18 +102,25 @@ pub(crate) fn write_run<K: Sink>(
     ensures memory { result.status ≡ 8 → result ≡ bare 8 0 0 }
     ensures silent { result.status ≡ 8 → K.held sink.new ≡ K.held sink.old }
 {
-    match text_for(alloc, mode, script, &run) {
-        Ok(text) => write_out(
-            sink,
-            text.as_slice(),
-            Outcome {
-                status: 0,
-                card: 0,
-                cause: 0,
-                run,
-            },
-        ),
-        Err(_) => Outcome::bare(alloc, 8, 0, 0),
+    let text = RunText {
+        mode,
+        script,
+        run: &run,
+    };
+    match write_text(alloc, sink, &text) {
+        Ok(()) => Outcome {
+            status: 0,
+            card: 0,
+            cause: 0,
+            run,
+        },
+        Err(TextFault::Write) => Outcome {
+            status: 4,
+            card: 0,
+            cause: 0,
+            run,
+        },
+        Err(TextFault::NoMemory) => Outcome::bare(alloc, 8, 0, 0),
     }
 }
 

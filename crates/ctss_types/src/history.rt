@@ -1,4 +1,7 @@
 //! What a run leaves: transcripts, entries, files.
+ghost use Rattle.std.specs.Prelude.{◌≡◌};
+ghost use Rattle.ctss_types.specs.Entries.{cause_text, kind_text};
+
 use crate::{CommonOp, FileList, FileLists, LineText, Reply, Sequence};
 use std::fmt;
 
@@ -35,14 +38,23 @@ impl fmt::Display for Cause {
     ghost output = { λ c. Some (cause_text c) };
 
     fn fmt<W: fmt::Write>(&self, f: &mut fmt::Formatter<W>) -> fmt::Result {
-        f.write_str(match self {
+        f.write_str(self.word())
+    }
+}
+
+impl Cause {
+    /// The word that stands for it.
+    pub fn word(self) -> &'static str
+        ensures { result.now ≡ cause_text self }
+    {
+        match self {
             Cause::Time => "TIME",
             Cause::Wait => "WAIT",
             Cause::Stop => "STOP",
             Cause::Size => "SIZE",
             Cause::Preempt => "PREEMPT",
             Cause::End => "END",
-        })
+        }
     }
 }
 
@@ -63,13 +75,22 @@ impl fmt::Display for EventKind {
     ghost output = { λ k. Some (kind_text k) };
 
     fn fmt<W: fmt::Write>(&self, f: &mut fmt::Formatter<W>) -> fmt::Result {
-        f.write_str(match self {
+        f.write_str(self.word())
+    }
+}
+
+impl EventKind {
+    /// The word that stands for it.
+    pub fn word(self) -> &'static str
+        ensures { result.now ≡ kind_text self }
+    {
+        match self {
             EventKind::Dial => "DIAL",
             EventKind::Line => "LINE",
             EventKind::Quit => "QUIT",
             EventKind::Hang => "HANG",
             EventKind::Spent => "SPENT",
-        })
+        }
     }
 }
 

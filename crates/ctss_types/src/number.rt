@@ -1,4 +1,4 @@
-ghost use Rattle.std.specs.Prelude.{◌≡◌, ◌≤◌, ◌↔◌, ℕ, IsSome, IfSome, Some};
+ghost use Rattle.std.specs.Prelude.{◌≡◌, ◌≤◌, ◌-◌, ◌↔◌, ℕ, IsSome, IfSome, Some};
 ghost use Rattle.std.specs.Fmt.{decimal};
 
 use std::fmt;
@@ -49,6 +49,14 @@ impl UserNo {
     {
         self.number
     }
+
+    /// The user's place in a list of all users, the first of which is user 1.
+    pub fn index(self) -> usize
+        ensures value { result ≡ self - 1 }
+        ensures range { (1 ≤ self) × (self ≤ 30) }
+    {
+        self.number as usize - 1
+    }
 }
 
 impl fmt::Display for UserNo {
@@ -95,6 +103,14 @@ impl ConsoleNo {
         ensures range { (1 ≤ result) × (result ≤ 32) }
     {
         self.number
+    }
+
+    /// The console's place in a list of all consoles, the first of which is console 1.
+    pub fn index(self) -> usize
+        ensures value { result ≡ self - 1 }
+        ensures range { (1 ≤ self) × (self ≤ 32) }
+    {
+        self.number as usize - 1
     }
 }
 

@@ -1,4 +1,5 @@
 //! Consoles, sessions and services.
+use crate::UserNo;
 use word36::Word;
 
 /// What ends a session's run of steps from outside. End is the end of the record.
@@ -26,14 +27,14 @@ pub enum Console {
     Off,
     On,
     Password(Word),
-    Session(u8),
+    Session(UserNo),
 }
 
 /// An open service: the tick and the level at which it began, and its ticks so far.
 #[derive(Clone, Copy, Debug, PartialEq, Eq)]
 pub struct Service {
     pub tick: u64,
-    pub user: u8,
+    pub user: UserNo,
     pub level: u8,
     pub ran: u64,
 }

@@ -1,5 +1,5 @@
 ghost use Rattle.std.specs.Prelude.{◌≡◌, ◌≤◌, ◌↔◌, Some, None, false, IfSome, IfNone};
-ghost use Rattle.plan_model.specs.Levels.{empty_levels, chosen, waits, entered, dropped, charged, sunk, ticked, enter_at, has_time, level_in, left_in};
+ghost use Rattle.plan_model.specs.Levels.{empty_levels, chosen, waits, entered, dropped, charged, sunk, ticked, enter_at, has_time, level_in, left_in, user_of};
 ghost use Rattle.plan_model.specs.Spent.{spent};
 
 use crate::row::{
@@ -182,6 +182,7 @@ impl Queues {
     /// of which 8 is the last, with that row's full time.
     #[tactic(auto, unfolding(plan_model::specs::Levels::charged))]
     pub fn charge(&mut self, user: UserNo) -> Charge
+        requires chosen { user_of (chosen self.old) ≡ Some user }
         ensures value { self.new ≡ charged user self.old }
         ensures spent { (result ≡ Charge.Spent) ↔ (has_time self.old ≡ false) }
     {

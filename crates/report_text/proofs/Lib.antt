@@ -1,3 +1,4 @@
+pub mod Lines
 pub mod Right
-pub mod Lists
+pub mod Accounts
 pub mod Entries

@@ -1,32 +1,37 @@
--- What a hole `{:>7}` writes, and the line of a file.
-use Rattle.std.proofs.Common.{◌≡◌, ℕ, zero, suc, ◌-◌, ◌^◌, false, List, [], ◌∷◌, ◌++◌, length, replicate, refl, ap, append_assoc, arith}
-use Rattle.std.proofs.lemmas.List.{append-nil}
-use Rattle.std.specs.Char.{encode_utf8}
-use Rattle.std.specs.List.{repeat}
-use Rattle.std.specs.Fmt.{padded_integral, format_spec, char_count, decimal}
+-- A number right in 7 places, and the line of a file.
+use Rattle.std.proofs.Common.{◌≡◌, ℕ, zero, suc, ◌-◌, min, Bool, true, false, List, [], ◌∷◌, ◌++◌, length, drop, replicate, refl, sym, ap, ◌∙◌, arith, append-nil}
+use Rattle.std.specs.Fmt.{decimal}
 use Rattle.bcd48.specs.Words.{characters_of}
 use Rattle.ctss_types.specs.declared.file.FileBody.{FileBody}
 use Rattle.file_model.specs.Texts.{right, file_line}
+use Rattle.text_model.specs.Canonical.{word_cards}
+use Rattle.text_model.specs.Report.{file_text}
 use Rattle.text_model.specs.Parts.{line, blank, number}
 
-blanks : (n : ℕ) → repeat n (encode_utf8 32) ≡ replicate n 32
-unfolding encode_utf8
-blanks zero = refl
-blanks (suc n) = ap (λ l. 32 ∷ l) (blanks n)
+abbrev pub blanks_of : ℕ → List ℕ
+blanks_of n = replicate n 32
 
-pub padded_right : (ds : List ℕ) → padded_integral (format_spec 32 3 0 7 (2 ^ 64 - 1)) false [] ds ≡ right ds
-unfolding padded_integral char_count
-padded_right ds =
-    let width : 7 - length ds - 0 - 0 ≡ 7 - length ds = omega arith in
-    let none : 7 - length ds - (7 - length ds) ≡ 0 = omega arith in
-    rw (width, none, blanks (7 - length ds)) (simp append-nil)
+dropped : (k n : ℕ) → drop k (blanks_of n) ≡ blanks_of (n - k)
+dropped zero n = let all : n ≡ n - 0 = omega arith in ap blanks_of all
+dropped (suc k) zero = let none : 0 ≡ 0 - suc k = omega arith in ap blanks_of none
+dropped (suc k) (suc n) = let less : suc n - suc k ≡ n - k = omega arith in dropped k n ∙ ap blanks_of (sym less)
 
-pub columns : (old one two new a b m r : List ℕ)
-    → one ≡ old ++ (a ++ (32 ∷ (b ++ (32 ∷ (m ++ 32 ∷ []))))) → two ≡ one ++ r
-    → new ≡ two ++ 10 ∷ [] → new ≡ old ++ line (a ++ (blank b ++ (blank m ++ blank r)))
-columns old one two new a b m r p q s = rw (s, q, p) (simp append_assoc)
+-- behind a blank
+pub right_is : (ds blanks digits : List ℕ) (n : ℕ) → n ≡ min (length digits) 7 → blanks ≡ drop n (blanks_of 7) → digits ≡ ds
+    → blank blanks ++ digits ≡ blank (right ds)
+right_is ds blanks digits n least front is =
+    let left : 7 - min (length ds) 7 ≡ 7 - length ds = omega arith in
+    let these : blanks ≡ blanks_of (7 - length ds) =
+    front ∙ dropped n 7 ∙ ap (λ (m : ℕ). blanks_of (7 - m)) (least ∙ ap (λ (l : List ℕ). min (length l) 7) is) ∙ ap blanks_of left in
+    ap (λ (l : List ℕ). blank l ++ digits) these ∙ ap (λ (l : List ℕ). blank (blanks_of (7 - length ds)) ++ l) is
 
 pub file_line_is : (f : FileBody) (first second : List ℕ) (count : ℕ) → first ≡ characters_of f.name.first → second ≡ characters_of f.name.second
     → count ≡ length f.words
     → line (first ++ (blank second ++ (number f.mode ++ blank (right (decimal count))))) ≡ line (file_line f)
 file_line_is f first second count p q r = rw (p, q, r) refl
+
+pub file_dumped : (dump : Bool) (f : FileBody) (words : List ℕ) → dump ≡ true → words ≡ f.words → line (file_line f) ++ word_cards words ≡ file_text dump f
+file_dumped dump f words is these = rw (is, these) refl
+
+pub file_listed : (dump : Bool) (f : FileBody) → dump ≡ false → line (file_line f) ≡ file_text dump f
+file_listed dump f is = rw is (sym (append-nil (line (file_line f))))

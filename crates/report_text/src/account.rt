@@ -1,45 +1,42 @@
-ghost use Rattle.std.specs.Prelude.{◌≡◌, ◌++◌, ◌-◌, ◌≤◌, ◌<◌, [], get_or, OnOk, string_bytes};
+ghost use Rattle.std.specs.Prelude.{◌≡◌, ◌++◌, ◌-◌, ◌≤◌, [], get_or};
 ghost use Rattle.std.specs.List.{flat_map};
-ghost use Rattle.text_model.specs.Parts.{line};
+ghost use Rattle.text_model.specs.Parts.{line, name, number as number_text};
 ghost use Rattle.text_model.specs.Report.{labelled, item_text, account_text, accounts_text};
+ghost use Rattle.text_writer.specs.Writing.{Adds};
 
 use crate::file::add_files;
-use ctss_types::{Account, FileBody, Item, LineText, Record, name_text};
-use std::alloc::AllocError;
-use std::fmt::Write;
+use ctss_io::Sink;
+use ctss_types::{Account, FileBody, Item, LineText, Record};
+use text_writer::TextWriter;
 
 /// Adds a letter and a text.
-fn add_labelled(out: &mut String, letter: char, text: &LineText) -> Result<(), AllocError>
-    requires { letter < 128 }
-    ensures { OnOk result (string_bytes out.new ≡ string_bytes out.old ++ line (labelled letter text.now)) }
+fn add_labelled<K: Sink>(out: &mut TextWriter<'_, K>, letter: u8, text: &LineText)
+    ensures { Adds K.Sink (line (labelled letter text.now)) out.old out.new }
 {
-    if text.is_empty() {
-        writeln!(out, "{letter}")
-    } else {
-        writeln!(out, "{letter} {text}")
-    }
+    out.add(&[letter]);
+    out.typed(text);
+    out.end_line();
 }
 
 /// Adds what stands on a transcript.
-fn add_item(out: &mut String, item: &Item) -> Result<(), AllocError>
-    ensures { OnOk result (string_bytes out.new ≡ string_bytes out.old ++ item_text item.now) }
+fn add_item<K: Sink>(out: &mut TextWriter<'_, K>, item: &Item)
+    ensures { Adds K.Sink (item_text item.now) out.old out.new }
 {
     match item {
-        Item::In(text) => add_labelled(out, 'I', text),
-        Item::Out(text) => add_labelled(out, 'O', text),
-        Item::Quit => out.push_str("Q\n"),
-        Item::Hang => out.push_str("H\n"),
+        Item::In(text) => add_labelled(out, b'I', text),
+        Item::Out(text) => add_labelled(out, b'O', text),
+        Item::Quit => out.line(b"Q"),
+        Item::Hang => out.line(b"H"),
     }
 }
 
 /// Adds a transcript.
-fn add_items(out: &mut String, items: &[Item]) -> Result<(), AllocError>
-    ensures { OnOk result (string_bytes out.new ≡ string_bytes out.old ++ flat_map item_text items.now) }
+fn add_items<K: Sink>(out: &mut TextWriter<'_, K>, items: &[Item])
+    ensures { Adds K.Sink (flat_map item_text items.now) out.old out.new }
 {
     for item in items {
-        add_item(out, item)?;
+        add_item(out, item);
     }
-    Ok(())
 }
 
 /// The transcript at an index, empty where there is none.
@@ -62,36 +59,44 @@ fn files(run: &Record, index: usize) -> &[FileBody]
     }
 }
 
+/// Adds a line of a word, and the number and name of an account.
+fn add_title<K: Sink>(out: &mut TextWriter<'_, K>, word: &[u8], number: usize, account: &Account)
+    ensures { Adds K.Sink (line (word.now ++ (number_text number ++ name account.now.name))) out.old out.new }
+{
+    out.add(word);
+    out.number(number);
+    out.name(account.name);
+    out.end_line();
+}
+
 /// Adds an account with what it saw and its files.
-fn add_account(
-    out: &mut String,
+fn add_account<K: Sink>(
+    out: &mut TextWriter<'_, K>,
     number: usize,
     account: &Account,
     run: &Record,
     dump: bool,
-) -> Result<(), AllocError>
+)
     requires { 1 ≤ number }
-    ensures { OnOk result (string_bytes out.new ≡ string_bytes out.old
-        ++ account_text dump number account.now (get_or run.now.transcripts (number - 1) []) (get_or run.now.files (number - 1) [])) }
+    ensures { Adds K.Sink (account_text dump number account.now (get_or run.now.transcripts (number - 1) [])
+        (get_or run.now.files (number - 1) [])) out.old out.new }
 {
-    let name = name_text(account.name);
-    writeln!(out, "USER {number} {name}")?;
-    add_items(out, transcript(run, number - 1))?;
-    writeln!(out, "FILES {number} {name}")?;
-    add_files(out, files(run, number - 1), dump)
+    add_title(out, b"USER", number, account);
+    add_items(out, transcript(run, number - 1));
+    add_title(out, b"FILES", number, account);
+    add_files(out, files(run, number - 1), dump);
 }
 
 /// Adds the accounts in order.
-pub fn add_accounts(
-    out: &mut String,
+pub fn add_accounts<K: Sink>(
+    out: &mut TextWriter<'_, K>,
     accounts: &[Account],
     run: &Record,
     dump: bool,
-) -> Result<(), AllocError>
-    ensures { OnOk result (string_bytes out.new ≡ string_bytes out.old ++ accounts_text dump 1 accounts.now run.now) }
+)
+    ensures { Adds K.Sink (accounts_text dump 1 accounts.now run.now) out.old out.new }
 {
     for (index, account) in accounts.iter().enumerate() {
-        add_account(out, index + 1, account, run, dump)?;
+        add_account(out, index + 1, account, run, dump);
     }
-    Ok(())
 }

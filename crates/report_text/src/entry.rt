@@ -1,11 +1,15 @@
-ghost use Rattle.std.specs.Prelude.{◌≡◌, ◌++◌, OnOk, string_bytes};
+ghost use Rattle.std.specs.Prelude.{◌≡◌, ◌++◌};
 ghost use Rattle.std.specs.List.{flat_map};
+ghost use Rattle.text_model.specs.Parts.{line};
 ghost use Rattle.text_model.specs.Report.{op_text, reply_number, entry_text};
+ghost use Rattle.text_writer.specs.Lines.{spaced};
+ghost use Rattle.text_writer.specs.Writing.{Adds};
+ghost use Rattle.report_text.specs.Lines.{spaced_then, worded};
 
+use ctss_io::Sink;
 use ctss_types::{CommonOp, Entry, Reply};
 use file_model::refusal_number;
-use std::alloc::AllocError;
-use std::fmt::Write;
+use text_writer::TextWriter;
 
 /// What a reply says in one number.
 fn reply_number(reply: &Reply) -> u8
@@ -31,9 +35,35 @@ fn op_word(op: &CommonOp) -> &'static str
     }
 }
 
+/// Adds a line of a word and numbers.
+fn add_line<K: Sink>(out: &mut TextWriter<'_, K>, word: &[u8], numbers: &[u64])
+    ensures { Adds K.Sink (line (word.now ++ spaced numbers.now)) out.old out.new }
+{
+    out.add(word);
+    out.numbers(numbers);
+    out.end_line();
+}
+
+/// Adds a line of a word, numbers, another word, and numbers again.
+fn add_parted<K: Sink>(
+    out: &mut TextWriter<'_, K>,
+    word: &[u8],
+    before: &[u64],
+    second: &str,
+    behind: &[u64],
+)
+    ensures { Adds K.Sink (line (word.now ++ spaced_then before.now (worded second.now behind.now))) out.old out.new }
+{
+    out.add(word);
+    out.numbers(before);
+    out.blank(second.as_bytes());
+    out.numbers(behind);
+    out.end_line();
+}
+
 /// Adds the line of an entry.
-fn add_entry(out: &mut String, entry: &Entry) -> Result<(), AllocError>
-    ensures { OnOk result (string_bytes out.new ≡ string_bytes out.old ++ entry_text entry.now) }
+fn add_entry<K: Sink>(out: &mut TextWriter<'_, K>, entry: &Entry)
+    ensures { Adds K.Sink (entry_text entry.now) out.old out.new }
 {
     match entry {
         Entry::Taken {
@@ -42,47 +72,78 @@ fn add_entry(out: &mut String, entry: &Entry) -> Result<(), AllocError>
             kind,
             user,
             own,
-        } => writeln!(out, "TAKEN {tick} {console} {kind} {user} {own}"),
+        } => add_parted(
+            out,
+            b"TAKEN",
+            &[*tick, u64::from(*console)],
+            kind.word(),
+            &[u64::from(*user), *own],
+        ),
         Entry::Login {
             tick,
             console,
             user,
-        } => writeln!(out, "LOGIN {tick} {console} {user}"),
+        } => add_line(
+            out,
+            b"LOGIN",
+            &[*tick, u64::from(*console), u64::from(*user)],
+        ),
         Entry::Refused {
             tick,
             console,
             cause,
-        } => writeln!(out, "REFUSED {tick} {console} {cause}"),
-        Entry::Idle { from, until } => writeln!(out, "IDLE {from} {until}"),
+        } => add_line(
+            out,
+            b"REFUSED",
+            &[*tick, u64::from(*console), u64::from(*cause)],
+        ),
+        Entry::Idle { from, until } => add_line(out, b"IDLE", &[*from, *until]),
         Entry::Swap {
             tick,
             user,
             dumped,
             read,
             fresh,
-        } => writeln!(out, "SWAP {tick} {user} {dumped} {read} {fresh}"),
+        } => add_line(
+            out,
+            b"SWAP",
+            &[
+                *tick,
+                u64::from(*user),
+                u64::from(*dumped),
+                u64::from(*read),
+                u64::from(*fresh),
+            ],
+        ),
         Entry::Serve {
             tick,
             user,
             level,
             ran,
             cause,
-        } => writeln!(out, "SERVE {tick} {user} {level} {ran} {cause}"),
-        Entry::Clock { answer, user } => writeln!(out, "CLOCK {answer} {user}"),
-        Entry::Common { user, op, reply } => {
-            let word = op_word(op);
-            let number = reply_number(reply);
-            writeln!(out, "SHARED {user} {word} {number}")
-        }
+        } => add_parted(
+            out,
+            b"SERVE",
+            &[*tick, u64::from(*user), u64::from(*level), *ran],
+            cause.word(),
+            &[],
+        ),
+        Entry::Clock { answer, user } => add_line(out, b"CLOCK", &[*answer, u64::from(*user)]),
+        Entry::Common { user, op, reply } => add_parted(
+            out,
+            b"SHARED",
+            &[u64::from(*user)],
+            op_word(op),
+            &[u64::from(reply_number(reply))],
+        ),
     }
 }
 
 /// Adds the schedule.
-pub fn add_entries(out: &mut String, entries: &[Entry]) -> Result<(), AllocError>
-    ensures { OnOk result (string_bytes out.new ≡ string_bytes out.old ++ flat_map entry_text entries.now) }
+pub fn add_entries<K: Sink>(out: &mut TextWriter<'_, K>, entries: &[Entry])
+    ensures { Adds K.Sink (flat_map entry_text entries.now) out.old out.new }
 {
     for entry in entries {
-        add_entry(out, entry)?;
+        add_entry(out, entry);
     }
-    Ok(())
 }

@@ -6,7 +6,7 @@ ghost use Rattle.std.specs.Prelude.{◌≡◌, ◌<◌, ◌≤◌, ◌+◌, ◌-
 ghost use Rattle.time_sharing.specs.System.{without, out_of, cause_of as cause_from, clock_entry, service_entry, service_after as service_behind};
 ghost use Rattle.system_model.specs.Cases.{idle_notes, idle_start, stop_notes, not_served, end_notes};
 
-use ctss_types::{Cause, Console, Ending, Entry, Service};
+use ctss_types::{Cause, Console, Ending, Entry, Service, UserNo};
 
 /// An entry more, where there is room.
 pub fn note(entries: &mut Vec<Entry>, entry: Entry)
@@ -41,7 +41,7 @@ pub fn idle_note(idling: Option<u64>, now: u64) -> Option<Entry>
 }
 
 /// The entry for the open service, if it is the user's, which stops.
-pub fn stop_note(service: Option<Service>, user: u8) -> Option<Entry>
+pub fn stop_note(service: Option<Service>, user: UserNo) -> Option<Entry>
     ensures { option_to_list result ≡ stop_notes service user }
 {
     match service {
@@ -49,7 +49,7 @@ pub fn stop_note(service: Option<Service>, user: u8) -> Option<Entry>
             if v.user == user {
                 Some(Entry::Serve {
                     tick: v.tick,
-                    user: v.user,
+                    user: v.user.number(),
                     level: v.level,
                     ran: v.ran,
                     cause: Cause::Stop,
@@ -69,7 +69,7 @@ pub fn end_note(service: Option<Service>) -> Option<Entry>
     match service {
         Some(v) => Some(Entry::Serve {
             tick: v.tick,
-            user: v.user,
+            user: v.user.number(),
             level: v.level,
             ran: v.ran,
             cause: Cause::End,
@@ -79,39 +79,20 @@ pub fn end_note(service: Option<Service>) -> Option<Entry>
 }
 
 /// The entry for an answer of the clock, if it was asked.
-pub fn note_clock(entries: &mut Vec<Entry>, asked: bool, now: u64, user: u8)
+pub fn note_clock(entries: &mut Vec<Entry>, asked: bool, now: u64, user: UserNo)
     requires { vec_len entries.old < vec_capacity entries.old }
     ensures items { entries.new.items ≡ entries.old.items ++ clock_entry asked now user }
     ensures len { vec_len entries.new ≤ vec_len entries.old + 1 }
     ensures capacity { vec_capacity entries.old ≤ vec_capacity entries.new }
 {
     if asked {
+        let user = user.number();
         note(entries, Entry::Clock { answer: now, user });
     }
 }
 
-/// The entry for a service that ends with its step, if it does.
-pub fn note_service(entries: &mut Vec<Entry>, v: Service, cause: Option<Cause>)
-    requires room { vec_len entries.old < vec_capacity entries.old }
-    requires ran { v.ran < 2 ^ 64 - 1 }
-    ensures { entries.new.items ≡ entries.old.items ++ service_entry v cause }
-{
-    if let Some(cause) = cause {
-        note(
-            entries,
-            Entry::Serve {
-                tick: v.tick,
-                user: v.user,
-                level: v.level,
-                ran: v.ran + 1,
-                cause,
-            },
-        );
-    }
-}
-
 /// The open service, if it isn't the user's.
-pub fn service_left(service: Option<Service>, user: u8) -> Option<Service>
+pub fn service_left(service: Option<Service>, user: UserNo) -> Option<Service>
     ensures { result ≡ not_served service user }
 {
     match service {
@@ -120,13 +101,27 @@ pub fn service_left(service: Option<Service>, user: u8) -> Option<Service>
     }
 }
 
-/// The service after a step of it, if it goes on.
-pub fn service_after(v: Service, cause: Option<Cause>) -> Option<Service>
-    requires { v.ran < 2 ^ 64 - 1 }
-    ensures { result ≡ service_behind v cause }
+/// The service behind a step of it, if it goes on; where it ends, its entry is noted.
+pub fn note_step(entries: &mut Vec<Entry>, v: Service, cause: Option<Cause>) -> Option<Service>
+    requires room { vec_len entries.old < vec_capacity entries.old }
+    requires ran { v.ran < 2 ^ 64 - 1 }
+    ensures items { entries.new.items ≡ entries.old.items ++ service_entry v cause }
+    ensures service { result ≡ service_behind v cause }
 {
     match cause {
-        Some(_) => None,
+        Some(cause) => {
+            note(
+                entries,
+                Entry::Serve {
+                    tick: v.tick,
+                    user: v.user.number(),
+                    level: v.level,
+                    ran: v.ran + 1,
+                    cause,
+                },
+            );
+            None
+        }
         None => Some(Service {
             tick: v.tick,
             user: v.user,
@@ -136,7 +131,7 @@ pub fn service_after(v: Service, cause: Option<Cause>) -> Option<Service>
     }
 }
 
-fn left_console(console: Console, user: u8) -> Console
+fn left_console(console: Console, user: UserNo) -> Console
     ensures { result ≡ out_of user console }
 {
     match console {
@@ -152,7 +147,7 @@ fn left_console(console: Console, user: u8) -> Console
 }
 
 /// The user's session is over.
-pub fn leave_consoles(consoles: &mut Vec<Console>, user: u8)
+pub fn leave_consoles(consoles: &mut Vec<Console>, user: UserNo)
     ensures items { consoles.new.items ≡ without user consoles.old.items }
     ensures len { vec_len consoles.new ≡ vec_len consoles.old }
 {

@@ -4,3 +4,4 @@ pub mod Tracks
 pub mod Trimmed
 pub mod LineWords
 pub mod Bases
+pub mod Users

@@ -1,130 +1,155 @@
-ghost use Rattle.std.specs.Prelude.{◌≡◌, ◌++◌, IfOk, OnOk, string_bytes};
+//! The canonical text of a script.
+ghost use Rattle.std.specs.Prelude.{◌++◌, codes};
 ghost use Rattle.std.specs.List.{flat_map};
-ghost use Rattle.text_model.specs.Canonical.{param_card, user_card, user_cards, file_cards, typed_text, event_text, event_card, script_text_of};
+ghost use Rattle.text_model.specs.Canonical.{param_card, user_card, user_cards, file_cards, event_text, event_card, end_card, script_text_of};
+ghost use Rattle.text_model.specs.Parts.{line, number, name};
+ghost use Rattle.text_writer.specs.Writing.{Adds};
 
-use ctss_types::{
-    Account, Bytes, Event, LineText, NoMemory, OwnedFile, Params, Script, Sequence, Timed,
-    name_text,
-};
-use std::alloc::{AllocError, Global};
-use std::fmt::Write;
+use ctss_io::Sink;
+use ctss_types::{Account, Event, OwnedFile, Params, Script, Timed, UserNo};
+use text_writer::{Text, TextWriter};
 use word_cards::add_word_cards;
+use word36::Word;
 
 /// Adds the PARAM card.
-fn add_params(out: &mut String, params: Params) -> Result<(), AllocError>
-    ensures { OnOk result (string_bytes out.new ≡ string_bytes out.old ++ param_card params) }
+fn add_params<K: Sink>(out: &mut TextWriter<'_, K>, params: Params)
+    ensures { Adds K.Sink (param_card params) out.old out.new }
 {
-    let Params {
-        wq,
-        quantum,
-        swap,
-        drum,
-        disk,
-        common,
-    } = params;
-    writeln!(out, "PARAM {wq} {quantum} {swap} {drum} {disk} {common}")
+    out.add(b"PARAM");
+    out.number(params.wq);
+    out.number(params.quantum);
+    out.number(params.swap);
+    out.number(params.drum);
+    out.number(params.disk);
+    out.number(params.common);
+    out.end_line();
 }
 
 /// Adds the USER card of an account of this number.
-fn add_user(out: &mut String, number: usize, account: &Account) -> Result<(), AllocError>
-    ensures { OnOk result (string_bytes out.new ≡ string_bytes out.old ++ user_card number account.now) }
+fn add_user<K: Sink>(out: &mut TextWriter<'_, K>, number: usize, account: &Account)
+    ensures { Adds K.Sink (user_card number account.now) out.old out.new }
 {
-    let name = name_text(account.name);
-    let password = name_text(account.password);
-    let blocks = account.blocks;
-    let tracks = account.tracks;
-    writeln!(out, "USER {number} {name} {password} {blocks} {tracks}")
+    out.add(b"USER");
+    out.number(number);
+    out.name(account.name);
+    out.name(account.password);
+    out.number(account.blocks);
+    out.number(account.tracks);
+    out.end_line();
 }
 
 /// Adds the USER cards.
-fn add_users(out: &mut String, accounts: &[Account]) -> Result<(), AllocError>
-    ensures { OnOk result (string_bytes out.new ≡ string_bytes out.old ++ user_cards 1 accounts.now) }
+fn add_users<K: Sink>(out: &mut TextWriter<'_, K>, accounts: &[Account])
+    ensures { Adds K.Sink (user_cards 1 accounts.now) out.old out.new }
 {
     for (index, account) in accounts.iter().enumerate() {
-        add_user(out, index + 1, account)?;
+        add_user(out, index + 1, account);
     }
-    Ok(())
+}
+
+/// Adds a FILE card.
+fn add_file_card<K: Sink>(
+    out: &mut TextWriter<'_, K>,
+    owner: UserNo,
+    first: Word,
+    second: Word,
+    mode: u8,
+)
+    ensures { Adds K.Sink (line (codes "FILE" ++ (number owner ++ (name first ++ (name second ++ number mode))))) out.old out.new }
+{
+    out.add(b"FILE");
+    out.number(owner.number());
+    out.name(first);
+    out.name(second);
+    out.number(mode);
+    out.end_line();
 }
 
 /// Adds a FILE card and its words.
-fn add_file(out: &mut String, file: &OwnedFile) -> Result<(), AllocError>
-    ensures { OnOk result (string_bytes out.new ≡ string_bytes out.old ++ file_cards file.now) }
+fn add_file<K: Sink>(out: &mut TextWriter<'_, K>, file: &OwnedFile)
+    ensures { Adds K.Sink (file_cards file.now) out.old out.new }
 {
-    let owner = file.owner;
-    let first = name_text(file.body.name.first);
-    let second = name_text(file.body.name.second);
-    let mode = file.body.mode;
-    writeln!(out, "FILE {owner} {first} {second} {mode}")?;
-    add_word_cards(out, file.body.words.as_slice())
+    let name = file.body.name;
+    add_file_card(out, file.owner, name.first, name.second, file.body.mode);
+    add_word_cards(out, file.body.words.as_slice());
 }
 
 /// Adds the files.
-fn add_files(out: &mut String, files: &[OwnedFile]) -> Result<(), AllocError>
-    ensures { OnOk result (string_bytes out.new ≡ string_bytes out.old ++ flat_map file_cards files.now) }
+fn add_files<K: Sink>(out: &mut TextWriter<'_, K>, files: &[OwnedFile])
+    ensures { Adds K.Sink (flat_map file_cards files.now) out.old out.new }
 {
     for file in files {
-        add_file(out, file)?;
+        add_file(out, file);
     }
-    Ok(())
-}
-
-/// Adds what is typed, behind a blank, and nothing where it is empty.
-fn add_typed(out: &mut String, text: &LineText) -> Result<(), AllocError>
-    ensures { OnOk result (string_bytes out.new ≡ string_bytes out.old ++ typed_text text.now) }
-{
-    if text.is_empty() {
-        return Ok(());
-    }
-    write!(out, " {text}")
 }
 
 /// Adds an event behind its tick and console.
-fn add_what(out: &mut String, event: &Event) -> Result<(), AllocError>
-    ensures { OnOk result (string_bytes out.new ≡ string_bytes out.old ++ event_text event.now) }
+fn add_what<K: Sink>(out: &mut TextWriter<'_, K>, event: &Event)
+    ensures { Adds K.Sink (event_text event.now) out.old out.new }
 {
     match event {
-        Event::Dial => out.push_str(" DIAL"),
+        Event::Dial => out.blank(b"DIAL"),
         Event::Line(text) => {
-            out.push_str(" LINE")?;
-            add_typed(out, text)
+            out.blank(b"LINE");
+            out.typed(text);
         }
-        Event::Quit => out.push_str(" QUIT"),
-        Event::Hang => out.push_str(" HANG"),
+        Event::Quit => out.blank(b"QUIT"),
+        Event::Hang => out.blank(b"HANG"),
     }
 }
 
 /// Adds an AT card.
-fn add_event(out: &mut String, timed: &Timed) -> Result<(), AllocError>
-    ensures { OnOk result (string_bytes out.new ≡ string_bytes out.old ++ event_card timed.now) }
+fn add_event<K: Sink>(out: &mut TextWriter<'_, K>, timed: &Timed)
+    ensures { Adds K.Sink (event_card timed.now) out.old out.new }
 {
-    let tick = timed.tick;
-    let console = timed.console;
-    write!(out, "AT {tick} {console}")?;
-    add_what(out, &timed.event)?;
-    out.push_str("\n")
+    out.add(b"AT");
+    out.number(timed.tick);
+    out.number(timed.console.number());
+    add_what(out, &timed.event);
+    out.end_line();
 }
 
 /// Adds the AT cards.
-fn add_events(out: &mut String, events: &[Timed]) -> Result<(), AllocError>
-    ensures { OnOk result (string_bytes out.new ≡ string_bytes out.old ++ flat_map event_card events.now) }
+fn add_events<K: Sink>(out: &mut TextWriter<'_, K>, events: &[Timed])
+    ensures { Adds K.Sink (flat_map event_card events.now) out.old out.new }
 {
     for timed in events {
-        add_event(out, timed)?;
+        add_event(out, timed);
     }
-    Ok(())
+}
+
+/// Adds the END card.
+fn add_end<K: Sink>(out: &mut TextWriter<'_, K>, end: u64)
+    ensures { Adds K.Sink (end_card end) out.old out.new }
+{
+    out.add(b"END");
+    out.number(end);
+    out.end_line();
+}
+
+/// Adds a script's text.
+fn add_script<K: Sink>(out: &mut TextWriter<'_, K>, script: &Script)
+    ensures { Adds K.Sink (script_text_of script.now) out.old out.new }
+{
+    add_params(out, script.params);
+    add_users(out, script.accounts.as_slice());
+    add_files(out, script.files.as_slice());
+    add_events(out, script.events.as_slice());
+    add_end(out, script.end);
 }
 
 /// The one canonical text of a script.
-#[tactic(auto, unfolding(text_model::specs::Canonical::script_text_of))]
-pub fn script_text(alloc: Global, script: &Script) -> Result<Bytes, NoMemory>
-    ensures { IfOk result (λ text. text ≡ script_text_of script.now) }
-{
-    let mut out = String::new(alloc);
-    add_params(&mut out, script.params)?;
-    add_users(&mut out, script.accounts.as_slice())?;
-    add_files(&mut out, script.files.as_slice())?;
-    add_events(&mut out, script.events.as_slice())?;
-    let end = script.end;
-    writeln!(out, "END {end}")?;
-    Ok(Sequence::from_vec(out.into_bytes()))
+#[derive(Clone, Copy)]
+pub struct ScriptText<'a> {
+    pub script: &'a Script,
+}
+
+impl Text for ScriptText<'_> {
+    ghost use Rattle.text_model.specs.Canonical.{script_text_of};
+
+    ghost bytes = { λ t. script_text_of t.script.now };
+
+    fn add_to<K: Sink>(&self, out: &mut TextWriter<'_, K>) {
+        add_script(out, self.script);
+    }
 }

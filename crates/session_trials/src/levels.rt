@@ -65,7 +65,10 @@ fn goes(queues: &mut Queues, n: u8, act: Act) -> bool {
         }
         Act::IsHeld => queues.holds(user),
         Act::IsOut => !queues.holds(user),
-        Act::Charge(want) => queues.charge(user) == want,
+        Act::Charge(want) => {
+            let is_chosen = queues.choose().is_some_and(|next| next.user == user);
+            is_chosen && queues.charge(user) == want
+        }
         Act::DropOut => {
             queues.drop_user(user);
             true

@@ -129,7 +129,3 @@ fails_both Disk B C D B' C' D' P Q R unchanged drum disk h k = disk h k
 pub told_store : (tells : Bool) (fs : List FileBody) (s : Stored) → tells ≡ true → known tells fs ≡ s.files → stored s.core fs ≡ s
 unfolding known
 told_store tells fs s told h = let is : fs ≡ s.files = subst (λ (b : Bool). known b fs ≡ s.files) told h in λ j. record { core = s.core; files = is j }
-
--- a count that rose later
-pub rose_on : (a b c : ℕ) → a ≤ b → Rose b c → Rose a c
-rose_on a b c up rose = omega (arith, up, rose)

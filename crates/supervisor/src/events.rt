@@ -13,7 +13,7 @@ ghost use Rattle.supervisor.specs.Seen.{seen, number_of, BecomesIf, StaysIf, Lea
 use crate::login::{asked, mark_on, password_in};
 use crate::state::State;
 use accounts::Login;
-use ctss_types::{Console, Entry, Event, EventKind, LineText, NoMemory, Timed, UserNo};
+use ctss_types::{Console, ConsoleNo, Entry, Event, EventKind, LineText, NoMemory, Timed, UserNo};
 use level_queues::Queues;
 use run_notes::{idle_note, leave_consoles, note, note_some, service_left, stop_note};
 use user_session::{Put, Session};
@@ -43,25 +43,26 @@ impl State {
     #[tactic(auto, unfolding(system_model::specs::Cases::heard))]
     fn take_heard(
         &mut self,
-        console: u8,
+        console: ConsoleNo,
         kind: EventKind,
         now: Console,
         more: Option<Entry>,
     ) -> Result<(), NoMemory>
-        requires seat { 0 < console }
         requires here { console ≤ length self.old.consoles.items }
         ensures ok { BecomesIf result (heard console kind now (option_to_list more)) self.old self.new }
         ensures err { StaysIf result self.old self.new }
+        ensures seat { 0 < console }
     {
+        let seat = console.index();
         self.entries.reserve(3)?;
         let _ = self.events.pop_front();
-        self.consoles[console as usize - 1] = now;
+        self.consoles[seat] = now;
         note_some(&mut self.entries, idle_note(self.idling, self.clock));
         note(
             &mut self.entries,
             Entry::Taken {
                 tick: self.clock,
-                console,
+                console: console.number(),
                 kind,
                 user: 0,
                 own: 0,
@@ -73,16 +74,16 @@ impl State {
     }
 
     /// A login is refused.
-    fn take_refusal(&mut self, console: u8, cause: u8) -> Result<(), NoMemory>
-        requires seat { 0 < console }
+    fn take_refusal(&mut self, console: ConsoleNo, cause: u8) -> Result<(), NoMemory>
         requires here { console ≤ length self.old.consoles.items }
         ensures ok { BecomesIf result (heard console LineTaken On (Refused self.old.clock console cause ∷ []))
             self.old self.new }
         ensures err { StaysIf result self.old self.new }
+        ensures seat { 0 < console }
     {
         let entry = Entry::Refused {
             tick: self.clock,
-            console,
+            console: console.number(),
             cause,
         };
         self.take_heard(console, EventKind::Line, Console::On, Some(entry))
@@ -90,25 +91,25 @@ impl State {
 
     /// A session begins.
     #[tactic(auto, unfolding(system_model::specs::Cases::login_taken))]
-    fn take_login(&mut self, console: u8, user: u8) -> Result<(), NoMemory>
-        requires some { 0 < user }
+    fn take_login(&mut self, console: ConsoleNo, user: UserNo) -> Result<(), NoMemory>
         requires within { user ≤ length self.old.sessions.items }
-        requires seat { 0 < console }
         requires here { console ≤ length self.old.consoles.items }
         ensures ok { BecomesIf result (login_taken console user) self.old self.new }
         ensures err { StaysIf result self.old self.new }
+        ensures seat { 0 < console }
     {
+        let seat = console.index();
         self.entries.reserve(3)?;
-        let session = &mut self.sessions[user as usize - 1];
+        let session = &mut self.sessions[user.index()];
         session.login()?;
         let _ = self.events.pop_front();
-        self.consoles[console as usize - 1] = Console::Session(user);
+        self.consoles[seat] = Console::Session(user);
         note_some(&mut self.entries, idle_note(self.idling, self.clock));
         note(
             &mut self.entries,
             Entry::Taken {
                 tick: self.clock,
-                console,
+                console: console.number(),
                 kind: EventKind::Line,
                 user: 0,
                 own: 0,
@@ -118,8 +119,8 @@ impl State {
             &mut self.entries,
             Entry::Login {
                 tick: self.clock,
-                console,
-                user,
+                console: console.number(),
+                user: user.number(),
             },
         );
         self.idling = None;
@@ -128,14 +129,15 @@ impl State {
 
     /// A dial from a session.
     #[tactic(auto, unfolding(system_model::specs::Cases::dial_taken))]
-    fn take_dial(&mut self, console: u8, user: u8) -> Result<(), NoMemory>
-        requires some { 0 < user }
+    fn take_dial(&mut self, console: ConsoleNo, user: UserNo) -> Result<(), NoMemory>
         requires within { user ≤ length self.old.sessions.items }
         ensures ok { BecomesIf result (dial_taken console user) self.old self.new }
         ensures err { StaysIf result self.old self.new }
+        ensures some { 0 < user }
     {
+        let place = user.index();
         self.entries.reserve(2)?;
-        let session = &self.sessions[user as usize - 1];
+        let session = &self.sessions[place];
         let own = session.own();
         let _ = self.events.pop_front();
         note_some(&mut self.entries, idle_note(self.idling, self.clock));
@@ -143,9 +145,9 @@ impl State {
             &mut self.entries,
             Entry::Taken {
                 tick: self.clock,
-                console,
+                console: console.number(),
                 kind: EventKind::Dial,
-                user,
+                user: user.number(),
                 own,
             },
         );
@@ -155,29 +157,34 @@ impl State {
 
     /// A line that a session keeps.
     #[tactic(auto, unfolding(system_model::specs::Cases::line_taken))]
-    fn take_line(&mut self, console: u8, user: u8, text: LineText) -> Result<(), NoMemory>
-        requires some { 0 < user }
+    fn take_line(
+        &mut self,
+        console: ConsoleNo,
+        user: UserNo,
+        text: LineText,
+    ) -> Result<(), NoMemory>
         requires within { user ≤ length self.old.sessions.items }
-        requires few { length self.old.sessions.items ≤ 30 }
         requires room { (user_at user self.old.sessions.items).lines < 2048 }
         ensures ok { BecomesIf result (line_taken console user text) self.old self.new }
         ensures err { StaysIf result self.old self.new }
+        ensures some { 0 < user }
     {
+        let place = user.index();
         self.entries.reserve(2)?;
-        let session = &mut self.sessions[user as usize - 1];
+        let session = &mut self.sessions[place];
         let own = session.own();
         let blocks = blocks_for_line(session);
         let _ = session.line(text);
-        wake(&mut self.queues, UserNo::of(user), blocks);
+        wake(&mut self.queues, user, blocks);
         let _ = self.events.pop_front();
         note_some(&mut self.entries, idle_note(self.idling, self.clock));
         note(
             &mut self.entries,
             Entry::Taken {
                 tick: self.clock,
-                console,
+                console: console.number(),
                 kind: EventKind::Line,
-                user,
+                user: user.number(),
                 own,
             },
         );
@@ -187,18 +194,18 @@ impl State {
 
     /// A quit in a session.
     #[tactic(auto, unfolding(system_model::specs::Cases::quit_taken))]
-    fn take_quit(&mut self, console: u8, user: u8) -> Result<(), NoMemory>
-        requires some { 0 < user }
+    fn take_quit(&mut self, console: ConsoleNo, user: UserNo) -> Result<(), NoMemory>
         requires within { user ≤ length self.old.sessions.items }
-        requires few { length self.old.sessions.items ≤ 30 }
         ensures ok { BecomesIf result (quit_taken console user) self.old self.new }
         ensures err { StaysIf result self.old self.new }
+        ensures some { 0 < user }
     {
+        let place = user.index();
         self.entries.reserve(3)?;
-        let session = &mut self.sessions[user as usize - 1];
+        let session = &mut self.sessions[place];
         let own = session.own();
         session.quit()?;
-        self.queues.drop_user(UserNo::of(user));
+        self.queues.drop_user(user);
         let _ = self.events.pop_front();
         note_some(&mut self.entries, idle_note(self.idling, self.clock));
         note_some(&mut self.entries, stop_note(self.service, user));
@@ -206,9 +213,9 @@ impl State {
             &mut self.entries,
             Entry::Taken {
                 tick: self.clock,
-                console,
+                console: console.number(),
                 kind: EventKind::Quit,
-                user,
+                user: user.number(),
                 own,
             },
         );
@@ -219,32 +226,32 @@ impl State {
 
     /// A hang in a session.
     #[tactic(auto, unfolding(system_model::specs::Cases::hang_taken))]
-    fn take_hang(&mut self, console: u8, user: u8) -> Result<(), NoMemory>
-        requires some { 0 < user }
+    fn take_hang(&mut self, console: ConsoleNo, user: UserNo) -> Result<(), NoMemory>
         requires within { user ≤ length self.old.sessions.items }
-        requires few { length self.old.sessions.items ≤ 30 }
-        requires seat { 0 < console }
         requires here { console ≤ length self.old.consoles.items }
         ensures ok { LeavesIf result user (hang_taken console user) self.old self.new }
         ensures err { StaysIf result self.old self.new }
+        ensures some { 0 < user }
+        ensures seat { 0 < console }
     {
+        let (place, seat) = (user.index(), console.index());
         self.entries.reserve(3)?;
-        let session = &mut self.sessions[user as usize - 1];
+        let session = &mut self.sessions[place];
         let own = session.own();
         session.hang()?;
-        self.queues.drop_user(UserNo::of(user));
+        self.queues.drop_user(user);
         let _ = self.events.pop_front();
         leave_consoles(&mut self.consoles, user);
-        self.consoles[console as usize - 1] = Console::Off;
+        self.consoles[seat] = Console::Off;
         note_some(&mut self.entries, idle_note(self.idling, self.clock));
         note_some(&mut self.entries, stop_note(self.service, user));
         note(
             &mut self.entries,
             Entry::Taken {
                 tick: self.clock,
-                console,
+                console: console.number(),
                 kind: EventKind::Hang,
-                user,
+                user: user.number(),
                 own,
             },
         );
@@ -255,18 +262,18 @@ impl State {
 
     /// A line too much in a session.
     #[tactic(auto, unfolding(system_model::specs::Cases::spent_taken))]
-    fn take_spent(&mut self, console: u8, user: u8) -> Result<(), NoMemory>
-        requires some { 0 < user }
+    fn take_spent(&mut self, console: ConsoleNo, user: UserNo) -> Result<(), NoMemory>
         requires within { user ≤ length self.old.sessions.items }
-        requires few { length self.old.sessions.items ≤ 30 }
         ensures ok { LeavesIf result user (spent_taken console user) self.old self.new }
         ensures err { StaysIf result self.old self.new }
+        ensures some { 0 < user }
     {
+        let place = user.index();
         self.entries.reserve(3)?;
-        let session = &mut self.sessions[user as usize - 1];
+        let session = &mut self.sessions[place];
         let own = session.own();
         session.spend()?;
-        self.queues.drop_user(UserNo::of(user));
+        self.queues.drop_user(user);
         let _ = self.events.pop_front();
         leave_consoles(&mut self.consoles, user);
         note_some(&mut self.entries, idle_note(self.idling, self.clock));
@@ -275,9 +282,9 @@ impl State {
             &mut self.entries,
             Entry::Taken {
                 tick: self.clock,
-                console,
+                console: console.number(),
                 kind: EventKind::Spent,
-                user,
+                user: user.number(),
                 own,
             },
         );
@@ -287,8 +294,7 @@ impl State {
     }
 
     #[tactic(auto, using(system_model::proofs::CaseLaws::off_laws))]
-    fn at_off(&mut self, console: u8, event: Event) -> Result<(), NoMemory>
-        requires seat { 0 < console }
+    fn at_off(&mut self, console: ConsoleNo, event: Event) -> Result<(), NoMemory>
         requires here { console ≤ length self.old.consoles.items }
         ensures ok { BecomesIf result (at_console console Off event) self.old self.new }
         ensures err { StaysIf result self.old self.new }
@@ -303,8 +309,7 @@ impl State {
 
     /// A line at a console that is on.
     #[tactic(auto, using(system_model::proofs::CaseLaws::on_no_name, system_model::proofs::CaseLaws::on_name))]
-    fn at_name(&mut self, console: u8, line: LineText) -> Result<(), NoMemory>
-        requires seat { 0 < console }
+    fn at_name(&mut self, console: ConsoleNo, line: LineText) -> Result<(), NoMemory>
         requires here { console ≤ length self.old.consoles.items }
         ensures ok { BecomesIf result (at_console console On (Types line)) self.old self.new }
         ensures err { StaysIf result self.old self.new }
@@ -316,8 +321,7 @@ impl State {
     }
 
     #[tactic(auto, using(system_model::proofs::CaseLaws::on_laws))]
-    fn at_on(&mut self, console: u8, event: Event) -> Result<(), NoMemory>
-        requires seat { 0 < console }
+    fn at_on(&mut self, console: ConsoleNo, event: Event) -> Result<(), NoMemory>
         requires here { console ≤ length self.old.consoles.items }
         ensures ok { BecomesIf result (at_console console On event) self.old self.new }
         ensures err { StaysIf result self.old self.new }
@@ -331,10 +335,8 @@ impl State {
     }
 
     #[tactic(auto, using(system_model::proofs::CaseLaws::word_laws))]
-    fn at_word(&mut self, console: u8, name: Word, line: LineText) -> Result<(), NoMemory>
-        requires few { length self.old.sessions.items ≤ 30 }
+    fn at_word(&mut self, console: ConsoleNo, name: Word, line: LineText) -> Result<(), NoMemory>
         requires accounts { length self.old.accounts.list ≤ length self.old.sessions.items }
-        requires seat { 0 < console }
         requires here { console ≤ length self.old.consoles.items }
         ensures ok { BecomesIf result (at_console console (Password name) (Types line)) self.old self.new }
         ensures err { StaysIf result self.old self.new }
@@ -346,15 +348,13 @@ impl State {
         match self.accounts.check(name, password) {
             Login::Unknown => self.take_refusal(console, 1),
             Login::Already => self.take_refusal(console, 2),
-            Login::Right(user) => self.take_login(console, user.number()),
+            Login::Right(user) => self.take_login(console, user),
         }
     }
 
     #[tactic(auto, using(system_model::proofs::CaseLaws::asked_laws))]
-    fn at_password(&mut self, console: u8, name: Word, event: Event) -> Result<(), NoMemory>
-        requires few { length self.old.sessions.items ≤ 30 }
+    fn at_password(&mut self, console: ConsoleNo, name: Word, event: Event) -> Result<(), NoMemory>
         requires accounts { length self.old.accounts.list ≤ length self.old.sessions.items }
-        requires seat { 0 < console }
         requires here { console ≤ length self.old.consoles.items }
         ensures ok { BecomesIf result (at_console console (Password name) event) self.old self.new }
         ensures err { StaysIf result self.old self.new }
@@ -371,14 +371,11 @@ impl State {
     #[tactic(auto, using(system_model::proofs::CaseLaws::in_laws))]
     fn at_session(
         &mut self,
-        console: u8,
-        user: u8,
+        console: ConsoleNo,
+        user: UserNo,
         event: Event,
     ) -> Result<Option<UserNo>, NoMemory>
-        requires some { 0 < user }
         requires within { user ≤ length self.old.sessions.items }
-        requires few { length self.old.sessions.items ≤ 30 }
-        requires seat { 0 < console }
         requires here { console ≤ length self.old.consoles.items }
         ensures ok { CutsIf result (at_console console (Inside user) event) self.old self.new }
         ensures cut { IfOk result (λ cut. number_of cut ≡ cut_user (Inside user) event self.old.sessions.items) }
@@ -396,28 +393,31 @@ impl State {
             }
             Event::Hang => {
                 self.take_hang(console, user)?;
-                Ok(Some(UserNo::of(user)))
+                Ok(Some(user))
             }
         }
     }
 
     #[tactic(auto, using(system_model::proofs::CaseLaws::in_laws))]
-    fn at_line(&mut self, console: u8, user: u8, text: LineText) -> Result<Option<UserNo>, NoMemory>
-        requires some { 0 < user }
+    fn at_line(
+        &mut self,
+        console: ConsoleNo,
+        user: UserNo,
+        text: LineText,
+    ) -> Result<Option<UserNo>, NoMemory>
         requires within { user ≤ length self.old.sessions.items }
-        requires few { length self.old.sessions.items ≤ 30 }
         ensures ok { CutsIf result (at_console console (Inside user) (Types text)) self.old self.new }
         ensures cut { IfOk result (λ cut. number_of cut
             ≡ cut_user (Inside user) (Types text) self.old.sessions.items) }
         ensures err { StaysIf result self.old self.new }
     {
-        let session = &self.sessions[user as usize - 1];
+        let session = &self.sessions[user.index()];
         if session.line_count() < 2048 {
             self.take_line(console, user, text)?;
             Ok(None)
         } else {
             self.take_spent(console, user)?;
-            Ok(Some(UserNo::of(user)))
+            Ok(Some(user))
         }
     }
 
@@ -431,19 +431,19 @@ impl State {
             ≡ cut_user (get_or self.old.consoles.items (e.console - 1) Off) e.event self.old.sessions.items) }
         ensures err { StaysIf result self.old self.new }
     {
-        let console = e.console.number();
-        match self.consoles[console as usize - 1] {
-            Console::Session(user) => self.at_session(console, user, e.event),
+        let seat = e.console.index();
+        match self.consoles[seat] {
+            Console::Session(user) => self.at_session(e.console, user, e.event),
             Console::Off => {
-                self.at_off(console, e.event)?;
+                self.at_off(e.console, e.event)?;
                 Ok(None)
             }
             Console::On => {
-                self.at_on(console, e.event)?;
+                self.at_on(e.console, e.event)?;
                 Ok(None)
             }
             Console::Password(name) => {
-                self.at_password(console, name, e.event)?;
+                self.at_password(e.console, name, e.event)?;
                 Ok(None)
             }
         }

@@ -39,7 +39,6 @@ pub(crate) fn password_in(line: &LineText) -> Option<Word>
 
 /// The accounts learn whose sessions are open.
 pub(crate) fn mark_on(accounts: &mut Accounts, sessions: &[Session])
-    requires few { length accounts.old.list ≤ 30 }
     requires all { length accounts.old.list ≤ length sessions.now }
     ensures list { accounts.new.list ≡ accounts.old.list }
     ensures on { (u : ℕ) → 0 < u → u ≤ length accounts.old.list

@@ -1,5 +1,6 @@
 //! Whom the queues serve, and how a service ends.
-ghost use Rattle.std.specs.Prelude.{◌≡◌, ◌<◌, ◌≤◌, ◌+◌, ◌-◌, length, vec_len, vec_capacity, option_to_list};
+ghost use Rattle.std.specs.Prelude.{◌≡◌, ◌<◌, ◌≤◌, ◌+◌, ◌-◌, length, vec_len, vec_capacity, option_to_list, Some};
+ghost use Rattle.plan_model.specs.Levels.{chosen, user_of};
 ghost use Rattle.system_model.specs.Cases.{idled, served, waited};
 ghost use Rattle.system_model.specs.Joined.{counted, moved};
 ghost use Rattle.system_model.specs.Runs.{elapsed};
@@ -8,9 +9,7 @@ ghost use Rattle.supervisor.specs.Seen.{left_queues, Becomes, BecomesIf, StaysIf
 use crate::state::State;
 use ctss_types::{Cause, Ending, Entry, NoMemory, Service, UserNo};
 use level_queues::{Charge, Queues};
-use run_notes::{
-    cause_of, idle_from, leave_consoles, note, note_clock, note_service, note_some, service_after,
-};
+use run_notes::{cause_of, idle_from, leave_consoles, note, note_clock, note_some, note_step};
 use user_cores::Plan;
 use user_session::Step;
 
@@ -60,7 +59,7 @@ impl State {
             &mut self.entries,
             Entry::Serve {
                 tick: v.tick,
-                user: v.user,
+                user: v.user.number(),
                 level: v.level,
                 ran: v.ran,
                 cause,
@@ -96,42 +95,39 @@ impl State {
     #[tactic(auto, unfolding(system_model::specs::Joined::counted))]
     pub(crate) fn count_step(&mut self, v: Service, step: Step, common: Option<Entry>)
         requires room { vec_len self.old.entries + 3 ≤ vec_capacity self.old.entries }
-        requires some { 0 < v.user }
         requires within { v.user ≤ length self.old.sessions.items }
-        requires few { length self.old.sessions.items ≤ 30 }
+        requires chosen { user_of (chosen self.old.queues) ≡ Some v.user }
         requires ran { v.ran ≤ self.old.clock }
         requires before { self.old.clock ≤ 100000000 }
         ensures { Becomes (counted v step.ending step.clock (option_to_list common)) self.old self.new }
     {
-        let session = &self.sessions[v.user as usize - 1];
+        let user = v.user;
+        let session = &self.sessions[user.index()];
         let unread = session.has_line();
         let blocks = session.blocks();
-        let left = match self.queues.charge(UserNo::of(v.user)) {
+        let left = match self.queues.charge(user) {
             Charge::Goes => true,
             Charge::Spent => false,
         };
         let cause = cause_of(step.ending, left);
-        leave(&mut self.queues, cause, UserNo::of(v.user), unread, blocks);
+        leave(&mut self.queues, cause, user, unread, blocks);
         if step.ending == Ending::LoggedOut {
-            leave_consoles(&mut self.consoles, v.user);
+            leave_consoles(&mut self.consoles, user);
         }
-        note_clock(&mut self.entries, step.clock, self.clock, v.user);
+        note_clock(&mut self.entries, step.clock, self.clock, user);
         note_some(&mut self.entries, common);
-        note_service(&mut self.entries, v, cause);
         self.clock += 1;
-        self.service = service_after(v, cause);
+        self.service = note_step(&mut self.entries, v, cause);
     }
 
     /// The clock, the queues and the service behind so many steps of the user that is served, which went on.
     #[tactic(auto, unfolding(system_model::specs::Runs::elapsed))]
     pub(crate) fn count_ticks(&mut self, v: Service, ticks: u64)
-        requires some { 0 < v.user }
-        requires few { v.user ≤ 30 }
         requires ran { v.ran ≤ self.old.clock }
         requires before { self.old.clock + ticks ≤ 100000000 }
         ensures { Becomes (elapsed ticks v) self.old self.new }
     {
-        self.queues.spend(UserNo::of(v.user), ticks);
+        self.queues.spend(v.user, ticks);
         self.clock += ticks;
         self.service = Some(Service {
             tick: v.tick,
@@ -145,20 +141,19 @@ impl State {
     #[tactic(auto, unfolding(system_model::specs::Cases::waited))]
     pub(crate) fn count_wait(&mut self, v: Service)
         requires room { vec_len self.old.entries < vec_capacity self.old.entries }
-        requires some { 0 < v.user }
         requires within { v.user ≤ length self.old.sessions.items }
-        requires few { length self.old.sessions.items ≤ 30 }
+        requires chosen { user_of (chosen self.old.queues) ≡ Some v.user }
         requires ran { v.ran ≤ self.old.clock }
         requires before { self.old.clock ≤ 100000000 }
         ensures { Becomes (waited v) self.old self.new }
     {
-        let _ = self.queues.charge(UserNo::of(v.user));
-        self.queues.drop_user(UserNo::of(v.user));
+        let _ = self.queues.charge(v.user);
+        self.queues.drop_user(v.user);
         note(
             &mut self.entries,
             Entry::Serve {
                 tick: v.tick,
-                user: v.user,
+                user: v.user.number(),
                 level: v.level,
                 ran: v.ran + 1,
                 cause: Cause::Wait,

@@ -81,10 +81,9 @@ impl State {
         if self.entries.reserve(1).is_err() {
             return Err(RunFault::NoMemory);
         }
-        let user = UserNo::of(v.user);
-        match cores.load(user) {
+        match cores.load(v.user) {
             Ok(plan) => {
-                self.bring(user, plan);
+                self.bring(v.user, plan);
                 Ok(())
             }
             Err(_) => Err(RunFault::Drum),
@@ -97,6 +96,7 @@ impl State {
         requires works { C.Works cores.old }
         requires held { Holds (whole self.old (C.state cores.old)) }
         requires user { IsUser v.user (run_of (whole self.old (C.state cores.old))) }
+        requires chosen { user_of (chosen self.old.queues) ≡ Some v.user }
         requires loaded { HasBlocks v.user true (whole self.old (C.state cores.old)) }
         requires makes { IsToMake (C.state cores.old).disk_tells ((C.state cores.old).window v.user) op
             (user_at v.user self.old.sessions.items) }
@@ -113,14 +113,13 @@ impl State {
         ensures faults { (C.state cores.new).faults ≡ (C.state cores.old).faults }
         ensures disk { (C.state cores.old).disk_faults ≤ (C.state cores.new).disk_faults }
     {
-        let user = UserNo::of(v.user);
-        let session = &mut self.sessions[v.user as usize - 1];
-        match cores.share(user, session, &op, self.clock) {
+        let session = &mut self.sessions[v.user.index()];
+        match cores.share(v.user, session, &op, self.clock) {
             Ok(Made { step, reply }) => {
                 let blocks = session.blocks();
-                settle(cores, user, step.ending, blocks);
+                settle(cores, v.user, step.ending, blocks);
                 let entry = Entry::Common {
-                    user: v.user,
+                    user: v.user.number(),
                     op,
                     reply,
                 };
@@ -137,6 +136,7 @@ impl State {
         requires works { C.Works cores.old }
         requires held { Holds (whole self.old (C.state cores.old)) }
         requires user { IsUser v.user (run_of (whole self.old (C.state cores.old))) }
+        requires chosen { user_of (chosen self.old.queues) ≡ Some v.user }
         requires loaded { HasBlocks v.user true (whole self.old (C.state cores.old)) }
         requires ran { v.ran ≤ self.old.clock }
         requires before { self.old.clock ≤ 100000000 }
@@ -153,16 +153,15 @@ impl State {
         if self.entries.reserve(3).is_err() {
             return Err(RunFault::NoMemory);
         }
-        let user = UserNo::of(v.user);
-        let session = &mut self.sessions[v.user as usize - 1];
-        match cores.turn(user, session, self.clock) {
+        let session = &mut self.sessions[v.user.index()];
+        match cores.turn(v.user, session, self.clock) {
             Ok(Turn::Waits) => {
                 self.count_wait(v);
                 Ok(())
             }
             Ok(Turn::Done(step)) => {
                 let blocks = session.blocks();
-                settle(cores, user, step.ending, blocks);
+                settle(cores, v.user, step.ending, blocks);
                 self.count_step(v, step, None);
                 Ok(())
             }
@@ -177,6 +176,7 @@ impl State {
         requires works { C.Works cores.old }
         requires held { Holds (whole self.old (C.state cores.old)) }
         requires user { IsUser v.user (run_of (whole self.old (C.state cores.old))) }
+        requires chosen { user_of (chosen self.old.queues) ≡ Some v.user }
         requires ran { v.ran ≤ self.old.clock }
         requires before { self.old.clock ≤ 100000000 }
         ensures ended { Steps (attended v) (AbsentIsCut v.user) result
@@ -189,7 +189,7 @@ impl State {
         ensures kept { (C.state cores.old).faults ≤ (C.state cores.new).faults }
         ensures disk { (C.state cores.old).disk_faults ≤ (C.state cores.new).disk_faults }
     {
-        if !cores.is_loaded(UserNo::of(v.user)) {
+        if !cores.is_loaded(v.user) {
             return self.fetch(cores, v);
         }
         self.serve(cores, v)
@@ -260,13 +260,13 @@ impl State {
                 cores,
                 Service {
                     tick: self.clock,
-                    user: next.user.number(),
+                    user: next.user,
                     level: next.level,
                     ran: 0,
                 },
             ),
             (Some(next), Some(v)) => {
-                if v.user == next.user.number() {
+                if v.user == next.user {
                     return self.attend(cores, v);
                 }
                 if self.preempt(cores, v).is_err() {
@@ -359,9 +359,8 @@ impl State {
         ensures faults { (C.state cores.new).faults ≡ (C.state cores.old).faults }
         ensures disk { (C.state cores.new).disk_faults ≡ (C.state cores.old).disk_faults }
     {
-        let user = UserNo::of(v.user);
-        let session = &mut self.sessions[v.user as usize - 1];
-        let ticks = cores.advance(user, session, most);
+        let session = &mut self.sessions[v.user.index()];
+        let ticks = cores.advance(v.user, session, most);
         self.count_ticks(v, ticks);
     }
 
@@ -385,7 +384,7 @@ impl State {
         ensures faults { (C.state cores.new).faults ≡ (C.state cores.old).faults }
         ensures disk { (C.state cores.new).disk_faults ≡ (C.state cores.old).disk_faults }
     {
-        if !cores.is_loaded(UserNo::of(v.user)) {
+        if !cores.is_loaded(v.user) {
             return;
         }
         let most = self.spare(next.left, limit);
@@ -413,7 +412,7 @@ impl State {
     {
         match (self.queues.choose(), self.service) {
             (Some(next), Some(v)) => {
-                if v.user != next.user.number() {
+                if v.user != next.user {
                     return;
                 }
                 self.work_on(cores, v, next, limit);

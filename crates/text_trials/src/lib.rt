@@ -22,3 +22,5 @@ mod streams;
 mod summary;
 #[cfg(test)]
 mod types;
+#[cfg(test)]
+mod written;

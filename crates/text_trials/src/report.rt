@@ -1,8 +1,9 @@
+use crate::written::written;
 use ctss_types::{
     Account, Cause, CommonOp, Entries, Entry, EventKind, FileBody, FileList, FileName, Item, Items,
     LineText, Params, Record, Refusal, Reply, Script, Sequence, name_word,
 };
-use report_text::report;
+use report_text::Report;
 use std::alloc::Global;
 use std::process::Abort;
 use std::test::Fail;
@@ -60,8 +61,14 @@ fn tells(
     dump: bool,
     want: &[u8],
 ) -> Result<(), Fail> {
-    let text = report(alloc, &script(alloc)?, run, dump)?;
-    assert_eq!(rt; text.as_slice(), want);
+    let script = script(alloc)?;
+    let report = Report {
+        script: &script,
+        run,
+        dump,
+    };
+    let sink = written(rt, alloc, &report)?;
+    assert_eq!(rt; sink.bytes(), want);
     Ok(())
 }
 

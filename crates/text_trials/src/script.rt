@@ -1,5 +1,6 @@
+use crate::written::written;
 use ctss_types::{Account, Event, FileName, OwnedFile, Params, Script, name_word};
-use script_read::{ScriptFault, read_base, read_script, script_text};
+use script_read::{ScriptFault, ScriptText, read_base, read_script};
 use std::alloc::Global;
 use std::process::Abort;
 use std::test::Fail;
@@ -14,13 +15,9 @@ fn reads_as(
     canonical: &[u8],
 ) -> Result<Script, Fail> {
     let script = read_script(alloc, bytes)?;
-    let text = script_text(alloc, &script)?;
+    let sink = written(rt, alloc, &ScriptText { script: &script })?;
     let same = read_script(alloc, canonical)?;
-    assert_eq!(rt;
-        (text.as_slice(), script == same),
-        (canonical, true),
-        "{what}"
-    );
+    assert_eq!(rt; (sink.bytes(), script == same), (canonical, true), "{what}");
     Ok(script)
 }
 

@@ -1,7 +1,8 @@
+use crate::written::written;
 use ctss_types::{
     Account, Cause, Entry, EventKind, Item, Params, Record, Script, Sequence, name_word,
 };
-use report_text::summary;
+use report_text::Summary;
 use std::alloc::Global;
 use std::test::Fail;
 
@@ -92,7 +93,13 @@ fn sums_up_a_short_run(rt: HostRuntime) -> Result<(), Fail> {
         common: Sequence::new(alloc),
         clock: 300,
     };
-    let text = summary(alloc, 999_999, &script(alloc)?, &run)?;
+    let script = script(alloc)?;
+    let summary = Summary {
+        n: 999_999,
+        script: &script,
+        run: &run,
+    };
+    let sink = written(&rt, alloc, &summary)?;
     let want: &[u8] = b"LOAD 999999\n\
         USERS 2\n\
         ITEMS 3\n\
@@ -102,6 +109,6 @@ fn sums_up_a_short_run(rt: HostRuntime) -> Result<(), Fail> {
         READ 7\n\
         STEPS 19\n\
         END 300\n";
-    assert_eq!(rt; text.as_slice(), want);
+    assert_eq!(rt; sink.bytes(), want);
     Ok(())
 }

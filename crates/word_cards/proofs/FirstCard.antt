@@ -41,8 +41,13 @@ pub first_card : (ws : List ℕ) (n : ℕ) → n ≡ min (length ws) 5 → 0 < l
     → word_cards ws ≡ line (codes "O" ++ flat_map octal (take n ws)) ++ word_cards (drop n ws)
 first_card ws n e h = let P : ℕ → Type 0 = λ k. word_cards ws ≡ split_at ws k in subst P (sym e) (first_split ws h)
 
--- a card more, by what is left and what was written
-pub card_done : (old new ws card more : List ℕ) (n : ℕ) → n ≡ min (length ws) 5 → 0 < length ws → card ≡ take n ws → more ≡ drop n ws
-    → new ≡ old ++ line (codes "O" ++ flat_map octal card) → new ++ word_cards more ≡ old ++ word_cards ws
-card_done old new ws card more n e h f g w =
-    rw (w, f, g, first_card ws n e h) (append_assoc old (line (codes "O" ++ flat_map octal (take n ws))) (word_cards (drop n ws)))
+-- the cards so far, one more, and those of what is left
+pub card_more : (text ws card more : List ℕ) (n : ℕ) → n ≡ min (length ws) 5 → 0 < length ws → card ≡ take n ws → more ≡ drop n ws
+    → text ++ word_cards ws ≡ (text ++ line (codes "O" ++ flat_map octal card)) ++ word_cards more
+card_more text ws card more n e h f g =
+    rw (f, g, first_card ws n e h) (sym (append_assoc text (line (codes "O" ++ flat_map octal (take n ws))) (word_cards (drop n ws))))
+
+-- no words have no cards
+pub none_left : (ws : List ℕ) → length ws ≡ 0 → word_cards ws ≡ []
+none_left [] none = refl
+none_left (w ∷ ws) none = absurd (omega (arith, none))

@@ -1,7 +1,8 @@
-use Rattle.std.proofs.Common.{◌≡◌, ◌++◌, string_bytes, take}
+use Rattle.std.proofs.Common.{take}
 use Rattle.std.specs.List.{flat_map}
 use Rattle.text_model.specs.Report.{entry_text}
+use Rattle.text_writer.specs.Writing.{Adds}
 use Rattle.report_text.proofs.entry.add_entries.Given as goal
 
 abbrev pub invariant-loop-entry : goal.invariant-loop-entry
-invariant-loop-entry l = string_bytes l.out ≡ string_bytes l.fn.out ++ flat_map entry_text (take l.entry-index l.entries)
+invariant-loop-entry g l = Adds g.K.Sink (flat_map entry_text (take l.entry-index l.entries)) l.fn.out l.out

@@ -5,4 +5,4 @@ use Rattle.supervisor.proofs.state.State.at_name.Goals as goal
 
 pub returns-in-Some-clause-ok : goal.returns-in-Some-clause-ok
 returns-in-Some-clause-ok c = λ places.
-    rw (on_name c.args.console c.args.line c.in-Some.name (seen places c.args.self.now) c.requires.seat (sym c.in-Some.ensures)) (c.take_heard.ensures.ok places)
+    rw (on_name c.args.console c.args.line c.in-Some.name (seen places c.args.self.now) c.take_heard.ensures.seat (sym c.in-Some.ensures)) (c.take_heard.ensures.ok places)

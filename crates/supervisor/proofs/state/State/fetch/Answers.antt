@@ -26,18 +26,17 @@ returns-in-Ok-clause-ended g c =
     let users : List User = c.args.self.now.sessions.items in
     let u : ℕ = c.args.v.user in
     let size : size_of had.sizes u ≡ blocks_of (user_at u users).inner = c.requires.held.tied.has u c.requires.user.some c.requires.user.within in
-    let sizes : size_of had.sizes c.of-user.result ≡ blocks_of (user_at u users).inner = ap (size_of had.sizes) c.of-user.ensures ∙ size in
     let dumped : c.in-Ok.plan.dumped ≡ count_below (blocks_of (user_at u users).inner) (is_dumped had.places u) =
-    c.in-Ok.ensures.loads.done.dumped ∙ (λ j. count_below (sizes j) (is_dumped had.places (c.of-user.ensures j))) in
+    c.in-Ok.ensures.loads.done.dumped ∙ (λ j. count_below (size j) (is_dumped had.places u)) in
     let read : c.in-Ok.plan.read ≡ count_below (blocks_of (user_at u users).inner) (is_read had.places u) =
-    c.in-Ok.ensures.loads.done.read ∙ (λ j. count_below (sizes j) (is_read had.places (c.of-user.ensures j))) in
+    c.in-Ok.ensures.loads.done.read ∙ (λ j. count_below (size j) (is_read had.places u)) in
     let fresh : c.in-Ok.plan.fresh ≡ count_below (blocks_of (user_at u users).inner) (is_fresh had.places u) =
-    c.in-Ok.ensures.loads.done.fresh ∙ (λ j. count_below (sizes j) (is_fresh had.places (c.of-user.ensures j))) in
+    c.in-Ok.ensures.loads.done.fresh ∙ (λ j. count_below (size j) (is_fresh had.places u)) in
     let places : has.places ≡ loaded had.places u (blocks_of (user_at u users).inner) =
-    c.in-Ok.ensures.loads.done.places ∙ (λ j. loaded had.places (c.of-user.ensures j) (sizes j)) in
+    c.in-Ok.ensures.loads.done.places ∙ (λ j. loaded had.places u (size j)) in
     let is : seen has.places c.bring.new.self ≡ brought u old =
     ap (at_places has.places) (c.bring.ensures had.places)
-    ∙ (λ j. at_places (places j) (moved (c.of-user.ensures j) c.in-Ok.plan.dumped c.in-Ok.plan.read c.in-Ok.plan.fresh (with_users old users (c.reserve.ensures.items j))))
+    ∙ (λ j. at_places (places j) (moved u c.in-Ok.plan.dumped c.in-Ok.plan.read c.in-Ok.plan.fresh (with_users old users (c.reserve.ensures.items j))))
     ∙ brought_is u c.in-Ok.plan.dumped c.in-Ok.plan.read c.in-Ok.plan.fresh old dumped read fresh in
     does_brought c.args.v old (seen has.places c.bring.new.self) had has c.requires.user
     (ap not (ap (is_loaded had.places u) (sym size) ∙ c.requires.absent))
@@ -47,7 +46,7 @@ pub returns-in-Ok-clause-tied : goal.returns-in-Ok-clause-tied
 returns-in-Ok-clause-tied g c =
     let had : Held = (g.C.Backing.state c.args.cores.now).held in
     let has : Held = (g.C.Backing.state c.load.new.self).held in
-    let are : c.bring.new.self.sessions.items ≡ c.args.self.now.sessions.items = ap (λ (r : Run). r.system.users) (c.bring.ensures had.places) ∙ moved_users c.of-user.result c.in-Ok.plan.dumped c.in-Ok.plan.read c.in-Ok.plan.fresh _ in
+    let are : c.bring.new.self.sessions.items ≡ c.args.self.now.sessions.items = ap (λ (r : Run). r.system.users) (c.bring.ensures had.places) ∙ moved_users c.args.v.user c.in-Ok.plan.dumped c.in-Ok.plan.read c.in-Ok.plan.fresh _ in
     subst (λ (us : List User). IsTied us has) (sym are) (tied_same c.args.self.now.sessions.items 0 had has (resized_none 0 had has c.load.ensures.loads.sizes c.load.ensures.loads.rules) c.requires.held.tied)
 
 pub returns-in-Err-clause-ended : goal.returns-in-Err-clause-ended
@@ -55,12 +54,12 @@ returns-in-Err-clause-ended g c =
     let had : Held = (g.C.Backing.state c.args.cores.now).held in
     let users : List User = c.args.self.now.sessions.items in
     let u : ℕ = c.args.v.user in
-    let sizes : size_of had.sizes c.of-user.result ≡ blocks_of (user_at u users).inner =
-    ap (size_of had.sizes) c.of-user.ensures ∙ c.requires.held.tied.has u c.requires.user.some c.requires.user.within in (
+    let size : size_of had.sizes u ≡ blocks_of (user_at u users).inner =
+    c.requires.held.tied.has u c.requires.user.some c.requires.user.within in (
       search rules,
       search rules,
       subst (λ (most : ℕ). IsCutOff (g.C.Backing.state c.args.cores.now).calls (g.C.Backing.state c.load.new.self).calls most)
-          (λ j. count_below (sizes j) (is_dumped had.places (c.of-user.ensures j)) + count_below (sizes j) (is_read had.places (c.of-user.ensures j)))
+          (λ j. count_below (size j) (is_dumped had.places u) + count_below (size j) (is_read had.places u))
           c.in-Err.ensures.loads.fails.calls,
     )
 
@@ -68,7 +67,7 @@ pub returns-in-Ok-clause-counted : goal.returns-in-Ok-clause-counted
 returns-in-Ok-clause-counted g c =
     let had : Held = (g.C.Backing.state c.args.cores.now).held in
     let old : Run = seen had.places c.args.self.now in
-    let u : ℕ = c.of-user.result in
+    let u : ℕ = c.args.v.user in
     let dumped : ℕ = c.in-Ok.plan.dumped in
     let read : ℕ = c.in-Ok.plan.read in
     let fresh : ℕ = c.in-Ok.plan.fresh in

@@ -1,4 +1,4 @@
-use Rattle.std.proofs.Common.{◌≡◌, ◌≢◌, ◌<◌, ◌≤◌, ◌-◌, ◌*◌, ℕ, Bool, true, not, List, Option, Some, length, refl, sym, ap, subst, ◌∙◌, arith, inl}
+use Rattle.std.proofs.Common.{◌≡◌, ◌≢◌, ◌<◌, ◌≤◌, ◌-◌, ◌*◌, ℕ, Bool, true, not, List, Option, Some, length, get_or, set, refl, sym, ap, subst, ◌∙◌, arith, inl}
 use Rattle.std.proofs.lemmas.List.{get_or_default}
 use Rattle.ctss_types.specs.declared.file.CommonOp.{CommonOp}
 use Rattle.ctss_types.specs.declared.file.Reply.{Reply}
@@ -33,10 +33,10 @@ settle-requires-clause-same g c = λ went.
     let users : List User = c.args.self.now.sessions.items in
     let u : ℕ = c.args.v.user in
     let within : u - 1 < length users = omega (arith, c.requires.user.some, c.requires.user.within) in
-    let same : user_at u users ≡ c.index_mut-session.result.now = get_or_default users (u - 1) nobody c.index_mut-session.result.now within ∙ sym c.index_mut-session.ensures.value in
+    let place : c.index.result ≡ u - 1 = c.index.ensures.value in
+    let same : user_at u users ≡ c.index_mut-session.result.now = get_or_default users (u - 1) nobody c.index_mut-session.result.now within ∙ ap (λ (k : ℕ). get_or users k c.index_mut-session.result.now) (sym place) ∙ sym c.index_mut-session.ensures.value in
     let over = c.in-Ok.ensures.shared.step in
-    ap (λ (s : List ℕ). size_of s c.of-user.result) c.in-Ok.ensures.worked.sizes
-    ∙ ap (size_of had.sizes) c.of-user.ensures
+    ap (λ (s : List ℕ). size_of s u) c.in-Ok.ensures.worked.sizes
     ∙ c.requires.held.tied.has u c.requires.user.some c.requires.user.within
     ∙ ap (λ (p : User). blocks_of p.inner) same
     ∙ sym (went_size _ _ _ _ _ _ _ _ _ over.does went)
@@ -48,7 +48,8 @@ returns-in-Ok-clause-ended g c =
     let users : List User = c.args.self.now.sessions.items in
     let u : ℕ = c.args.v.user in
     let within : u - 1 < length users = omega (arith, c.requires.user.some, c.requires.user.within) in
-    let same : user_at u users ≡ c.index_mut-session.result.now = get_or_default users (u - 1) nobody c.index_mut-session.result.now within ∙ sym c.index_mut-session.ensures.value in
+    let place : c.index.result ≡ u - 1 = c.index.ensures.value in
+    let same : user_at u users ≡ c.index_mut-session.result.now = get_or_default users (u - 1) nobody c.index_mut-session.result.now within ∙ ap (λ (k : ℕ). get_or users k c.index_mut-session.result.now) (sym place) ∙ sym c.index_mut-session.ensures.value in
     let mid : Held = (g.C.Backing.state c.share.new.self).held in
     let has : Held = (g.C.Backing.state c.settle.new.cores).held in
     let old : Run = seen had.places c.args.self.now in
@@ -58,8 +59,8 @@ returns-in-Ok-clause-ended g c =
     let made : Option CommonOp = Some c.args.op in
     let reply : Reply = c.in-Ok.field-0.reply in
     let tells : Bool = (g.C.Backing.state c.args.cores.now).disk_tells in
-    let w : Stored = (g.C.Backing.state c.args.cores.now).window c.of-user.result in
-    let after : Stored = (g.C.Backing.state c.share.new.self).window c.of-user.result in
+    let w : Stored = (g.C.Backing.state c.args.cores.now).window u in
+    let after : Stored = (g.C.Backing.state c.share.new.self).window u in
     let over = c.in-Ok.ensures.shared.step in
     let applied = c.in-Ok.ensures.shared.common in
     let worked = c.in-Ok.ensures.worked in
@@ -72,25 +73,25 @@ returns-in-Ok-clause-ended g c =
     subst (λ (q : User). IsStep t asked made c.args.self.now.clock reply q p first last) (sym same) over.does in
     let blocks : c.blocks-blocks.result ≡ blocks_of p.inner = c.blocks-blocks.ensures.value in
     let places : has.places ≡ places_after t u (blocks_of p.inner) had.places =
-    c.settle.ensures.settled.places ∙ (λ j. places_after t (c.of-user.ensures j) (blocks j) (worked.places j)) in
+    c.settle.ensures.settled.places ∙ (λ j. places_after t u (blocks j) (worked.places j)) in
     let is : seen has.places c.count_step.new.self ≡ stepped_to c.args.v p t asked (common_entry made u reply) old =
     ap (at_places has.places) (c.count_step.ensures had.places)
-    ∙ (λ j. at_places (places j) (counted c.args.v t asked (common_entry made u reply) (with_users old (with_user u p users) old.system.entries)))
+    ∙ (λ j. at_places (places j) (counted c.args.v t asked (common_entry made (c.number.ensures.value j) reply) (with_users old (set users (place j) p) old.system.entries)))
     ∙ stepped_is c.args.v p t asked (common_entry made u reply) old c.requires.user in
     let size : t ≡ Went → length after.core ≡ 256 * blocks_of p.inner = λ went.
     worked.len
-    ∙ ap (λ (n : ℕ). 256 * n) (ap (size_of had.sizes) c.of-user.ensures ∙ c.requires.held.tied.has u c.requires.user.some c.requires.user.within ∙ sym (went_size _ _ _ _ _ _ _ _ _ says went)) in
+    ∙ ap (λ (n : ℕ). 256 * n) (c.requires.held.tied.has u c.requires.user.some c.requires.user.within ∙ sym (went_size _ _ _ _ _ _ _ _ _ says went)) in
     let was : had.tells ≡ true → had.stores u ≡ first = λ told.
-    ap had.stores (sym c.of-user.ensures) ∙ worked.was told ∙ sym (told_store tells over.had w (worked.disk told) over.was) in
+    worked.was told ∙ sym (told_store tells over.had w (worked.disk told) over.was) in
     let mine : had.tells ≡ true → has.stores u ≡ store_after t (blocks_of p.inner) last = λ told.
-    ap has.stores (sym c.of-user.ensures) ∙ c.settle.ensures.settled.mine (worked.rest.tells ∙ told)
+    c.settle.ensures.settled.mine (worked.rest.tells ∙ told)
     ∙ (λ j. record { core = settled t (blocks j) (worked.mine told j).core; files = (worked.mine told j).files })
     ∙ (λ j. record { core = settled_is t (blocks_of p.inner) after.core size j; files = after.files })
     ∙ ap (store_after t (blocks_of p.inner)) (sym (told_store tells over.has after (worked.disk told) over.now)) in
     let others : (x : ℕ) → 1 ≤ x → x ≢ u → has.stores x ≡ had.stores x = λ x pos n.
-    c.settle.ensures.settled.others x (λ e. n (e ∙ c.of-user.ensures)) ∙ worked.rest.others x pos (λ e. n (e ∙ c.of-user.ensures)) in
+    c.settle.ensures.settled.others x n ∙ worked.rest.others x pos n in
     let zero : has.stores 0 ≡ mid.stores 0 =
-    c.settle.ensures.settled.others 0 (λ e. (let a = c.requires.user.some in let b = c.of-user.ensures in omega (arith, a, b, e))) in
+    c.settle.ensures.settled.others 0 (λ e. (let a = c.requires.user.some in omega (arith, a, e))) in
     does_stepped c.args.v p t asked made reply old (seen has.places c.count_step.new.self) had has first last common_first common_last c.requires.user
     (ap not (ap (is_loaded had.places u) (sym (c.requires.held.tied.has u c.requires.user.some c.requires.user.within)) ∙ c.requires.loaded))
     says
@@ -108,14 +109,15 @@ returns-in-Ok-clause-tied g c =
     let users : List User = c.args.self.now.sessions.items in
     let u : ℕ = c.args.v.user in
     let within : u - 1 < length users = omega (arith, c.requires.user.some, c.requires.user.within) in
-    let same : user_at u users ≡ c.index_mut-session.result.now = get_or_default users (u - 1) nobody c.index_mut-session.result.now within ∙ sym c.index_mut-session.ensures.value in
+    let place : c.index.result ≡ u - 1 = c.index.ensures.value in
+    let same : user_at u users ≡ c.index_mut-session.result.now = get_or_default users (u - 1) nobody c.index_mut-session.result.now within ∙ ap (λ (k : ℕ). get_or users k c.index_mut-session.result.now) (sym place) ∙ sym c.index_mut-session.ensures.value in
     let mid : Held = (g.C.Backing.state c.share.new.self).held in
     let has : Held = (g.C.Backing.state c.settle.new.cores).held in
     let p : User = c.share.new.session in
     let worked = c.in-Ok.ensures.worked in
     let resized : IsResized u (blocks_of p.inner) had has =
-    resized_from c.of-user.result u c.blocks-blocks.result (blocks_of p.inner) had mid has c.settle.ensures.settled.sizes worked.sizes worked.rest.rules c.of-user.ensures c.blocks-blocks.ensures.value in
-    let are : c.count_step.new.self.sessions.items ≡ with_user u p users = ap (λ (r : Run). r.system.users) (c.count_step.ensures had.places) ∙ counted_users c.args.v c.in-Ok.field-0.step.ending c.in-Ok.field-0.step.clock _ _ in
+    resized_from u u c.blocks-blocks.result (blocks_of p.inner) had mid has c.settle.ensures.settled.sizes worked.sizes worked.rest.rules refl c.blocks-blocks.ensures.value in
+    let are : c.count_step.new.self.sessions.items ≡ with_user u p users = ap (λ (r : Run). r.system.users) (c.count_step.ensures had.places) ∙ counted_users c.args.v c.in-Ok.field-0.step.ending c.in-Ok.field-0.step.clock _ _ ∙ ap (λ (k : ℕ). set users k p) place in
     subst (λ (us : List User). IsTied us has) (sym are)
     (tied_with users u u p had has c.requires.user.some c.requires.user.within resized (inl refl)
     (c.in-Ok.ensures.account ∙ ap (λ (q : User). q.inner.account) (sym same)) c.requires.held.tied)
@@ -125,10 +127,10 @@ returns-in-Ok-clause-counted g c =
     let had : Held = (g.C.Backing.state c.args.cores.now).held in
     let old : Run = seen had.places c.args.self.now in
     let u : ℕ = c.args.v.user in
-    let mid : Run = with_users old (with_user u c.share.new.session c.args.self.now.sessions.items) old.system.entries in
+    let mid : Run = with_users old (set c.args.self.now.sessions.items c.index.result c.share.new.session) old.system.entries in
     let t : Ending = c.in-Ok.field-0.step.ending in
     let asked : Bool = c.in-Ok.field-0.step.clock in
     let worked = c.in-Ok.ensures.worked in
     counted_none old (counted c.args.v t asked (common_entry (Some c.args.op) u c.in-Ok.field-0.reply) mid) (seen had.places c.count_step.new.self) _ _
-    (c.count_step.ensures had.places)
+    (c.count_step.ensures had.places ∙ (λ j. counted c.args.v t asked (common_entry (Some c.args.op) (c.number.ensures.value j) c.in-Ok.field-0.reply) mid))
     (counted_moves c.args.v t asked (Some c.args.op) c.in-Ok.field-0.reply mid) (c.settle.ensures.calls ∙ worked.rest.calls)

@@ -1,4 +1,4 @@
-use Rattle.std.proofs.Common.{◌≡◌, ◌<◌, ◌≤◌, ◌-◌, ℕ, not, List, length, refl, sym, ap, subst, ◌∙◌, arith, inr}
+use Rattle.std.proofs.Common.{◌≡◌, ◌<◌, ◌≤◌, ◌-◌, ℕ, not, List, length, get_or, set, refl, sym, ap, subst, ◌∙◌, arith, inr}
 use Rattle.std.proofs.lemmas.List.{get_or_default}
 use Rattle.user_model.specs.Session.{nobody}
 use Rattle.user_model.specs.Inner.{Stored, blocks_of}
@@ -7,13 +7,13 @@ use Rattle.user_model.specs.Runs.{HaveGone}
 use Rattle.plan_model.specs.Loads.{Places, is_loaded}
 use Rattle.system_model.specs.Run.{Run}
 use Rattle.system_model.specs.Cases.{user_at, with_user}
-use Rattle.system_model.specs.Runs.{passed}
+use Rattle.system_model.specs.Runs.{passed, elapsed}
 use Rattle.system_model.proofs.PassLaws.{elapsed_is, elapsed_users, elapsed_entries}
 use Rattle.user_cores.specs.Backing.{Held}
 use Rattle.supervisor.specs.Seen.{seen}
 use Rattle.supervisor.specs.Steps.{IsTied}
 use Rattle.supervisor.proofs.Passing.{does_many}
-use Rattle.supervisor.proofs.Serving.{resized_none}
+use Rattle.supervisor.proofs.Serving.{resized_none, with_users}
 use Rattle.supervisor.proofs.Tied.{tied_with}
 use Rattle.supervisor.proofs.state.State.work.Goals as goal
 
@@ -26,12 +26,14 @@ returns-clause-many g c =
     let u : ℕ = c.args.v.user in
     let n : ℕ = c.advance-ticks.result in
     let p : User = c.advance-ticks.new.session in
-    let window : Stored = (g.C.Backing.state c.args.cores.now).window c.of-user.result in
-    let after : Stored = (g.C.Backing.state c.advance-ticks.new.self).window c.of-user.result in
+    let window : Stored = (g.C.Backing.state c.args.cores.now).window u in
+    let after : Stored = (g.C.Backing.state c.advance-ticks.new.self).window u in
     let within : u - 1 < length users = omega (arith, c.requires.user.some, c.requires.user.within) in
-    let same : user_at u users ≡ c.index_mut-session.result.now = get_or_default users (u - 1) nobody c.index_mut-session.result.now within ∙ sym c.index_mut-session.ensures.value in
+    let place : c.index.result ≡ u - 1 = c.index.ensures.value in
+    let same : user_at u users ≡ c.index_mut-session.result.now = get_or_default users (u - 1) nobody c.index_mut-session.result.now within ∙ ap (λ (k : ℕ). get_or users k c.index_mut-session.result.now) (sym place) ∙ sym c.index_mut-session.ensures.value in
     let is : seen has.places c.count_ticks.new.self ≡ passed n c.args.v p old =
-    ap (λ (q : Places). seen q c.count_ticks.new.self) c.advance-ticks.ensures.worked.places ∙ c.count_ticks.ensures had.places ∙ elapsed_is n c.args.v p old in
+    ap (λ (q : Places). seen q c.count_ticks.new.self) c.advance-ticks.ensures.worked.places ∙ c.count_ticks.ensures had.places
+    ∙ (λ j. elapsed n c.args.v (with_users old (set users (place j) p) old.system.entries)) ∙ elapsed_is n c.args.v p old in
     let most : n ≤ c.args.most = c.advance-ticks.ensures.most in
     does_many c.args.limit n c.args.next.level (record { user = c.args.next.user; left = c.args.next.left }) c.args.v p old (seen has.places c.count_ticks.new.self) had has window after.core
     c.requires.user c.requires.serves c.requires.first c.requires.mine
@@ -41,9 +43,9 @@ returns-clause-many g c =
     (ap not (ap (is_loaded had.places u) (sym (c.requires.held.tied.has u c.requires.user.some c.requires.user.within)) ∙ c.requires.loaded))
     (subst (λ (q : User). HaveGone n q p window.core after.core) (sym same) c.advance-ticks.ensures.gone)
     is
-    (λ told. ap had.stores (sym c.of-user.ensures) ∙ c.advance-ticks.ensures.worked.was told)
-    (λ told. ap has.stores (sym c.of-user.ensures) ∙ c.advance-ticks.ensures.worked.mine told ∙ (λ j. record { core = after.core; files = c.advance-ticks.ensures.files j }))
-    (λ x other. c.advance-ticks.ensures.worked.rest.others x (omega arith) (λ e. other (e ∙ c.of-user.ensures)))
+    (λ told. c.advance-ticks.ensures.worked.was told)
+    (λ told. c.advance-ticks.ensures.worked.mine told ∙ (λ j. record { core = after.core; files = c.advance-ticks.ensures.files j }))
+    (λ x other. c.advance-ticks.ensures.worked.rest.others x (omega arith) other)
     c.advance-ticks.ensures.worked.rest.tells c.advance-ticks.ensures.worked.rest.rules.common
 
 pub returns-clause-tied : goal.returns-clause-tied
@@ -54,8 +56,9 @@ returns-clause-tied g c =
     let u : ℕ = c.args.v.user in
     let p : User = c.advance-ticks.new.session in
     let within : u - 1 < length users = omega (arith, c.requires.user.some, c.requires.user.within) in
-    let same : user_at u users ≡ c.index_mut-session.result.now = get_or_default users (u - 1) nobody c.index_mut-session.result.now within ∙ sym c.index_mut-session.ensures.value in
-    let are : c.count_ticks.new.self.sessions.items ≡ with_user u p users = ap (λ (r : Run). r.system.users) (c.count_ticks.ensures had.places) ∙ elapsed_users c.advance-ticks.result c.args.v _ in
+    let place : c.index.result ≡ u - 1 = c.index.ensures.value in
+    let same : user_at u users ≡ c.index_mut-session.result.now = get_or_default users (u - 1) nobody c.index_mut-session.result.now within ∙ ap (λ (k : ℕ). get_or users k c.index_mut-session.result.now) (sym place) ∙ sym c.index_mut-session.ensures.value in
+    let are : c.count_ticks.new.self.sessions.items ≡ with_user u p users = ap (λ (r : Run). r.system.users) (c.count_ticks.ensures had.places) ∙ elapsed_users c.advance-ticks.result c.args.v _ ∙ ap (λ (k : ℕ). set users k p) place in
     subst (λ (us : List User). IsTied us has) (sym are)
     (tied_with users 0 u p had has c.requires.user.some c.requires.user.within (resized_none (blocks_of p.inner) had has c.advance-ticks.ensures.worked.sizes c.advance-ticks.ensures.worked.rest.rules)
     (inr (refl, ap (λ (q : User). blocks_of q.inner) (c.advance-ticks.ensures.gone.left) ∙ ap (λ (q : User). blocks_of q.inner) (sym same)))

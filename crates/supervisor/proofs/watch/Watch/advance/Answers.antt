@@ -7,7 +7,7 @@ use Rattle.user_cores.specs.Backing.{Held}
 use Rattle.supervisor.specs.Seen.{seen}
 use Rattle.supervisor.proofs.Counting.{counted_same, counted_on}
 use Rattle.supervisor.proofs.Doing.{does_fall}
-use Rattle.supervisor.proofs.Serving.{fails_map, fails_both, fails_to, rose_on}
+use Rattle.supervisor.proofs.Serving.{fails_map, fails_both, fails_to}
 use Rattle.supervisor.proofs.Running.{sound_places, leads_on, part_on, part_none, run_done, held_on, part_shown, sound_still, stops_at_load}
 use Rattle.supervisor.specs.Steps.{IsHeld}
 use Rattle.supervisor.specs.Shows.{texts_of, rows_of}
@@ -15,6 +15,7 @@ use Rattle.supervisor.proofs.Passing.{pass_leads, pass_part, pass_falls, pass_he
 use Rattle.supervisor.proofs.Growing.{grow_none, grow_trans, step_grow, same_grow}
 use Rattle.supervisor.proofs.Seats.{does_seats, many_seats}
 use Rattle.supervisor.proofs.Watching.{texts_lead, texts_part, texts_none, texts_end, texts_stop}
+use Rattle.faults.proofs.Rises.{rose_later}
 use Rattle.supervisor.proofs.watch.Watch.advance.Goals as goal
 
 pub steps-init : goal.steps-init
@@ -103,7 +104,7 @@ returns-in-Err-clause-ended g c =
     (λ f. (stops_at_load c.args.limit start old (seen no_places c.step.new.self.state) first had _ _ _ inv.part c.steps-test.true inv.held.sound inv.counted f.2 (ap (λ (r : Run). r.system.entries) f.0) (ap (λ (r : Run). r.system.users) f.0) (ap (λ (r : Run). r.system.clock) f.0), search rules))
     (λ d. (
       part_shown c.args.limit start old (seen no_places c.step.new.self.state) first had inv.part (ap (λ (r : Run). r.system.entries) d.0) (ap (λ (r : Run). r.system.users) d.0) (ap (λ (r : Run). r.system.clock) d.0),
-      rose_on _ _ _ inv.disk d.1,
+      rose_later _ _ _ inv.disk d.1,
     ))
     c.in-Err.ensures.ended
 

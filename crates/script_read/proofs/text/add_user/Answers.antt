@@ -1,0 +1,6 @@
+use Rattle.text_writer.proofs.Added.{◌⨾◌}
+use Rattle.script_read.proofs.text.add_user.Goals as goal
+
+pub returns : goal.returns
+returns g c =
+    (c.add.ensures ⨾ c.number.ensures ⨾ c.name.ensures ⨾ c.name-2.ensures ⨾ c.number-2.ensures ⨾ c.number-3.ensures) ⨾ c.end_line.ensures

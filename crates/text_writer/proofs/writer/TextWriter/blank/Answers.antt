@@ -1,0 +1,5 @@
+use Rattle.text_writer.proofs.Added.{◌⨾◌}
+use Rattle.text_writer.proofs.writer.TextWriter.blank.Goals as goal
+
+pub returns : goal.returns
+returns g c = c.add.ensures ⨾ c.add-2.ensures

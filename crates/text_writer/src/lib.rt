@@ -1,0 +1,11 @@
+//! Texts on their way to a sink, piece by piece, in the parts that lines are made of.
+#![tactic(auto)]
+
+mod parts;
+mod piece;
+mod text;
+mod writer;
+
+pub use piece::Piece;
+pub use text::{Text, TextFault, write_text};
+pub use writer::TextWriter;

@@ -14,7 +14,7 @@ use std::alloc::{AllocError, Global};
 /// A line for each file, in order of making, and one for the tracks.
 #[tactic(auto, using(crate::proofs::Rows::rows_are))]
 pub fn listing<F: FilePort>(alloc: Global, files: &F) -> Result<LineList, NoMemory>
-    requires { F.Works files.now }
+    requires { F.Usable files.now }
     ensures { IfOk result (λ lines. lines ≡ listing_lines (F.quota files.now) (F.files files.now)) }
 {
     let rows = rows_of(files)?;
@@ -25,7 +25,7 @@ pub fn listing<F: FilePort>(alloc: Global, files: &F) -> Result<LineList, NoMemo
 
 /// A row for each file.
 fn rows_of<F: FilePort>(files: &F) -> Result<Listing, NoMemory>
-    requires { F.Works files.now }
+    requires { F.Usable files.now }
     ensures { IfOk result (λ rows. rows ≡ listing_of (F.files files.now)) }
 {
     match files.list() {

@@ -22,11 +22,11 @@ pub fn printed<F: FilePort>(
     name: FileName,
     files: &mut F,
 ) -> Result<LineList, PortFault>
-    requires works { F.Works files.old }
+    requires usable { F.Usable files.old }
     ensures answer { AnswersOver (F.tells files.old) (F.files files.old) result (λ fs. lines_got (got name fs)) }
     ensures left { ¬ IsErrOf result PortFault.Disk → F.files files.new ≡ F.files files.old }
-    ensures told { ¬ IsErrOf result PortFault.Disk → F.tells files.new ≡ F.tells files.old }
-    ensures works { ¬ IsErrOf result PortFault.Disk → F.Works files.new }
+    ensures telling { ¬ IsErrOf result PortFault.Disk → F.tells files.new ≡ F.tells files.old }
+    ensures usable { ¬ IsErrOf result PortFault.Disk → F.Usable files.new }
     ensures keeps { F.Keeps files.old files.new }
     ensures cause { IsErrOf result PortFault.Disk → Rose (F.faults files.old) (F.faults files.new) }
 {

@@ -29,14 +29,14 @@ pub enum PrepareFault {
 
 /// Reads what a file says as a deck, for a user of so many blocks.
 pub fn prepare<F: FilePort>(name: FileName, quota: u8, files: &mut F) -> Result<Deck, PrepareFault>
-    requires works { F.Works files.old }
+    requires usable { F.Usable files.old }
     ensures answer { PreparesOver (F.tells files.old) (F.files files.old) result (λ fs. deck_of quota (got name fs)) }
     ensures blocks { IfOk result (λ d. d.blocks ≤ quota) }
     ensures start { IfOk result (λ d. d.start < 256 * d.blocks) }
     ensures most { IfOk result (λ d. d.blocks ≤ 128) }
     ensures left { ¬ IsErrOf result PrepareFault.Disk → F.files files.new ≡ F.files files.old }
-    ensures told { ¬ IsErrOf result PrepareFault.Disk → F.tells files.new ≡ F.tells files.old }
-    ensures works { ¬ IsErrOf result PrepareFault.Disk → F.Works files.new }
+    ensures telling { ¬ IsErrOf result PrepareFault.Disk → F.tells files.new ≡ F.tells files.old }
+    ensures usable { ¬ IsErrOf result PrepareFault.Disk → F.Usable files.new }
     ensures keeps { F.Keeps files.old files.new }
     ensures cause { IsErrOf result PrepareFault.Disk → Rose (F.faults files.old) (F.faults files.new) }
 {
@@ -57,13 +57,13 @@ pub fn prepare_saved<F: FilePort>(
     quota: u8,
     files: &mut F,
 ) -> Result<u8, PrepareFault>
-    requires works { F.Works files.old }
+    requires usable { F.Usable files.old }
     ensures answer { PreparesOver (F.tells files.old) (F.files files.old) result (λ fs. saved_of quota (got name fs)) }
     ensures blocks { IfOk result (λ b. b ≤ quota) }
     ensures most { IfOk result (λ b. b ≤ 128) }
     ensures left { ¬ IsErrOf result PrepareFault.Disk → F.files files.new ≡ F.files files.old }
-    ensures told { ¬ IsErrOf result PrepareFault.Disk → F.tells files.new ≡ F.tells files.old }
-    ensures works { ¬ IsErrOf result PrepareFault.Disk → F.Works files.new }
+    ensures telling { ¬ IsErrOf result PrepareFault.Disk → F.tells files.new ≡ F.tells files.old }
+    ensures usable { ¬ IsErrOf result PrepareFault.Disk → F.Usable files.new }
     ensures keeps { F.Keeps files.old files.new }
     ensures cause { IsErrOf result PrepareFault.Disk → Rose (F.faults files.old) (F.faults files.new) }
 {
@@ -115,7 +115,7 @@ pub fn fill<M: MemoryPort, F: FilePort>(
     files: &mut F,
 ) -> Result<(), StepFault>
     requires start { StartsInCore fill.now }
-    requires works { F.Works files.old }
+    requires usable { F.Usable files.old }
     ensures filled { OnOk result (FillsOver (F.tells files.old) (F.files files.old) fill.now
         regs.old regs.new (M.words core.old) (M.words core.new)) }
     ensures ic { OnOk result (regs.new.ic < 2 ^ 15) }
@@ -123,8 +123,8 @@ pub fn fill<M: MemoryPort, F: FilePort>(
     ensures same_regs { OnErr result (regs.new ≡ regs.old) }
     ensures core_keeps { M.Keeps core.old core.new }
     ensures left { ¬ IsErrOf result StepFault.Disk → F.files files.new ≡ F.files files.old }
-    ensures told { ¬ IsErrOf result StepFault.Disk → F.tells files.new ≡ F.tells files.old }
-    ensures works { ¬ IsErrOf result StepFault.Disk → F.Works files.new }
+    ensures telling { ¬ IsErrOf result StepFault.Disk → F.tells files.new ≡ F.tells files.old }
+    ensures usable { ¬ IsErrOf result StepFault.Disk → F.Usable files.new }
     ensures keeps { F.Keeps files.old files.new }
     ensures cause { IsErrOf result StepFault.Disk → Rose (F.faults files.old) (F.faults files.new) }
 {

@@ -11,14 +11,14 @@ use file_map::{FilePort, PortFault};
 
 /// Does an operation on the common files and gives its reply, which may be a refusal. Where memory lacked the files are as before.
 pub fn apply<F: FilePort>(op: &CommonOp, files: &mut F) -> Result<Reply, PortFault>
-    requires works { F.Works files.old }
+    requires usable { F.Usable files.old }
     ensures done { IfOk result (λ reply. IsApplied (F.tells files.old) (F.quota files.old)
         op.now reply (F.files files.old) (F.files files.new)) }
     ensures fits { IfOk result ReplyFits }
     ensures memory { IsErrOf result PortFault.NoMemory → F.files files.new ≡ F.files files.old }
     ensures fault { IsNoRefusal result }
-    ensures told { ¬ IsErrOf result PortFault.Disk → F.tells files.new ≡ F.tells files.old }
-    ensures works { ¬ IsErrOf result PortFault.Disk → F.Works files.new }
+    ensures telling { ¬ IsErrOf result PortFault.Disk → F.tells files.new ≡ F.tells files.old }
+    ensures usable { ¬ IsErrOf result PortFault.Disk → F.Usable files.new }
     ensures keeps { F.Keeps files.old files.new }
     ensures cause { IsErrOf result PortFault.Disk → Rose (F.faults files.old) (F.faults files.new) }
 {

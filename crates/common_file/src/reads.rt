@@ -12,7 +12,7 @@ use file_map::{FilePort, PortFault};
 /// Tells a file's size.
 #[tactic(auto, using(crate::proofs::Replies::stat_told, crate::proofs::Replies::stat_refused))]
 pub(crate) fn size_of_file<F: FilePort>(name: FileName, files: &F) -> Result<Reply, PortFault>
-    requires works { F.Works files.now }
+    requires usable { F.Usable files.now }
     ensures done { IfOk result (λ reply. IsApplied (F.tells files.now) (F.quota files.now)
         (CommonOp.Stat name) reply (F.files files.now) (F.files files.now)) }
     ensures fits { IfOk result ReplyFits }
@@ -34,14 +34,14 @@ pub(crate) fn read_words<F: FilePort>(
     count: u16,
     files: &mut F,
 ) -> Result<Reply, PortFault>
-    requires works { F.Works files.old }
+    requires usable { F.Usable files.old }
     ensures done { IfOk result (λ reply. IsApplied (F.tells files.old) (F.quota files.old)
         (CommonOp.Read name place count) reply (F.files files.old) (F.files files.new)) }
     ensures fits { IfOk result ReplyFits }
     ensures memory { IsErrOf result PortFault.NoMemory → F.files files.new ≡ F.files files.old }
     ensures fault { IsNoRefusal result }
-    ensures told { ¬ IsErrOf result PortFault.Disk → F.tells files.new ≡ F.tells files.old }
-    ensures works { ¬ IsErrOf result PortFault.Disk → F.Works files.new }
+    ensures telling { ¬ IsErrOf result PortFault.Disk → F.tells files.new ≡ F.tells files.old }
+    ensures usable { ¬ IsErrOf result PortFault.Disk → F.Usable files.new }
     ensures keeps { F.Keeps files.old files.new }
     ensures cause { IsErrOf result PortFault.Disk → Rose (F.faults files.old) (F.faults files.new) }
 {
@@ -56,14 +56,14 @@ pub(crate) fn read_words<F: FilePort>(
 /// Reads all words of a file.
 #[tactic(auto, using(crate::proofs::Replies::get_told, crate::proofs::Replies::get_refused))]
 pub(crate) fn get_words<F: FilePort>(name: FileName, files: &mut F) -> Result<Reply, PortFault>
-    requires works { F.Works files.old }
+    requires usable { F.Usable files.old }
     ensures done { IfOk result (λ reply. IsApplied (F.tells files.old) (F.quota files.old)
         (CommonOp.Get name) reply (F.files files.old) (F.files files.new)) }
     ensures fits { IfOk result ReplyFits }
     ensures memory { IsErrOf result PortFault.NoMemory → F.files files.new ≡ F.files files.old }
     ensures fault { IsNoRefusal result }
-    ensures told { ¬ IsErrOf result PortFault.Disk → F.tells files.new ≡ F.tells files.old }
-    ensures works { ¬ IsErrOf result PortFault.Disk → F.Works files.new }
+    ensures telling { ¬ IsErrOf result PortFault.Disk → F.tells files.new ≡ F.tells files.old }
+    ensures usable { ¬ IsErrOf result PortFault.Disk → F.Usable files.new }
     ensures keeps { F.Keeps files.old files.new }
     ensures cause { IsErrOf result PortFault.Disk → Rose (F.faults files.old) (F.faults files.new) }
 {

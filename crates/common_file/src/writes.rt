@@ -18,14 +18,14 @@ pub(crate) fn write_words<F: FilePort>(
     words: &[Word],
     files: &mut F,
 ) -> Result<Reply, PortFault>
-    requires works { F.Works files.old }
+    requires usable { F.Usable files.old }
     ensures done { IfOk result (λ reply. IsApplied (F.tells files.old) (F.quota files.old)
         (CommonOp.Write name place words.now) reply (F.files files.old) (F.files files.new)) }
     ensures fits { IfOk result ReplyFits }
     ensures memory { IsErrOf result PortFault.NoMemory → F.files files.new ≡ F.files files.old }
     ensures fault { IsNoRefusal result }
-    ensures told { ¬ IsErrOf result PortFault.Disk → F.tells files.new ≡ F.tells files.old }
-    ensures works { ¬ IsErrOf result PortFault.Disk → F.Works files.new }
+    ensures telling { ¬ IsErrOf result PortFault.Disk → F.tells files.new ≡ F.tells files.old }
+    ensures usable { ¬ IsErrOf result PortFault.Disk → F.Usable files.new }
     ensures keeps { F.Keeps files.old files.new }
     ensures cause { IsErrOf result PortFault.Disk → Rose (F.faults files.old) (F.faults files.new) }
 {
@@ -44,14 +44,14 @@ pub(crate) fn put_words<F: FilePort>(
     words: &[Word],
     files: &mut F,
 ) -> Result<Reply, PortFault>
-    requires works { F.Works files.old }
+    requires usable { F.Usable files.old }
     ensures done { IfOk result (λ reply. IsApplied (F.tells files.old) (F.quota files.old)
         (CommonOp.Put name words.now) reply (F.files files.old) (F.files files.new)) }
     ensures fits { IfOk result ReplyFits }
     ensures memory { IsErrOf result PortFault.NoMemory → F.files files.new ≡ F.files files.old }
     ensures fault { IsNoRefusal result }
-    ensures told { ¬ IsErrOf result PortFault.Disk → F.tells files.new ≡ F.tells files.old }
-    ensures works { ¬ IsErrOf result PortFault.Disk → F.Works files.new }
+    ensures telling { ¬ IsErrOf result PortFault.Disk → F.tells files.new ≡ F.tells files.old }
+    ensures usable { ¬ IsErrOf result PortFault.Disk → F.Usable files.new }
     ensures keeps { F.Keeps files.old files.new }
     ensures cause { IsErrOf result PortFault.Disk → Rose (F.faults files.old) (F.faults files.new) }
 {
@@ -66,15 +66,15 @@ pub(crate) fn put_words<F: FilePort>(
 /// Takes a file out.
 #[tactic(auto, using(crate::proofs::Replies::delete_done, crate::proofs::Replies::delete_refused))]
 pub(crate) fn delete_file<F: FilePort>(name: FileName, files: &mut F) -> Result<Reply, PortFault>
-    requires works { F.Works files.old }
+    requires usable { F.Usable files.old }
     ensures done { IfOk result (λ reply. IsApplied (F.tells files.old) (F.quota files.old)
         (CommonOp.Delete name) reply (F.files files.old) (F.files files.new)) }
     ensures fits { IfOk result ReplyFits }
     ensures fault { IsNoRefusal result }
     ensures disk { ¬ IsErrOf result PortFault.Disk }
     ensures memory { ¬ IsErrOf result PortFault.NoMemory }
-    ensures told { F.tells files.new ≡ F.tells files.old }
-    ensures works { F.Works files.new }
+    ensures telling { F.tells files.new ≡ F.tells files.old }
+    ensures usable { F.Usable files.new }
     ensures keeps { F.Keeps files.old files.new }
 {
     match files.delete(name) {

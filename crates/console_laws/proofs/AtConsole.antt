@@ -95,10 +95,6 @@ hangs_at c k (suc i) tick (false ∷ failed) is = hangs_at c (suc k) i tick fail
 
 -- what was read
 
-abbrev pub said_more : Option Talk → List Event → Bool → List Event
-said_more None items over = []
-said_more (Some t) items over = items ++ if_over over (Hang ∷ [])
-
 one_heard_there : (c k tick : ℕ) (s : Option Talk) (reads : List Gave) (over : Bool) → k ≢ c → events_at c (events_heard tick k s reads over) ≡ []
 one_heard_there c k tick None reads over ne = refl
 one_heard_there c k tick (Some t) reads true ne =

@@ -29,13 +29,6 @@ accept_quiet ids k p = by_test (nat_lt (length ids) 32)
 abbrev pub Begins : List ℕ → List ℕ → Type 0
 Begins xs whole = (more : List ℕ) × (whole ≡ xs ++ more)
 
-ended_puts : {X : Type 0} (p : Wrote) (puts : List Wrote) → p ∷ puts ≡ [] → X
-ended_puts {X} p puts is = absurd (subst IsCons is tt)
-  where
-    IsCons : List Wrote → Type 0
-    IsCons [] = ⊥
-    IsCons (x ∷ xs) = Unit {0}
-
 none_sent : (bytes : List ℕ) (puts : List Wrote) → bytes ≡ [] → puts ≡ [] → bytes ++ sent_of puts ≡ []
 none_sent bytes puts is none = (λ i. is i ++ sent_of (none i))
 

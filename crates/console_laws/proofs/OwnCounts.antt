@@ -21,10 +21,6 @@ not_named : (s t : Bool) → (if s then true else t) ≡ false → s ≡ false
 not_named true t is = false_is is
 not_named false t is = refl
 
-not_given : (s t : Bool) → (if s then true else t) ≡ false → t ≡ false
-not_given true t is = false_is is
-not_given false t is = is
-
 no_read : (k : ℕ) (d : Done) → is_at (names d) k ≡ false → reads_at d k ≡ false
 no_read k (DidOpen failed) is = refl
 no_read k (DidAccept answer) is = refl

@@ -17,9 +17,6 @@ pub rises : (must : Bool) (old new : ℕ) → Rises true must old new → old �
 rises true old new h = h.0
 rises false old new h = h
 
-rose_before : (old mid new : ℕ) → Rose old mid → mid ≤ new → Rose old new
-rose_before old mid new rose le = omega (arith, rose, le)
-
 -- a read on a connection: its counts of faults and of reads that were not ready
 faults_of : (id : ℕ) (answer : LinkGot) (bytes : List ℕ) (a b : LinkSeen) → Did (DidRead id answer bytes) a b → Rises true (is_failed (DidRead id answer bytes)) (a.counts id).faults (b.counts id).faults
 faults_of id answer bytes a b did = subst (λ (t : Bool). Rises t (is_failed (DidRead id answer bytes)) (a.counts id).faults (b.counts id).faults) (same_number id) ((did.counts id).faults)

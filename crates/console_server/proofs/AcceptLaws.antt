@@ -19,31 +19,6 @@ use Rattle.console_server.proofs.Following.{did_both, did_one, given_both}
 same_number : (n : ℕ) → nat_eq n n ≡ true
 same_number n = grind (arith, nat_tests)
 
--- a number that is not open is that of no seat
-pub not_seated : (is_open : ℕ → Bool) (seats : List (Option Task)) (id : ℕ) → AreSeated is_open seats → is_open id ≡ false → (c : ℕ) → IsNotOf (get_or seats c None) id
-not_seated is_open seats id s closed c = by_seat (get_or seats c None) (s.opens c)
-  where
-    by_seat : (t : Option Task) → SeatIsOpen is_open t → IsNotOf t id
-    by_seat None h = tt
-    by_seat (Some t) h = λ same. false≢true (sym closed ∙ ap is_open same ∙ h)
-
-open_still : (before after : ℕ → Bool) (t : Option Task) → ((k : ℕ) → before k ≡ true → after k ≡ true) → SeatIsOpen before t → SeatIsOpen after t
-open_still before after None more h = tt
-open_still before after (Some t) more h = more t.id h
-
-pub seated_still : (before after : ℕ → Bool) (seats : List (Option Task)) → ((k : ℕ) → before k ≡ true → after k ≡ true) → AreSeated before seats → AreSeated after seats
-seated_still before after seats more s = record { opens = λ c. open_still before after (get_or seats c None) more (s.opens c); others = s.others }
-
-pub new_is_open : (id : ℕ) (a b : LinkSeen) → Did (DidAccept (accepted.New id)) a b → b.is_open id ≡ true
-new_is_open id a b did = did.opens id ∙ ap (λ (t : Bool). if t then true else a.is_open id) (same_number id)
-
-pub open_more : (id : ℕ) (a b : LinkSeen) → Did (DidAccept (accepted.New id)) a b → (k : ℕ) → a.is_open k ≡ true → b.is_open k ≡ true
-open_more id a b did k h = did.opens k ∙ by_test (nat_eq k id)
-  where
-    by_test : (t : Bool) → (if t then true else a.is_open k) ≡ true
-    by_test true = refl
-    by_test false = h
-
 module _ (texts : List (List ℕ)) where
   calls_end : (seats : List (Option Talk)) (ids : List ℕ) (id : ℕ) → calls_accepted texts seats (ids ++ id ∷ []) ≡ calls_accepted texts seats ids ++ DidAccept (accepted.New id) ∷ calls_of_new (free_from 1 (seated texts seats ids)) id
   calls_end seats [] id = ap (λ (l : List Done). DidAccept (accepted.New id) ∷ l) (append-nil (calls_of_new (free_from 1 seats) id))

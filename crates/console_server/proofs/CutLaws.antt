@@ -168,9 +168,6 @@ closes_no_task s a is = subst (λ (t : Option Task). DidAll (closes_of t) a a) (
 pub closes_task : (s : Option Task) (task : Task) (a b : LinkSeen) → s ≡ Some task → Did (DidClose task.id) a b → DidAll (closes_of s) a b
 closes_task s task a b is did = subst (λ (t : Option Task). DidAll (closes_of t) a b) (sym is) (Then (DidClose task.id) [] a b b did (Nothing b))
 
-pub close_none : (a : LinkSeen) (seats : List (Option Task)) → DidAll (closes (take 0 seats)) a a
-close_none a seats = Nothing a
-
 pub close_next : (seats : List (Option Task)) (i : ℕ) (was : Option Task) (a b c : LinkSeen) → i < length seats → was ≡ get_or seats i None → DidAll (closes (take i seats)) a b → DidAll (closes_of was) b c → DidAll (closes (take (i + 1) seats)) a c
 close_next seats i was a b c lt is before here =
     subst (λ (ds : List Done). DidAll ds a c)

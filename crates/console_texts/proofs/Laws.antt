@@ -13,7 +13,7 @@ use Rattle.console_texts.specs.declared.row.Piece.{Piece}
 use Rattle.console_texts.specs.declared.row.Piece.TheVariants.{PasswordAsked, LoginRefused, Wrote}
 use Rattle.console_texts.specs.declared.row.Tail.{Tail}
 use Rattle.console_texts.specs.Parts.{Shown, Transcripts, piece_text, tail_text, text_of, IsPiece, IsTail, Fits, Extends, AreLengths, wrote, refusal_lines, password_lines, said_by}
-use Rattle.console_texts.specs.Following.{asks, closed_by, closed, begun, told, piece_if, goes_on, turned, settled}
+use Rattle.console_texts.specs.Following.{asks, closed_by, closed, begun, login_answered, piece_if, goes_on, turned, settled}
 
 same_number : (m n : ℕ) → nat_eq m n ≡ true → m ≡ n
 same_number m n e = grind (arith, e)
@@ -37,9 +37,6 @@ sent_more n xs more h = ap (λ (is : List Item). sent (written is)) (drop-append
 -- what a user newly wrote is what its transcript gained
 wrote_is : (u : ℕ) (ts us : Transcripts) (e : Extends ts us) → wrote u ts us ≡ written (e u).0
 wrote_is u ts us e = ap (λ (is : List Item). written (drop (length (at [] ts u)) is)) (e u).1 ∙ ap written (drop-append_seam (at [] ts u) (e u).0)
-
-wrote_none : (ts us : Transcripts) → wrote 0 ts us ≡ []
-wrote_none ts us = refl
 
 -- parts that stand for good, as the transcripts grow
 
@@ -164,8 +161,8 @@ told_pieces ts false true = refl
 told_pieces ts true false = refl
 told_pieces ts true true = refl
 
-told_text : (ts : Transcripts) (asked refused : Bool) (s : Shown) → s.tail ≡ None → text_of ts (told asked refused s) ≡ text_of ts s ++ sent (password_lines asked ++ refusal_lines refused)
-unfolding told
+told_text : (ts : Transcripts) (asked refused : Bool) (s : Shown) → s.tail ≡ None → text_of ts (login_answered asked refused s) ≡ text_of ts s ++ sent (password_lines asked ++ refusal_lines refused)
+unfolding login_answered
 told_text ts asked refused s none =
     ap (λ (t : Option Tail). flat_map (piece_text ts) (s.pieces ++ (piece_if asked PasswordAsked ++ piece_if refused LoginRefused)) ++ tail_text ts t) none
     ∙ append-nil (flat_map (piece_text ts) (s.pieces ++ (piece_if asked PasswordAsked ++ piece_if refused LoginRefused)))
@@ -179,12 +176,12 @@ told_all ts false true = one_all ts LoginRefused tt
 told_all ts true false = one_all ts PasswordAsked tt
 told_all ts true true = all_append ts (PasswordAsked ∷ []) (LoginRefused ∷ []) (one_all ts PasswordAsked tt) (one_all ts LoginRefused tt)
 
-told_fits : (ts : Transcripts) (asked refused : Bool) (u : ℕ) (s : Shown) → Fits ts u s → Fits ts u (told asked refused s)
-unfolding told
+told_fits : (ts : Transcripts) (asked refused : Bool) (u : ℕ) (s : Shown) → Fits ts u s → Fits ts u (login_answered asked refused s)
+unfolding login_answered
 told_fits ts asked refused u s h = record { pieces = all_append ts s.pieces (piece_if asked PasswordAsked ++ piece_if refused LoginRefused) h.pieces (told_all ts asked refused); tail = h.tail }
 
-told_tail : (asked refused : Bool) (s : Shown) → s.tail ≡ None → (told asked refused s).tail ≡ None
-unfolding told
+told_tail : (asked refused : Bool) (s : Shown) → s.tail ≡ None → (login_answered asked refused s).tail ≡ None
+unfolding login_answered
 told_tail asked refused s none = none
 
 -- a session is shown
@@ -219,7 +216,7 @@ turned_both ts before are was now refused s h = by_going (goes_on was now refuse
     c = closed before s
 
     t : Shown
-    t = told (asks was now) refused c
+    t = login_answered (asks was now) refused c
 
     none : c.tail ≡ None
     none = closed_tail before s

@@ -22,7 +22,7 @@ use Rattle.system_model.specs.Run.{Run, State, next, due_of}
 use Rattle.system_model.specs.Sound.{Sound}
 use Rattle.system_model.proofs.RunLaws.{ends}
 use Rattle.console_texts.specs.Parts.{Shown, Transcripts, text_of, Fits, Extends, AreLengths, wrote, refusal_lines, said_by}
-use Rattle.console_texts.specs.Following.{asks, closed_by, closed, begun, told, goes_on, turned, settled, followed, settled_in, Numbered, AreShown}
+use Rattle.console_texts.specs.Following.{asks, closed_by, closed, begun, login_answered, goes_on, turned, settled, followed, settled_in, Numbered, AreShown}
 use Rattle.console_texts.specs.Watching.{transcripts_of, watch, texts_next, texts_to, AfterShown, refused_by}
 use Rattle.console_texts.proofs.Laws.{step_text, text_grown, fit_grown}
 use Rattle.console_texts.proofs.Steps.{next_tells, next_rests}
@@ -114,17 +114,17 @@ begun_number u lens x = by_test (nat_eq u 0)
     by_test true = refl
     by_test false = refl
 
-told_number : (asked refused : Bool) (x : Shown) → (told asked refused x).number ≡ x.number
-unfolding told
+told_number : (asked refused : Bool) (x : Shown) → (login_answered asked refused x).number ≡ x.number
+unfolding login_answered
 told_number asked refused x = refl
 
 turned_number : (was now : Console) (refused : Bool) (before : List ℕ) (x : Shown) → (turned was now refused before x).number ≡ x.number
 unfolding turned
 turned_number was now refused before x = by_test (goes_on was now refused)
   where
-    by_test : (b : Bool) → (cond b x (begun (shows was now) before (told (asks was now) refused (closed before x)))).number ≡ x.number
+    by_test : (b : Bool) → (cond b x (begun (shows was now) before (login_answered (asks was now) refused (closed before x)))).number ≡ x.number
     by_test true = refl
-    by_test false = begun_number (shows was now) before (told (asks was now) refused (closed before x)) ∙ told_number (asks was now) refused (closed before x) ∙ closed_number before x
+    by_test false = begun_number (shows was now) before (login_answered (asks was now) refused (closed before x)) ∙ told_number (asks was now) refused (closed before x) ∙ closed_number before x
 
 settled_number : (now : Console) (after : List ℕ) (x : Shown) → (settled now after x).number ≡ x.number
 unfolding settled
@@ -178,7 +178,7 @@ lengths_are ts (suc n) = get_or-map (λ (is : List Item). length is) ts n []
 
 turned_still : (was now : Console) (before : List ℕ) (x : Shown) → goes_on was now false ≡ true → turned was now false before x ≡ x
 unfolding turned
-turned_still was now before x e = ap (λ (b : Bool). cond b x (begun (shows was now) before (told (asks was now) false (closed before x)))) e
+turned_still was now before x e = ap (λ (b : Bool). cond b x (begun (shows was now) before (login_answered (asks was now) false (closed before x)))) e
 
 by_rest : (r : Run) (s t : State) (after : List ℕ) (more : List Entry) → Extends (transcripts_of s.users) (transcripts_of t.users) → AreLengths after (transcripts_of t.users)
     → t.entries ≡ s.entries ++ more → ((c : ℕ) → refusals c more ≡ []) → ((c : ℕ) → goes_on (at Off s.consoles c) (at Off t.consoles c) false ≡ true)
@@ -281,7 +281,7 @@ module _ (limit : ℕ) (r : Run) where
   Watching = Watched User Plan (List FileBody)
 
   abbrev before : Watching → Bool
-  before y = whole.before (machine user_rows) (W r) limit y.system
+  before y = whole.clock_is_below (machine user_rows) (W r) limit y.system
 
   abbrev step : Watching → Watching
   step = next_watched (machine user_rows) (W r) limit
@@ -320,7 +320,7 @@ shown_on limit old r shown texts h up =
     let y : Watched User Plan (List FileBody) = repeat (before limit old) (step limit old) h.0 (watch old shown) in
     let along : y.system ≡ whole.iterate (machine user_rows) (W old) limit h.0 old.system = goes_along limit old h.0 (watch old shown) in
     let here : y.system ≡ r.system = along ∙ sym (ap (λ (q : Run). q.system) h.1) in
-    let runs : before limit old y ≡ true = ap (λ (s : State). whole.before (machine user_rows) (W old) limit s) here ∙ lt-ltb r.system.clock limit up in
+    let runs : before limit old y ≡ true = ap (λ (s : State). whole.clock_is_below (machine user_rows) (W old) limit s) here ∙ lt-ltb r.system.clock limit up in
     let last = laws.repeat-last (before limit old) (step limit old) (measure limit old) (falls limit old) h.0 (watch old shown) runs in
     let once : whole.iterate (machine user_rows) (W old) limit (suc h.0) old.system ≡ theory.next (machine user_rows) (W old) limit (whole.iterate (machine user_rows) (W old) limit h.0 old.system) =
     sym (goes_along limit old (suc h.0) (watch old shown)) ∙ ap (λ (z : Watched User Plan (List FileBody)). z.system) last ∙ ap (theory.next (machine user_rows) (W old) limit) along in (

@@ -40,8 +40,8 @@ piece_if false p = []
 piece_if true p = p ∷ []
 
 -- the texts of a login
-unfoldable pub told : Bool → Bool → Shown → Shown
-told asked refused s = record s { pieces = s.pieces ++ (piece_if asked PasswordAsked ++ piece_if refused LoginRefused) }
+unfoldable pub login_answered : Bool → Bool → Shown → Shown
+login_answered asked refused s = record s { pieces = s.pieces ++ (piece_if asked PasswordAsked ++ piece_if refused LoginRefused) }
 
 -- nothing is told, and the same session is shown
 abbrev pub goes_on : Console → Console → Bool → Bool
@@ -49,7 +49,7 @@ goes_on was now refused = not (asks was now) && (not refused && nat_eq (shows wa
 
 -- before what users newly wrote
 unfoldable pub turned : Console → Console → Bool → List ℕ → Shown → Shown
-turned was now refused before s = if goes_on was now refused then s else begun (shows was now) before (told (asks was now) refused (closed before s))
+turned was now refused before s = if goes_on was now refused then s else begun (shows was now) before (login_answered (asks was now) refused (closed before s))
 
 -- behind what users newly wrote
 unfoldable pub settled : Console → List ℕ → Shown → Shown

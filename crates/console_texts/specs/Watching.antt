@@ -33,7 +33,7 @@ texts_to limit r texts = (watched_to (machine user_rows) (round r.swap r.common 
 unfoldable pub AfterShown : ℕ → (old new : Run) → (shown shows : List (List ℕ)) → Type 0
 AfterShown limit old new shown shows =
     (n : ℕ) × (new ≡ record old { system = whole.iterate (machine user_rows) (round old.swap old.common old.accounts) limit n old.system })
-    × (shows ≡ (repeat (λ (y : Watched User Plan (List FileBody)). whole.before (machine user_rows) (round old.swap old.common old.accounts) limit y.system) (next_watched (machine user_rows) (round old.swap old.common old.accounts) limit) n (watch old shown)).texts)
+    × (shows ≡ (repeat (λ (y : Watched User Plan (List FileBody)). whole.clock_is_below (machine user_rows) (round old.swap old.common old.accounts) limit y.system) (next_watched (machine user_rows) (round old.swap old.common old.accounts) limit) n (watch old shown)).texts)
 
 -- the console at which the last entry says that a login was refused, or 0
 abbrev pub refused_by : List Entry → ℕ

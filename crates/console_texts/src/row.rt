@@ -1,7 +1,7 @@
 //! What one console has shown.
 ghost use Rattle.std.specs.Prelude.{◌≡◌, ◌<◌, ◌≤◌, ◌+◌, ◌-◌, ◌^◌, ◌++◌, ◌∷◌, [], ℕ, List, None, min, length, nat_eq, OnOk};
 ghost use Rattle.time_sharing.specs.System.{Off};
-ghost use Rattle.console_texts.specs.Following.{closed, begun, told, turned, settled, followed, settled_in};
+ghost use Rattle.console_texts.specs.Following.{closed, begun, login_answered, turned, settled, followed, settled_in};
 ghost use Rattle.console_texts.specs.Parts.{text_of};
 ghost use Rattle.console_texts.specs.Copying.{IsCopied};
 
@@ -122,11 +122,11 @@ impl Row {
     }
 
     /// The texts of a login.
-    #[tactic(auto, unfolding(crate::specs::Following::told))]
+    #[tactic(auto, unfolding(crate::specs::Following::login_answered))]
     fn tell(&mut self, asked: bool, refused: bool)
         requires none { self.old.shown.tail ≡ None }
         requires room { 2 ≤ self.old.room }
-        ensures shown { self.new.shown ≡ told asked refused self.old.shown }
+        ensures shown { self.new.shown ≡ login_answered asked refused self.old.shown }
         ensures room { self.old.room ≤ self.new.room + 2 }
     {
         if asked {

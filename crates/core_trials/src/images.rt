@@ -51,14 +51,14 @@ fn put<D: Medium>(
     requires words { AreWords image.old.bank }
     ensures tables { image.new.tables ≡ image.old.tables }
     ensures words { AreWords image.new.bank }
-    ensures mine { image_in image.new.bank (D.rows image.new.tables.kept.drum.now) image.new.tables.owners
+    ensures mine { image_in image.new.bank (D.contents image.new.tables.kept.drum.now) image.new.tables.owners
         image.new.tables.kept.slots image.new.tables.sizes.items user
-        ≡ where_told (D.rows image.new.tables.kept.drum.now)
+        ≡ where_told (D.contents image.new.tables.kept.drum.now)
         (first (size_of image.new.tables.sizes.items user) (block_at image.new.bank)) }
     ensures others { (u : ℕ) → u ≢ user
-        → image_in image.new.bank (D.rows image.new.tables.kept.drum.now) image.new.tables.owners
+        → image_in image.new.bank (D.contents image.new.tables.kept.drum.now) image.new.tables.owners
         image.new.tables.kept.slots image.new.tables.sizes.items u
-        ≡ image_in image.old.bank (D.rows image.old.tables.kept.drum.now) image.old.tables.owners
+        ≡ image_in image.old.bank (D.contents image.old.tables.kept.drum.now) image.old.tables.owners
         image.old.tables.kept.slots image.old.tables.sizes.items u }
 {
     assert!(rt; image.resident(user));
@@ -100,12 +100,12 @@ fn does<D: Medium>(
 ) -> Result<(), DrumFault>
     requires quotas { image.old.tables.kept.slots.quotas.items ≡ quotas.now }
     requires words { AreWords image.old.bank }
-    requires serves { Serves (D.rows image.old.tables.kept.drum.now)
+    requires serves { Serves (D.contents image.old.tables.kept.drum.now)
         (D.record_count image.old.tables.kept.drum.now)
         (D.words_each image.old.tables.kept.drum.now) (records_of image.old.tables.kept.slots) }
     ensures same { image.new.tables.kept.drum.ghost_name ≡ image.old.tables.kept.drum.ghost_name }
     ensures words { AreWords image.new.bank }
-    ensures serves { Serves (D.rows image.new.tables.kept.drum.now)
+    ensures serves { Serves (D.contents image.new.tables.kept.drum.now)
         (D.record_count image.new.tables.kept.drum.now)
         (D.words_each image.new.tables.kept.drum.now) (records_of image.new.tables.kept.slots) }
     ensures quotas { image.new.tables.kept.slots.quotas ≡ image.old.tables.kept.slots.quotas }
@@ -157,7 +157,7 @@ fn runs<D: Medium>(
 ) -> Result<(), DrumFault>
     requires quotas { image.old.tables.kept.slots.quotas.items ≡ quotas.now }
     requires words { AreWords image.old.bank }
-    requires serves { Serves (D.rows image.old.tables.kept.drum.now)
+    requires serves { Serves (D.contents image.old.tables.kept.drum.now)
         (D.record_count image.old.tables.kept.drum.now)
         (D.words_each image.old.tables.kept.drum.now) (records_of image.old.tables.kept.slots) }
     ensures same { image.new.tables.kept.drum.ghost_name ≡ image.old.tables.kept.drum.ghost_name }

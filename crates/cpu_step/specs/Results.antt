@@ -24,10 +24,10 @@ stepped_by op_end.Went = stepped.Went
 stepped_by op_end.Halt = stepped.Halt
 stepped_by (op_end.Outside a) = stepped.Outside a
 
--- what neither goes on nor halts leaves everything as it was
+-- what neither goes on nor halts leaves everything as it was, and what halts stores nothing
 abbrev pub Stays : Stepped → Regs → Regs → List ℕ → List ℕ → Type 0
 Stays stepped.Went r s core d = Unit {0}
-Stays stepped.Halt r s core d = Unit {0}
+Stays stepped.Halt r s core d = d ≡ core
 Stays (stepped.Entry w) r s core d = (s ≡ r) × (d ≡ core)
 Stays stepped.Illegal r s core d = (s ≡ r) × (d ≡ core)
 Stays (stepped.Outside a) r s core d = (s ≡ r) × (d ≡ core)

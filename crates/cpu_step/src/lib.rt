@@ -5,7 +5,7 @@ ghost use Rattle.std.specs.Prelude.{◌≡◌, ◌≢◌, ◌<◌, ◌≤◌, �
 ghost use Rattle.opcode_table.specs.Table.{class_of, kind_of};
 ghost use Rattle.opcode_table.specs.Words.{HasFields, decoded};
 ghost use Rattle.word36.specs.Bits.{prefix_of};
-ghost use Rattle.machine_model.specs.Machine.{table, instruction, executed, once, done, row, is_xec, place_of, place_in, indexed};
+ghost use Rattle.machine_model.specs.Machine.{step_of, instruction, executed, once, done, row, is_xec, place_of, place_in, indexed};
 ghost use Rattle.machine_model.specs.Results.{ended};
 ghost use Rattle.machine_model.specs.Runs.{many};
 ghost use Rattle.machine_model.specs.Fixed.{fixed_row};
@@ -41,7 +41,7 @@ pub enum Stepped {
 #[inline]
 pub fn step<M: MemoryPort>(regs: &mut Regs, core: &mut M) -> Stepped
     requires { regs.old.ic < 2 ^ 15 }
-    ensures table { outcome result regs.new (M.words core.new) ≡ table regs.old (M.words core.old) }
+    ensures step_of { outcome result regs.new (M.words core.new) ≡ step_of regs.old (M.words core.old) }
     ensures stays { Stays result regs.old regs.new (M.words core.old) (M.words core.new) }
     ensures keeps { M.Keeps core.old core.new }
     ensures ic { regs.new.ic < 2 ^ 15 }
@@ -79,7 +79,7 @@ pub fn run<M: MemoryPort>(regs: &mut Regs, core: &mut M, most: u64) -> u64
 #[inline(always)]
 fn go<M: MemoryPort>(regs: &mut Regs, core: &mut M) -> bool
     requires { regs.old.ic < 2 ^ 15 }
-    ensures goes { result ≡ true → table regs.old (M.words core.old) ≡ went regs.new (M.words core.new) }
+    ensures goes { result ≡ true → step_of regs.old (M.words core.old) ≡ went regs.new (M.words core.new) }
     ensures regs { result ≡ false → regs.new ≡ regs.old }
     ensures core { result ≡ false → M.words core.new ≡ M.words core.old }
     ensures keeps { M.Keeps core.old core.new }

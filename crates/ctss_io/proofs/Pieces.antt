@@ -3,7 +3,7 @@ use Rattle.std.proofs.Common.{◌≡◌, ℕ, ◌+◌, ◌-◌, ◌≤◌, List,
 use Rattle.std.proofs.lemmas.List.{take_rest, take_at, drop-drop}
 use Rattle.std.proofs.Math.Seq.{take-add}
 use Rattle.std.specs.Prelude.{Option, None, Some}
-use Rattle.ctss_io.specs.Outside.{before, after}
+use Rattle.ctss_io.specs.Outside.{prepended, after}
 
 -- a prefix, and then one of the rest
 pub after_more : (o : Option (List ℕ)) (xs : List ℕ) (m n : ℕ)
@@ -27,10 +27,10 @@ piece_moved xs copied into at n within e =
     ∙ take-append-drop n (drop at xs))
 
 -- bytes, and then more of them, before what is left
-pub before_more : (xs ys : List ℕ) (o : Option (List ℕ)) → before xs (before ys o) ≡ before (xs ++ ys) o
+pub before_more : (xs ys : List ℕ) (o : Option (List ℕ)) → prepended xs (prepended ys o) ≡ prepended (xs ++ ys) o
 before_more xs ys None = refl
 before_more xs ys (Some zs) = ap (λ (l : List ℕ). Some l) (sym (append_assoc xs ys zs))
 
 -- two prefixes that went one after another are one prefix
-pub before_trans : (xs ys : List ℕ) (o p q : Option (List ℕ)) → o ≡ before xs p → p ≡ before ys q → o ≡ before (xs ++ ys) q
-before_trans xs ys o p q first then = first ∙ ap (λ (r : Option (List ℕ)). before xs r) then ∙ before_more xs ys q
+pub before_trans : (xs ys : List ℕ) (o p q : Option (List ℕ)) → o ≡ prepended xs p → p ≡ prepended ys q → o ≡ prepended (xs ++ ys) q
+before_trans xs ys o p q first then = first ∙ ap (λ (r : Option (List ℕ)). prepended xs r) then ∙ before_more xs ys q

@@ -11,9 +11,9 @@ abbrev pub next : ℕ → ℕ
 next n = min (n + 1) (2 ^ 64 - 1)
 
 -- these bytes, and then what is left, where that is told
-abbrev pub before : List ℕ → Option (List ℕ) → Option (List ℕ)
-before bytes None = None
-before bytes (Some rest) = Some (bytes ++ rest)
+abbrev pub prepended : List ℕ → Option (List ℕ) → Option (List ℕ)
+prepended bytes None = None
+prepended bytes (Some rest) = Some (bytes ++ rest)
 
 -- what is held, where that is told, and then these bytes
 abbrev pub after : Option (List ℕ) → List ℕ → Option (List ℕ)

@@ -3,7 +3,7 @@ use Rattle.std.specs.Prelude.{◌≡◌, ◌<◌, ◌≤◌, ℕ, List, length, 
 pub use Rattle.faults.specs.Faults.{WhereTold}
 use Rattle.ctss_io.specs.declared.whole.ReadEnd.{ReadEnd}
 use Rattle.ctss_io.specs.declared.whole.ReadEnd.TheVariants as ends
-use Rattle.ctss_io.specs.Outside.{before, after}
+use Rattle.ctss_io.specs.Outside.{prepended, after}
 
 -- a prefix of the text has come to what is held, where that is told
 abbrev pub GrewByPrefix : Option (List ℕ) → List ℕ → Option (List ℕ) → Type 0
@@ -15,11 +15,11 @@ GrewByProperPrefix old text new = (n : ℕ) × (n < length text) × (new ≡ aft
 
 -- so many bytes have gone from the front of what is left, where that is told
 abbrev pub ShrankBy : ℕ → Option (List ℕ) → Option (List ℕ) → Type 0
-ShrankBy n old new = (bytes : List ℕ) × (length bytes ≡ n) × (old ≡ before bytes new)
+ShrankBy n old new = (bytes : List ℕ) × (length bytes ≡ n) × (old ≡ prepended bytes new)
 
 -- at most so many bytes have gone from the front of what is left, where that is told
 abbrev pub ShrankByAtMost : ℕ → Option (List ℕ) → Option (List ℕ) → Type 0
-ShrankByAtMost n old new = (bytes : List ℕ) × (length bytes ≤ n) × (old ≡ before bytes new)
+ShrankByAtMost n old new = (bytes : List ℕ) × (length bytes ≤ n) × (old ≡ prepended bytes new)
 
 -- at least so many bytes are left, where that is told
 abbrev pub HasAtLeast : ℕ → Option (List ℕ) → Type 0

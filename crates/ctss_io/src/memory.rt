@@ -1,6 +1,6 @@
 //! A source and a sink in memory, which fail where they are told to.
 ghost use Rattle.std.specs.Prelude.{◌≡◌, ◌<◌, ◌≤◌, [], length, IfOk};
-ghost use Rattle.ctss_io.specs.Outside.{Rose, before, after, given, GotFits, taken, TookFits, IsAtEnd};
+ghost use Rattle.ctss_io.specs.Outside.{Rose, prepended, after, given, GotFits, taken, TookFits, IsAtEnd};
 ghost use Rattle.ctss_io.specs.Memory.{answer_of_read, source_after, buffer_after, answer_of_put, sink_after};
 
 use crate::outside::{Got, Sink, Source, Took};
@@ -77,9 +77,9 @@ impl Source for MemorySource {
     fn read(&mut self, into: &mut [u8]) -> Got
         requires { 0 < length into.old }
         ensures amount { GotFits result (length into.new) }
-        ensures moved { Some self.old.left ≡ before (given result into.new) (Some self.new.left) }
+        ensures moved { Some self.old.left ≡ prepended (given result into.new) (Some self.new.left) }
         ensures end { result ≡ Got.End → IsAtEnd (Some self.new.left) }
-        ensures kept { self.old.faults ≤ self.new.faults }
+        ensures faults_grow { self.old.faults ≤ self.new.faults }
         ensures cause { result ≡ Got.Failed → Rose self.old.faults self.new.faults }
 
         // In memory all is determined.
@@ -183,7 +183,7 @@ impl Sink for MemorySink {
         requires { 0 < length bytes.now }
         ensures amount { TookFits result (length bytes.now) }
         ensures moved { Some self.new.held ≡ after (Some self.old.held) (taken result bytes.now) }
-        ensures kept { self.old.faults ≤ self.new.faults }
+        ensures faults_grow { self.old.faults ≤ self.new.faults }
         ensures cause { result ≡ Took.Failed → Rose self.old.faults self.new.faults }
 
         // In memory all is determined.

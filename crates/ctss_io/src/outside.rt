@@ -1,6 +1,6 @@
 //! A source and a sink of bytes, as a program is handed them.
 ghost use Rattle.std.specs.Prelude.{◌≡◌, ◌<◌, ◌≤◌, ℕ, List, Option, length};
-ghost use Rattle.ctss_io.specs.Outside.{Rose, before, after, given, GotFits, taken, TookFits, IsAtEnd};
+ghost use Rattle.ctss_io.specs.Outside.{Rose, prepended, after, given, GotFits, taken, TookFits, IsAtEnd};
 
 /// What a read gave.
 #[derive(Clone, Copy, Debug, PartialEq, Eq)]
@@ -37,9 +37,9 @@ pub trait Source {
     fn read(&mut self, into: &mut [u8]) -> Got
         requires { 0 < length into.old }
         ensures amount { GotFits result (length into.new) }
-        ensures moved { left self.old ≡ before (given result into.new) (left self.new) }
+        ensures moved { left self.old ≡ prepended (given result into.new) (left self.new) }
         ensures end { result ≡ Got.End → IsAtEnd (left self.new) }
-        ensures kept { faults self.old ≤ faults self.new }
+        ensures faults_grow { faults self.old ≤ faults self.new }
         ensures cause { result ≡ Got.Failed → Rose (faults self.old) (faults self.new) };
 }
 
@@ -59,6 +59,6 @@ pub trait Sink {
         requires { 0 < length bytes.now }
         ensures amount { TookFits result (length bytes.now) }
         ensures moved { held self.new ≡ after (held self.old) (taken result bytes.now) }
-        ensures kept { faults self.old ≤ faults self.new }
+        ensures faults_grow { faults self.old ≤ faults self.new }
         ensures cause { result ≡ Took.Failed → Rose (faults self.old) (faults self.new) };
 }

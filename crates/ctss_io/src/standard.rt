@@ -46,7 +46,7 @@ impl<R: Read> Source for StdSource<R> {
     fn read(&mut self, into: &mut [u8]) -> Got
         requires { 0 < length into.old }
         ensures amount { GotFits result (length into.new) }
-        ensures kept { self.old.faults ≤ self.new.faults }
+        ensures faults_grow { self.old.faults ≤ self.new.faults }
         ensures cause { result ≡ Got.Failed → Rose self.old.faults self.new.faults }
         ensures counted { self.new.faults ≡ faults_after_got result self.old.faults }
 
@@ -109,7 +109,7 @@ impl<W: Write> Sink for StdSink<W> {
     fn put(&mut self, bytes: &[u8]) -> Took
         requires { 0 < length bytes.now }
         ensures amount { TookFits result (length bytes.now) }
-        ensures kept { self.old.faults ≤ self.new.faults }
+        ensures faults_grow { self.old.faults ≤ self.new.faults }
         ensures cause { result ≡ Took.Failed → Rose self.old.faults self.new.faults }
         ensures counted { self.new.faults ≡ faults_after_took result self.old.faults }
 

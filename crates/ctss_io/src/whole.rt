@@ -1,6 +1,6 @@
 //! Reading all that is left, and writing the whole of a text.
 ghost use Rattle.std.specs.Prelude.{◌≡◌, ◌≢◌, ◌≤◌, ◌+◌, [], length, IfOk, OnOk, OnErr};
-ghost use Rattle.ctss_io.specs.Outside.{Rose, before, after, IsAtEnd};
+ghost use Rattle.ctss_io.specs.Outside.{Rose, prepended, after, IsAtEnd};
 ghost use Rattle.ctss_io.specs.Whole.{GrewByPrefix, GrewByProperPrefix, ShrankBy, ShrankByAtMost, HasAtLeast, WhereTold};
 
 use crate::outside::{Got, Sink, Source, Took};
@@ -72,7 +72,7 @@ impl Error for WriteFault {}
 /// All bytes that are left, of which there are at most `LIMIT`. At the first fault it gives up.
 pub fn read_bytes<S: Source>(alloc: Global, source: &mut S) -> Result<Vec<u8>, ReadEnd>
     ensures bytes { IfOk result
-        (λ bytes. S.left source.old ≡ before bytes.items (S.left source.new)) }
+        (λ bytes. S.left source.old ≡ prepended bytes.items (S.left source.new)) }
     ensures end { OnOk result (IsAtEnd (S.left source.new)) }
     ensures size { IfOk result (λ bytes. length bytes.items ≤ LIMIT) }
 
@@ -87,7 +87,7 @@ pub fn read_bytes<S: Source>(alloc: Global, source: &mut S) -> Result<Vec<u8>, R
     ensures fault { result ≡ Err ReadEnd.Fault → Rose (S.faults source.old) (S.faults source.new) }
     ensures prefix { OnErr result
         (ShrankByAtMost (LIMIT + 1) (S.left source.old) (S.left source.new)) }
-    ensures kept { S.faults source.old ≤ S.faults source.new }
+    ensures faults_grow { S.faults source.old ≤ S.faults source.new }
 {
     let mut bytes = Vec::new(alloc);
     let mut buffer = [0u8; PIECE];
@@ -110,7 +110,7 @@ pub fn write_all<K: Sink>(sink: &mut K, text: &[u8]) -> Result<(), WriteFault>
     ensures fault { OnErr result (Rose (K.faults sink.old) (K.faults sink.new)) }
     ensures prefix { GrewByPrefix (K.held sink.old) text.now (K.held sink.new) }
     ensures short { OnErr result (GrewByProperPrefix (K.held sink.old) text.now (K.held sink.new)) }
-    ensures kept { K.faults sink.old ≤ K.faults sink.new }
+    ensures faults_grow { K.faults sink.old ≤ K.faults sink.new }
     ensures empty { text.now ≡ [] → result ≡ Ok tt }
     ensures untouched { text.now ≡ [] → sink.new ≡ sink.old }
 {

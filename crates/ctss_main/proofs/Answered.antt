@@ -40,7 +40,7 @@ pub no_memory : (words : List (List ℕ)) (seen : HandedSeen) → IsAnswered wor
 no_memory words seen =
     record {
       outcome = bare 8 0 0;
-      rows = blank;
+      contents = blank;
       answers = no_memory_answers words (with_media seen blank);
       status_is = refl;
       unfailed = refl;
@@ -60,15 +60,15 @@ within status (Some (Serve port turns)) drum disk h = grind (arith, h, drum, dis
 differs : (a b : ℕ) → (a ≡ b → ⊥) → nat_eq a b ≡ false
 differs a b h = grind (arith, nat_tests)
 
-answered : (words : List (List ℕ)) (old new : HandedSeen) (rows : List (List ℕ)) (o : Outcome) → Answers words (with_media old blank) (with_media new rows) o
+answered : (words : List (List ℕ)) (old new : HandedSeen) (contents : List (List ℕ)) (o : Outcome) → Answers words (with_media old blank) (with_media new contents) o
     → IsOneOf o.status (0 ∷ 1 ∷ 2 ∷ 3 ∷ 4 ∷ 7 ∷ 8 ∷ 9 ∷ [])
-answered words old new rows o a =
+answered words old new contents o a =
     within o.status (mode_of words)
     (differs o.status 5 (λ h. let rose = a.causes.drum h in absurd (omega (arith, rose))))
     (differs o.status 6 (λ h. let rose = a.causes.disk h in absurd (omega (arith, rose))))
     a.allowed.by_words
 
-pub is_answered : (words : List (List ℕ)) (old new : HandedSeen) (rows : List (List ℕ)) (o : Outcome) → Answers words (with_media old blank) (with_media new rows) o
+pub is_answered : (words : List (List ℕ)) (old new : HandedSeen) (contents : List (List ℕ)) (o : Outcome) → Answers words (with_media old blank) (with_media new contents) o
     → IsAnswered words old new o.status
-is_answered words old new rows o a =
-    record { outcome = o; rows = rows; answers = a; status_is = refl; unfailed = answered words old new rows o a }
+is_answered words old new contents o a =
+    record { outcome = o; contents = contents; answers = a; status_is = refl; unfailed = answered words old new contents o a }

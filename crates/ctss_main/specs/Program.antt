@@ -20,10 +20,10 @@ handed s k input output link = record { input = input_seen s input; output = out
 
 -- A drum and a disk that tell what they hold and never fail; these are the disk's records. No list is kept of their calls.
 abbrev pub own_media : List (List ℕ) → MediaSeen
-own_media rows = record { tells = true; disk_rows = Some rows; drum_calls = None; disk_calls = None; drum_faults = 0; disk_faults = 0 }
+own_media contents = record { tells = true; disk_contents = Some contents; drum_calls = None; disk_calls = None; drum_faults = 0; disk_faults = 0 }
 
 abbrev pub with_media : HandedSeen → List (List ℕ) → DevicesSeen
-with_media seen rows = devices seen.input seen.output (own_media rows) seen.link
+with_media seen contents = devices seen.input seen.output (own_media contents) seen.link
 
 -- the disk at first
 abbrev pub blank : List (List ℕ)
@@ -32,7 +32,7 @@ blank = replicate 10000 (replicate 432 0)
 -- The status is that of an answer of the top call over this drum and this disk; it never says that one of them failed.
 pub record IsAnswered (words : List (List ℕ)) (old new : HandedSeen) (status : ℕ) : Type 0 where
   pub outcome : Outcome
-  pub rows : List (List ℕ)
-  pub answers : Answers words (with_media old blank) (with_media new rows) outcome
+  pub contents : List (List ℕ)
+  pub answers : Answers words (with_media old blank) (with_media new contents) outcome
   pub status_is : status ≡ outcome.status
   pub unfailed : IsOneOf status (0 ∷ 1 ∷ 2 ∷ 3 ∷ 4 ∷ 7 ∷ 8 ∷ 9 ∷ [])

@@ -3,7 +3,7 @@ use Rattle.std.proofs.Common.{◌≡◌, ℕ, ◌≤◌, Bool, true, false, cond
 use Rattle.std.specs.List.{list_any, flat_map}
 use Rattle.std.proofs.lemmas.Bool.Decides.{nat_tests}
 use Rattle.faults.specs.Faults.{WhereTold}
-use Rattle.ctss_io.specs.Outside.{before, after, IsAtEnd}
+use Rattle.ctss_io.specs.Outside.{prepended, after, IsAtEnd}
 use Rattle.ctss_io.specs.Whole.{ShrankBy, HasAtLeast, GrewByProperPrefix}
 use Rattle.fap_assemble.specs.declared.fault.CardFault.{CardFault}
 use Rattle.fap_assemble.specs.Follows.{numbered}
@@ -18,22 +18,11 @@ use Rattle.ctss_top.specs.Devices.{DevicesSeen}
 use Rattle.ctss_top.specs.Asm.{assembled_from, IsInput, IsTooLong, IsDeckOf, AreFaultsOf, DeckIsWritten, CardsAreRefused, InputIsTooLong, IsTextOfBytes, DeckOf, FaultsOf, IsTextOfCards, OfDeck, OfFaults, OfLong, IsCutOfCards, CardsAreCutOff, statuses_by, statuses_for_cards}
 use Rattle.ctss_top.specs.Top.{OfCards, IsCutOff, statuses_of}
 
-input : (left rest : Option (List ℕ)) (bytes : List ℕ) → left ≡ before bytes rest → IsAtEnd rest → length bytes ≤ max_bytes → IsInput left rest bytes
+input : (left rest : Option (List ℕ)) (bytes : List ℕ) → left ≡ prepended bytes rest → IsAtEnd rest → length bytes ≤ max_bytes → IsInput left rest bytes
 input left rest bytes came whole size = record { came = came; whole = whole; size = size }
-
-pub deck_written : (old new : DevicesSeen) (o : Outcome) (bytes : List ℕ) → old.input.left ≡ before bytes new.input.left → IsAtEnd new.input.left → length bytes ≤ max_bytes → IsDeckOf bytes old.output.held new.output.held o → DeckIsWritten old new o
-deck_written old new o bytes came whole size h =
-    record { bytes = bytes; words = h.words; read = input old.input.left new.input.left bytes came whole size; made = h.made; outcome = h.outcome; written = h.written }
-
-pub cards_refused : (old new : DevicesSeen) (o : Outcome) (bytes : List ℕ) → old.input.left ≡ before bytes new.input.left → IsAtEnd new.input.left → length bytes ≤ max_bytes → AreFaultsOf bytes old.output.held new.output.held o → CardsAreRefused old new o
-cards_refused old new o bytes came whole size h =
-    record { bytes = bytes; faults = h.faults; read = input old.input.left new.input.left bytes came whole size; made = h.made; outcome = h.outcome; written = h.written }
 
 long : (left rest : Option (List ℕ)) (gone : ShrankBy 4194305 left rest) → IsTooLong left rest gone.0
 long left rest gone = record { came = gone.2; size = omega (arith, gone.1) }
-
-pub input_long : (old new : DevicesSeen) (o : Outcome) → ShrankBy 4194305 old.input.left new.input.left → o ≡ bare 2 0 8 → new.output.held ≡ after old.output.held (script_refused 0 8) → InputIsTooLong old new o
-input_long old new o gone is written = record { bytes = gone.0; read = long old.input.left new.input.left gone; outcome = is; written = written }
 
 pub cut_of_long : (old new : DevicesSeen) → ShrankBy 4194305 old.input.left new.input.left → GrewByProperPrefix old.output.held (script_refused 0 8) new.output.held → CardsAreCutOff old new
 cut_of_long old new gone part = record { text = script_refused 0 8; said = OfLong gone.0 (long old.input.left new.input.left gone) refl; part = part }
@@ -42,7 +31,7 @@ said_of : (left rest : Option (List ℕ)) (bytes text : List ℕ) → IsInput le
 said_of left rest bytes text read (DeckOf words made is) = OfDeck bytes words read made is
 said_of left rest bytes text read (FaultsOf faults made is) = OfFaults bytes faults read made is
 
-pub cut_of_cards : (old new : DevicesSeen) (bytes : List ℕ) → old.input.left ≡ before bytes new.input.left → IsAtEnd new.input.left → length bytes ≤ max_bytes → IsCutOfCards bytes old.output.held new.output.held → CardsAreCutOff old new
+pub cut_of_cards : (old new : DevicesSeen) (bytes : List ℕ) → old.input.left ≡ prepended bytes new.input.left → IsAtEnd new.input.left → length bytes ≤ max_bytes → IsCutOfCards bytes old.output.held new.output.held → CardsAreCutOff old new
 cut_of_cards old new bytes came whole size h =
     record { text = h.text; said = said_of old.input.left new.input.left bytes h.text (input old.input.left new.input.left bytes came whole size) h.said; part = h.part }
 
@@ -57,10 +46,6 @@ cut_by_words words old new o asked is h =
       cause = ap (λ (x : Outcome). x.cause) is;
     }
 
-pub lawful_cards : (mode : Option Mode) (status : ℕ) (left : Option (List ℕ)) → mode ≡ Some Asm → WhereTold left (λ bytes. list_any (nat_eq status) (statuses_for_cards bytes) ≡ true)
-    → WhereTold left (λ bytes. list_any (nat_eq status) (statuses_of mode bytes) ≡ true)
-lawful_cards mode status left asked told = subst (λ (m : Option Mode). WhereTold left (λ bytes. list_any (nat_eq status) (statuses_of m bytes) ≡ true)) (sym asked) told
-
 -- the statuses that all inputs may have
 
 abbrev pub Allowed : ℕ → List ℕ → Type 0
@@ -69,35 +54,13 @@ Allowed status bytes = list_any (nat_eq status) (statuses_for_cards bytes) ≡ t
 too_many : (bytes : List ℕ) → 4194305 ≤ length bytes → nat_le (length bytes) max_bytes ≡ false
 too_many bytes h = grind (arith, nat_tests)
 
-few_enough : (bytes : List ℕ) → length bytes ≤ max_bytes → nat_le (length bytes) max_bytes ≡ true
-few_enough bytes h = grind (arith, nat_tests)
-
-any_in : (status : ℕ) (said : Assembled) → list_any (nat_eq status) (8 ∷ statuses_by said) ≡ true → list_any (nat_eq status) (statuses_by said) ≡ true
-any_in status (deck ws) h = grind (arith, nat_tests)
-any_in status (faulty fs) h = grind (arith, nat_tests)
-
-pub allowed_short : (status : ℕ) (bytes : List ℕ) → length bytes ≤ max_bytes → list_any (nat_eq status) (8 ∷ statuses_by (assembled_from bytes)) ≡ true → Allowed status bytes
-allowed_short status bytes size h = rw (few_enough bytes size) (any_in status (assembled_from bytes) h)
-
-pub allowed_long : (left : Option (List ℕ)) (status : ℕ) → HasAtLeast 4194305 left → list_any (nat_eq status) (2 ∷ 4 ∷ 8 ∷ []) ≡ true → WhereTold left (Allowed status)
-allowed_long None status h is = tt
-allowed_long (Some bytes) status h is = rw (too_many bytes h) (grind (arith, nat_tests))
-
 at_any : (status : ℕ) → ((said : Assembled) → list_any (nat_eq status) (statuses_by said) ≡ true) → list_any (nat_eq status) (2 ∷ 3 ∷ 4 ∷ 8 ∷ []) ≡ true → (b : Bool) (said : Assembled) → list_any (nat_eq status) (cond b (statuses_by said) (2 ∷ 3 ∷ 4 ∷ 8 ∷ [])) ≡ true
 at_any status h k true said = h said
 at_any status h k false said = k
 
-at_3 : (said : Assembled) → list_any (nat_eq 3) (statuses_by said) ≡ true
-at_3 (deck ws) = refl
-at_3 (faulty fs) = refl
-
 at_8 : (said : Assembled) → list_any (nat_eq 8) (statuses_by said) ≡ true
 at_8 (deck ws) = refl
 at_8 (faulty fs) = refl
-
-pub allowed_unread : (left : Option (List ℕ)) → WhereTold left (Allowed 3)
-allowed_unread None = tt
-allowed_unread (Some bytes) = at_any 3 at_3 refl (nat_le (length bytes) max_bytes) (assembled_from bytes)
 
 pub allowed_no_memory : (left : Option (List ℕ)) → WhereTold left (Allowed 8)
 allowed_no_memory None = tt

@@ -63,7 +63,7 @@ module _ (script : Script) (was : MediaSeen) (s : Whole) where
   module _ (now : MediaSeen) where
     -- the script's end was reached
     pub done : (x : Unit) → IsScriptRun script was (Ok x) s → s.back.calls ≡ now.drum_calls → (rec : Record) → EndsComplete s.bare s.back.held rec
-        → WhereTold now.disk_rows (λ rows. LieOn rows rec.files rec.common) → IsDone script was now rec
+        → WhereTold now.disk_contents (λ contents. LieOn contents rec.files rec.common) → IsDone script was now rec
     done x ran now_is rec ends lie =
         let h = gone x ran in
         record {

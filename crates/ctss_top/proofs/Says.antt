@@ -7,7 +7,7 @@ use Rattle.faults.specs.Faults.{WhereTold}
 use Rattle.ctss_types.specs.declared.script.Script.{Script}
 use Rattle.ctss_types.specs.declared.script.Timed.{Timed}
 use Rattle.ctss_types.specs.declared.history.Record.{Record}
-use Rattle.ctss_io.specs.Outside.{before, after, IsAtEnd}
+use Rattle.ctss_io.specs.Outside.{prepended, after, IsAtEnd}
 use Rattle.ctss_io.specs.Whole.{ShrankBy, HasAtLeast, GrewByProperPrefix}
 use Rattle.text_model.specs.declared.mode.Mode.{Mode}
 use Rattle.text_model.specs.declared.mode.Mode.TheVariants.{Replay, Dump, Load, Asm, Serve}
@@ -41,9 +41,6 @@ one_more_said false false rest h = h
 
 refused_status : (status : ℕ) → list_any (nat_eq status) (2 ∷ 4 ∷ 8 ∷ []) ≡ true → list_any (nat_eq status) (2 ∷ 3 ∷ 4 ∷ 8 ∷ []) ≡ true
 refused_status status h = one_more_said (nat_eq status 2) (nat_eq status 3) (list_any (nat_eq status) (4 ∷ 8 ∷ [])) h
-
-done_status : (status : ℕ) → list_any (nat_eq status) (0 ∷ 4 ∷ 5 ∷ 6 ∷ 8 ∷ []) ≡ true → list_any (nat_eq status) (0 ∷ 3 ∷ 4 ∷ 5 ∷ 6 ∷ 8 ∷ []) ≡ true
-done_status status h = one_more_said (nat_eq status 0) (nat_eq status 3) (list_any (nat_eq status) (4 ∷ 5 ∷ 6 ∷ 8 ∷ [])) h
 
 too_many : (bytes : List ℕ) → 4194305 ≤ length bytes → nat_le (length bytes) max_bytes ≡ false
 too_many bytes h = grind (arith, nat_tests)
@@ -82,7 +79,7 @@ replays_reads (Load n) is = is
 replays_reads Asm is = is
 replays_reads (Serve port turns) is = refl
 
-long_read : (mode : Mode) (left rest : Option (List ℕ)) (bytes : List ℕ) → length bytes ≡ 4194305 → left ≡ before bytes rest → IsRefused mode left rest bytes too_long
+long_read : (mode : Mode) (left rest : Option (List ℕ)) (bytes : List ℕ) → length bytes ≡ 4194305 → left ≡ prepended bytes rest → IsRefused mode left rest bytes too_long
 long_read mode left rest bytes size came =
     record { came = came; whole = λ h. absurd (omega (arith, size, h)); refused = long_for mode bytes (omega (arith, size)) }
 
@@ -90,7 +87,7 @@ pub refused_long : (mode : Mode) (old new : DevicesSeen) (o : Outcome) → Shran
 refused_long mode old new o gone is written drum link =
     record { bytes = gone.0; refusal = too_long; read = long_read mode old.input.left new.input.left gone.0 gone.1 gone.2; outcome = is; written = written; media = drum; link = link }
 
-pub refused_short : (mode : Mode) (old new : DevicesSeen) (o : Outcome) (bytes : List ℕ) (refusal : ScriptRefusal) (number : ℕ) → old.input.left ≡ before bytes new.input.left → IsAtEnd new.input.left → script_for mode bytes ≡ Err refusal
+pub refused_short : (mode : Mode) (old new : DevicesSeen) (o : Outcome) (bytes : List ℕ) (refusal : ScriptRefusal) (number : ℕ) → old.input.left ≡ prepended bytes new.input.left → IsAtEnd new.input.left → script_for mode bytes ≡ Err refusal
     → number ≡ cause_number refusal.cause → o ≡ bare 2 refusal.card number → new.output.held ≡ after old.output.held (script_refused refusal.card number) → new.media ≡ old.media → new.link ≡ old.link → ScriptIsRefused mode old new o
 refused_short mode old new o bytes refusal number came whole refused why is written drum link =
     record {
@@ -121,26 +118,22 @@ cut_long words mode asked reads old new o gone is part drum =
     cut_refusal words mode asked reads old new o gone.0 too_long (long_read mode old.input.left new.input.left gone.0 gone.1 gone.2) is part drum
 
 pub cut_short : (words : List (List ℕ)) (mode : Mode) → mode_of words ≡ Some mode → reads_script mode ≡ true → (old new : DevicesSeen) (o : Outcome) (bytes : List ℕ) (refusal : ScriptRefusal) (number : ℕ)
-    → old.input.left ≡ before bytes new.input.left → IsAtEnd new.input.left → script_for mode bytes ≡ Err refusal → number ≡ cause_number refusal.cause → o ≡ bare 4 0 0 → GrewByProperPrefix old.output.held (script_refused refusal.card number) new.output.held → new.media ≡ old.media
+    → old.input.left ≡ prepended bytes new.input.left → IsAtEnd new.input.left → script_for mode bytes ≡ Err refusal → number ≡ cause_number refusal.cause → o ≡ bare 4 0 0 → GrewByProperPrefix old.output.held (script_refused refusal.card number) new.output.held → new.media ≡ old.media
     → IsCutOff words old new o
 cut_short words mode asked reads old new o bytes refusal number came whole refused why is part drum =
     cut_refusal words mode asked reads old new o bytes refusal (record { came = came; whole = λ h. whole; refused = refused }) is
     (subst (λ (n : ℕ). GrewByProperPrefix old.output.held (script_refused refusal.card n) new.output.held) why part) drum
 
-spelled : (mode : Mode) (left rest : Option (List ℕ)) (bytes : List ℕ) (script : Script) → left ≡ before bytes rest → IsAtEnd rest → script_for mode bytes ≡ Ok script → IsSpelled mode left rest script
+spelled : (mode : Mode) (left rest : Option (List ℕ)) (bytes : List ℕ) (script : Script) → left ≡ prepended bytes rest → IsAtEnd rest → script_for mode bytes ≡ Ok script → IsSpelled mode left rest script
 spelled mode left rest bytes script came whole is = record { bytes = bytes; came = came; whole = whole; spelled = is }
 
 -- the script of bytes that came, in a mode that reads all events with it
-pub comes_read : (mode : Mode) → replays mode ≡ true → (old new : DevicesSeen) (bytes : List ℕ) (script : Script) → old.input.left ≡ before bytes new.input.left → IsAtEnd new.input.left → script_of bytes ≡ Ok script → Comes mode old new script
+pub comes_read : (mode : Mode) → replays mode ≡ true → (old new : DevicesSeen) (bytes : List ℕ) (script : Script) → old.input.left ≡ prepended bytes new.input.left → IsAtEnd new.input.left → script_of bytes ≡ Ok script → Comes mode old new script
 comes_read Replay is old new bytes script came whole read = spelled Replay old.input.left new.input.left bytes script came whole read
 comes_read Dump is old new bytes script came whole read = spelled Dump old.input.left new.input.left bytes script came whole read
 comes_read (Load n) is old new bytes script came whole read = cc
 comes_read Asm is old new bytes script came whole read = cc
 comes_read (Serve port turns) is old new bytes script came whole read = cc
-
--- the base script of bytes that came
-pub base_read : (port turns : ℕ) (left rest : Option (List ℕ)) (bytes : List ℕ) (base : Script) → left ≡ before bytes rest → IsAtEnd rest → base_of bytes ≡ Ok base → IsSpelled (Serve port turns) left rest base
-base_read port turns left rest bytes base came whole read = spelled (Serve port turns) left rest bytes base came whole read
 
 -- a mode that reads all events with a script runs it
 pub replays_runs : (mode : Mode) → replays mode ≡ true → runs_script mode ≡ true
@@ -262,7 +255,7 @@ live_lost words port turns asked old new o base rec spelled silent lost is =
     (record { mode = Serve port turns; asked = asked; loses = record { base = base; spelled = spelled; lacks = lost.lacks }; silent = silent; card = refl; cause = refl })
 
 -- what is true of all bytes that came is true of those that were told
-pub of_told : (left rest : Option (List ℕ)) (bytes : List ℕ) (P : List ℕ → Type 0) → left ≡ before bytes rest → IsAtEnd rest → P bytes → WhereTold left P
+pub of_told : (left rest : Option (List ℕ)) (bytes : List ℕ) (P : List ℕ → Type 0) → left ≡ prepended bytes rest → IsAtEnd rest → P bytes → WhereTold left P
 of_told left None bytes P came whole h = subst (λ (l : Option (List ℕ)). WhereTold l P) (sym came) tt
 of_told left (Some rest) bytes P came whole h =
     let all : bytes ++ rest ≡ bytes = ap (λ (r : List ℕ). bytes ++ r) whole ∙ append-nil bytes in
@@ -279,13 +272,6 @@ by_said : (status : ℕ) → ((said : Result Script ScriptRefusal) → list_any 
 by_said status h None = tt
 by_said status h (Some bytes) = h (script_of bytes)
 
-pub told_unread : (left : Option (List ℕ)) → WhereTold left (Allows 3)
-told_unread left = by_said 3 (λ said. at_3 said) left
-  where
-    at_3 : (said : Result Script ScriptRefusal) → list_any (nat_eq 3) (statuses_for said) ≡ true
-    at_3 (Err r) = refl
-    at_3 (Ok s) = refl
-
 pub told_no_memory : (left : Option (List ℕ)) → WhereTold left (Allows 8)
 told_no_memory left = by_said 8 (λ said. at_8 said) left
   where
@@ -293,16 +279,7 @@ told_no_memory left = by_said 8 (λ said. at_8 said) left
     at_8 (Err r) = refl
     at_8 (Ok s) = refl
 
-pub allows_refused : (status : ℕ) (bytes : List ℕ) (refusal : ScriptRefusal) → script_of bytes ≡ Err refusal → list_any (nat_eq status) (2 ∷ 4 ∷ 8 ∷ []) ≡ true → Allows status bytes
-allows_refused status bytes refusal refused h = rw refused (refused_status status h)
-
-pub allows_done : (status : ℕ) (bytes : List ℕ) (script : Script) → script_of bytes ≡ Ok script → list_any (nat_eq status) (0 ∷ 4 ∷ 5 ∷ 6 ∷ 8 ∷ []) ≡ true → Allows status bytes
-allows_done status bytes script spelled h = rw spelled (done_status status h)
-
 -- the same of a base script
-
-live_status : (status : ℕ) → list_any (nat_eq status) (0 ∷ 4 ∷ 5 ∷ 6 ∷ 7 ∷ 8 ∷ []) ≡ true → list_any (nat_eq status) (0 ∷ 3 ∷ 4 ∷ 5 ∷ 6 ∷ 7 ∷ 8 ∷ []) ≡ true
-live_status status h = one_more_said (nat_eq status 0) (nat_eq status 3) (list_any (nat_eq status) (4 ∷ 5 ∷ 6 ∷ 7 ∷ 8 ∷ [])) h
 
 abbrev pub AllowsLive : ℕ → List ℕ → Type 0
 AllowsLive status bytes = list_any (nat_eq status) (statuses_live (base_of bytes)) ≡ true
@@ -315,25 +292,12 @@ by_base : (status : ℕ) → ((said : Result Script ScriptRefusal) → list_any 
 by_base status h None = tt
 by_base status h (Some bytes) = h (base_of bytes)
 
-pub live_told_unread : (left : Option (List ℕ)) → WhereTold left (AllowsLive 3)
-live_told_unread left = by_base 3 (λ said. at_3 said) left
-  where
-    at_3 : (said : Result Script ScriptRefusal) → list_any (nat_eq 3) (statuses_live said) ≡ true
-    at_3 (Err r) = refl
-    at_3 (Ok s) = refl
-
 pub live_told_no_memory : (left : Option (List ℕ)) → WhereTold left (AllowsLive 8)
 live_told_no_memory left = by_base 8 (λ said. at_8 said) left
   where
     at_8 : (said : Result Script ScriptRefusal) → list_any (nat_eq 8) (statuses_live said) ≡ true
     at_8 (Err r) = refl
     at_8 (Ok s) = refl
-
-pub live_allows_refused : (status : ℕ) (bytes : List ℕ) (refusal : ScriptRefusal) → base_of bytes ≡ Err refusal → list_any (nat_eq status) (2 ∷ 4 ∷ 8 ∷ []) ≡ true → AllowsLive status bytes
-live_allows_refused status bytes refusal refused h = rw refused (refused_status status h)
-
-pub live_allows_done : (status : ℕ) (bytes : List ℕ) (base : Script) → base_of bytes ≡ Ok base → list_any (nat_eq status) (0 ∷ 4 ∷ 5 ∷ 6 ∷ 7 ∷ 8 ∷ []) ≡ true → AllowsLive status bytes
-live_allows_done status bytes base spelled h = rw spelled (live_status status h)
 
 -- what was served, by how it ended
 

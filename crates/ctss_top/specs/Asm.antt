@@ -1,7 +1,7 @@
 -- claim: assembly: cards come in, and their deck or their faults go out.
 use Rattle.std.specs.Prelude.{◌≡◌, ◌≤◌, ◌<◌, ℕ, nat_le, if◌then◌else◌, List, [], ◌∷◌, length, Option}
 use Rattle.std.specs.Str.Lines.{lines}
-use Rattle.ctss_io.specs.Outside.{before, after, IsAtEnd}
+use Rattle.ctss_io.specs.Outside.{prepended, after, IsAtEnd}
 use Rattle.ctss_io.specs.Whole.{GrewByProperPrefix}
 use Rattle.text_model.specs.Words.{script_refused, faults_text}
 use Rattle.text_model.specs.Canonical.{word_cards}
@@ -17,13 +17,13 @@ assembled_from bytes = assembled (lines bytes)
 
 -- these bytes came, they were all, and not too many
 pub record IsInput (left rest : Option (List ℕ)) (bytes : List ℕ) : Type 0 where
-  pub came : left ≡ before bytes rest
+  pub came : left ≡ prepended bytes rest
   pub whole : IsAtEnd rest
   pub size : length bytes ≤ max_bytes
 
 -- these bytes came, and are one too many
 pub record IsTooLong (left rest : Option (List ℕ)) (bytes : List ℕ) : Type 0 where
-  pub came : left ≡ before bytes rest
+  pub came : left ≡ prepended bytes rest
   pub size : max_bytes < length bytes
 
 -- the deck of the cards that came has come to the output, as O cards

@@ -4,7 +4,7 @@ use Rattle.std.specs.declared.result.Result.{Result}
 use Rattle.ctss_types.specs.declared.script.Script.{Script}
 use Rattle.ctss_types.specs.declared.script.Timed.{Timed}
 use Rattle.ctss_types.specs.declared.history.Record.{Record}
-use Rattle.ctss_io.specs.Outside.{before, IsAtEnd}
+use Rattle.ctss_io.specs.Outside.{prepended, IsAtEnd}
 use Rattle.text_model.specs.declared.mode.Mode.{Mode}
 use Rattle.text_model.specs.declared.mode.Mode.TheVariants.{Replay, Dump, Load, Asm, Serve}
 use Rattle.text_model.specs.declared.cause.ScriptRefusal.{ScriptRefusal}
@@ -64,7 +64,7 @@ script_for (Serve port turns) bytes = base_of bytes
 -- these bytes came, they were all, and they spell the script
 pub record IsSpelled (mode : Mode) (left rest : Option (List ℕ)) (script : Script) : Type 0 where
   pub bytes : List ℕ
-  pub came : left ≡ before bytes rest
+  pub came : left ≡ prepended bytes rest
   pub whole : IsAtEnd rest
   pub spelled : script_for mode bytes ≡ Ok script
 
@@ -90,7 +90,7 @@ Comes (Serve port turns) old new script = IsLive (Serve port turns) turns old ne
 
 -- these bytes came, they were all or too many, and the script is refused
 pub record IsRefused (mode : Mode) (left rest : Option (List ℕ)) (bytes : List ℕ) (refusal : ScriptRefusal) : Type 0 where
-  pub came : left ≡ before bytes rest
+  pub came : left ≡ prepended bytes rest
   pub whole : length bytes ≤ max_bytes → IsAtEnd rest
   pub refused : script_for mode bytes ≡ Err refusal
 

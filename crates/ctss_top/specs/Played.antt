@@ -34,7 +34,7 @@ pub record IsStopped (script : Script) (rec : Record) (was now : Option CallList
 pub record IsDone (script : Script) (was now : MediaSeen) (rec : Record) : Type 0 where
   pub record_is : was.tells ≡ true → rec ≡ record_of script
   pub counted : IsCounted [] rec.entries was.drum_calls now.drum_calls
-  pub lie : WhereTold now.disk_rows (λ rows. LieOn rows rec.files rec.common)
+  pub lie : WhereTold now.disk_contents (λ contents. LieOn contents rec.files rec.common)
 
 -- the drum failed
 pub record IsCut (script : Script) (was now : MediaSeen) (rec : Record) : Type 0 where

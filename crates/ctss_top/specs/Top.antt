@@ -37,7 +37,7 @@ pub record IsRun (mode : Mode) (old new : DevicesSeen) (result : Outcome) : Type
   pub alone : old.media.tells ≡ true → EachIsAlone script result.run
   pub shared : old.media.tells ≡ true → IsOneList script result.run
   pub counted : IsCounted [] result.run.entries old.media.drum_calls new.media.drum_calls
-  pub lie : WhereTold new.media.disk_rows (λ rows. LieOn rows result.run.files result.run.common)
+  pub lie : WhereTold new.media.disk_contents (λ contents. LieOn contents result.run.files result.run.common)
   pub card : result.card ≡ 0
   pub cause : result.cause ≡ 0
 

@@ -39,7 +39,7 @@ fn assemble_text(alloc: Global, bytes: &[u8]) -> Result<Deck, AsmFault>
 fn write_deck<K: Sink>(alloc: Global, words: &[Word], sink: &mut K) -> Outcome
     ensures status { IsOneOf result.status (0 ∷ 4 ∷ 8 ∷ []) }
     ensures done { result.status ≡ 0 → result ≡ bare 0 0 0 }
-    ensures told { result.status ≡ 0 → K.held sink.new ≡ after (K.held sink.old) (word_cards words.now) }
+    ensures written { result.status ≡ 0 → K.held sink.new ≡ after (K.held sink.old) (word_cards words.now) }
     ensures cut { result.status ≡ 4 → result ≡ bare 4 0 0 }
     ensures part { result.status ≡ 4 → GrewByProperPrefix (K.held sink.old) (word_cards words.now) (K.held sink.new) }
     ensures cause { result.status ≡ 4 → Rose (K.faults sink.old) (K.faults sink.new) }
@@ -57,7 +57,7 @@ fn write_deck<K: Sink>(alloc: Global, words: &[Word], sink: &mut K) -> Outcome
 fn write_faults<K: Sink>(alloc: Global, faults: &[CardFault], sink: &mut K) -> Outcome
     ensures status { IsOneOf result.status (4 ∷ 8 ∷ 9 ∷ []) }
     ensures done { result.status ≡ 9 → result ≡ bare 9 0 0 }
-    ensures told { result.status ≡ 9 → K.held sink.new ≡ after (K.held sink.old) (faults_text (numbered faults.now)) }
+    ensures written { result.status ≡ 9 → K.held sink.new ≡ after (K.held sink.old) (faults_text (numbered faults.now)) }
     ensures cut { result.status ≡ 4 → result ≡ bare 4 0 0 }
     ensures part { result.status ≡ 4 → GrewByProperPrefix (K.held sink.old) (faults_text (numbered faults.now)) (K.held sink.new) }
     ensures cause { result.status ≡ 4 → Rose (K.faults sink.old) (K.faults sink.new) }
@@ -112,7 +112,7 @@ pub(crate) fn asm<S: Source, K: Sink>(alloc: Global, cards: &mut S, sink: &mut K
     ensures silent { (media : MediaSeen) (link : LinkSeen) → IsOneOf result.status (3 ∷ 8 ∷ [])
         → IsSilent result.status (devices (input_seen S.Source cards.old) (output_seen K.Sink sink.old) media link)
         (devices (input_seen S.Source cards.new) (output_seen K.Sink sink.new) media link) result }
-    ensures told { WhereTold (S.left cards.old) (λ bytes. IsOneOf result.status (statuses_for_cards bytes)) }
+    ensures statuses { WhereTold (S.left cards.old) (λ bytes. IsOneOf result.status (statuses_for_cards bytes)) }
 {
     match read_bytes(alloc, cards) {
         Ok(bytes) => write_assembled(alloc, &bytes, sink),

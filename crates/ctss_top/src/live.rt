@@ -37,8 +37,8 @@ fn host<K: Sink, D: Medium, F: Medium, L: Link>(
 ) -> Outcome
     requires turns { turns ≤ 100000 }
     requires lawful { IsLawful base }
-    requires drum { Serves (D.rows drum.old) (D.record_count drum.old) (D.words_each drum.old) 3840 }
-    requires disk { Holds (F.rows disk.old) (F.record_count disk.old) (F.words_each disk.old) 10000 }
+    requires drum { Serves (D.contents drum.old) (D.record_count drum.old) (D.words_each drum.old) 3840 }
+    requires disk { Holds (F.contents disk.old) (F.record_count disk.old) (F.words_each disk.old) 10000 }
     ensures status { IsOneOf result.status (0 ∷ 4 ∷ 5 ∷ 6 ∷ 7 ∷ 8 ∷ []) }
     ensures done { (was now : InputSeen) → IsSpelled (Mode.Serve port turns) was.left now.left base → result.status ≡ 0
         → IsRun (Mode.Serve port turns)
@@ -93,8 +93,8 @@ pub(crate) fn serve_consoles<S: Source, K: Sink, D: Medium, F: Medium, L: Link>(
     link: &mut L,
 ) -> Outcome
     requires turns { turns ≤ 100000 }
-    requires drum { Serves (D.rows drum.old) (D.record_count drum.old) (D.words_each drum.old) 3840 }
-    requires disk { Holds (F.rows disk.old) (F.record_count disk.old) (F.words_each disk.old) 10000 }
+    requires drum { Serves (D.contents drum.old) (D.record_count drum.old) (D.words_each drum.old) 3840 }
+    requires disk { Holds (F.contents disk.old) (F.record_count disk.old) (F.words_each disk.old) 10000 }
     ensures status { IsOneOf result.status (0 ∷ 2 ∷ 3 ∷ 4 ∷ 5 ∷ 6 ∷ 7 ∷ 8 ∷ []) }
     ensures done { result.status ≡ 0 → IsRun (Mode.Serve port turns)
         (seen S.Source K.Sink D.Medium F.Medium input.old sink.old drum.old disk.old (L.seen link.old))
@@ -116,7 +116,7 @@ pub(crate) fn serve_consoles<S: Source, K: Sink, D: Medium, F: Medium, L: Link>(
     ensures silent { IsOneOf result.status (3 ∷ 7 ∷ 8 ∷ []) → IsSilent result.status
         (seen S.Source K.Sink D.Medium F.Medium input.old sink.old drum.old disk.old (L.seen link.old))
         (seen S.Source K.Sink D.Medium F.Medium input.new sink.new drum.new disk.new (L.seen link.new)) result }
-    ensures told { WhereTold (S.left input.old) (λ bytes. IsOneOf result.status (statuses_live (base_of bytes))) }
+    ensures statuses { WhereTold (S.left input.old) (λ bytes. IsOneOf result.status (statuses_live (base_of bytes))) }
 {
     let bytes = match read_bytes(alloc, input) {
         Ok(bytes) => bytes,

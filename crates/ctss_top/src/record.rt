@@ -8,7 +8,7 @@ ghost use Rattle.image_map.specs.Image.{state, seen};
 ghost use Rattle.plan_model.specs.Loads.{Places, no_places};
 ghost use Rattle.text_model.specs.Lawful.{IsLawful};
 ghost use Rattle.time_sharing.specs.System.{Timed};
-ghost use Rattle.system_model.specs.Run.{given_all};
+ghost use Rattle.system_model.specs.Run.{with_all_events};
 ghost use Rattle.system_model.specs.Sound.{HasSeat};
 ghost use Rattle.supervisor.specs.Seen.{run_with};
 ghost use Rattle.supervisor.specs.Steps.{Lasts};
@@ -40,7 +40,7 @@ pub enum Played {
 fn give_all(supervisor: &mut Supervisor, events: &[Timed]) -> Result<(), NoMemory>
     requires seats { All (λ (e : Timed). HasSeat e (run_with no_places supervisor.old)) events.now }
     ensures given { (places : Places)
-        → OnOk result (run_with places supervisor.new ≡ given_all events.now (run_with places supervisor.old)) }
+        → OnOk result (run_with places supervisor.new ≡ with_all_events events.now (run_with places supervisor.old)) }
     ensures texts { supervisor.new.texts ≡ supervisor.old.texts }
 {
     for event in events {
@@ -66,12 +66,12 @@ pub fn run_script<'a, 'd, D: Medium, F: Medium>(
     disk: &'d mut F,
 ) -> Result<ScriptRun<'a, 'd, D, F>, NoMemory>
     requires lawful { IsLawful script.now }
-    requires drum { Serves (D.rows drum.old) (D.record_count drum.old) (D.words_each drum.old) 3840 }
-    requires disk { Holds (F.rows disk.old) (F.record_count disk.old) (F.words_each disk.old) 10000 }
+    requires drum { Serves (D.contents drum.old) (D.record_count drum.old) (D.words_each drum.old) 3840 }
+    requires disk { Holds (F.contents disk.old) (F.record_count disk.old) (F.words_each disk.old) 10000 }
     ensures drum { IfOk result (λ p. (state p.behind.cores).drum.name ≡ (seen D.Medium drum.entry).name) }
     ensures disk { IfOk result (λ p. (disk_of p.behind.files).ghost_name ≡ disk.entry.ghost_name) }
-    ensures works { IfOk result (λ p. Lasts p.ended
-        (⟦<Behind<Image<'a, D>, TrackDirectories<'d, F>> as user_cores::Backing>⟧.Works p.behind)) }
+    ensures usable { IfOk result (λ p. Lasts p.ended
+        (⟦<Behind<Image<'a, D>, TrackDirectories<'d, F>> as user_cores::Backing>⟧.Usable p.behind)) }
     ensures ran { IfOk result (λ p. IsScriptRun script.now (media_seen D.Medium F.Medium drum.old disk.old) p.ended
         (whole_of p.supervisor
         (⟦<Behind<Image<'a, D>, TrackDirectories<'d, F>> as user_cores::Backing>⟧.state p.behind))) }
@@ -102,8 +102,8 @@ pub fn record_script<D: Medium, F: Medium>(
     disk: &mut F,
 ) -> Result<Played, NoMemory>
     requires lawful { IsLawful script.now }
-    requires drum { Serves (D.rows drum.old) (D.record_count drum.old) (D.words_each drum.old) 3840 }
-    requires disk { Holds (F.rows disk.old) (F.record_count disk.old) (F.words_each disk.old) 10000 }
+    requires drum { Serves (D.contents drum.old) (D.record_count drum.old) (D.words_each drum.old) 3840 }
+    requires disk { Holds (F.contents disk.old) (F.record_count disk.old) (F.words_each disk.old) 10000 }
     ensures { IfOk result (IsPlayed script.now (media_seen D.Medium F.Medium drum.old disk.old)
         (media_seen D.Medium F.Medium drum.new disk.new)) }
 {

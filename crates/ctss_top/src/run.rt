@@ -135,8 +135,8 @@ fn perform<K: Sink, D: Medium, F: Medium>(
 ) -> Outcome
     requires mode { runs_script mode ≡ true }
     requires lawful { IsLawful script.now }
-    requires drum { Serves (D.rows drum.old) (D.record_count drum.old) (D.words_each drum.old) 3840 }
-    requires disk { Holds (F.rows disk.old) (F.record_count disk.old) (F.words_each disk.old) 10000 }
+    requires drum { Serves (D.contents drum.old) (D.record_count drum.old) (D.words_each drum.old) 3840 }
+    requires disk { Holds (F.contents disk.old) (F.record_count disk.old) (F.words_each disk.old) 10000 }
     ensures status { IsOneOf result.status (0 ∷ 4 ∷ 5 ∷ 6 ∷ 8 ∷ []) }
     ensures done { IsOneOf result.status (0 ∷ 4 ∷ []) → IsDone script.now
         (media_seen D.Medium F.Medium drum.old disk.old) (media_seen D.Medium F.Medium drum.new disk.new) result.run }
@@ -170,8 +170,8 @@ fn replay<S: Source, K: Sink, D: Medium, F: Medium>(
     disk: &mut F,
 ) -> Outcome
     requires mode { replays mode ≡ true }
-    requires drum { Serves (D.rows drum.old) (D.record_count drum.old) (D.words_each drum.old) 3840 }
-    requires disk { Holds (F.rows disk.old) (F.record_count disk.old) (F.words_each disk.old) 10000 }
+    requires drum { Serves (D.contents drum.old) (D.record_count drum.old) (D.words_each drum.old) 3840 }
+    requires disk { Holds (F.contents disk.old) (F.record_count disk.old) (F.words_each disk.old) 10000 }
     ensures status { IsOneOf result.status (0 ∷ 2 ∷ 3 ∷ 4 ∷ 5 ∷ 6 ∷ 8 ∷ []) }
     ensures done { (link : LinkSeen) → result.status ≡ 0
         → IsRun mode (seen S.Source K.Sink D.Medium F.Medium script.old sink.old drum.old disk.old link)
@@ -193,7 +193,7 @@ fn replay<S: Source, K: Sink, D: Medium, F: Medium>(
     ensures silent { (link : LinkSeen) → IsOneOf result.status (3 ∷ 8 ∷ []) → IsSilent result.status
         (seen S.Source K.Sink D.Medium F.Medium script.old sink.old drum.old disk.old link)
         (seen S.Source K.Sink D.Medium F.Medium script.new sink.new drum.new disk.new link) result }
-    ensures told { WhereTold (S.left script.old) (λ bytes. IsOneOf result.status (statuses_for (script_of bytes))) }
+    ensures statuses { WhereTold (S.left script.old) (λ bytes. IsOneOf result.status (statuses_for (script_of bytes))) }
 {
     let bytes = match read_bytes(alloc, script) {
         Ok(bytes) => bytes,
@@ -218,8 +218,8 @@ fn load<K: Sink, D: Medium, F: Medium>(
     drum: &mut D,
     disk: &mut F,
 ) -> Outcome
-    requires drum { Serves (D.rows drum.old) (D.record_count drum.old) (D.words_each drum.old) 3840 }
-    requires disk { Holds (F.rows disk.old) (F.record_count disk.old) (F.words_each disk.old) 10000 }
+    requires drum { Serves (D.contents drum.old) (D.record_count drum.old) (D.words_each drum.old) 3840 }
+    requires disk { Holds (F.contents disk.old) (F.record_count disk.old) (F.words_each disk.old) 10000 }
     ensures status { IsOneOf result.status (0 ∷ 4 ∷ 5 ∷ 6 ∷ 8 ∷ []) }
     ensures done { (input : InputSeen) (link : LinkSeen) → result.status ≡ 0
         → IsRun (Mode.Load n) (devices input (output_seen K.Sink sink.old) (media_seen D.Medium F.Medium drum.old disk.old) link)
@@ -264,8 +264,8 @@ pub fn run_ctss<S: Source, K: Sink, D: Medium, F: Medium, L: Link>(
     disk: &mut F,
     link: &mut L,
 ) -> Outcome
-    requires drum { Serves (D.rows drum.old) (D.record_count drum.old) (D.words_each drum.old) 3840 }
-    requires disk { Holds (F.rows disk.old) (F.record_count disk.old) (F.words_each disk.old) 10000 }
+    requires drum { Serves (D.contents drum.old) (D.record_count drum.old) (D.words_each drum.old) 3840 }
+    requires disk { Holds (F.contents disk.old) (F.record_count disk.old) (F.words_each disk.old) 10000 }
     ensures headline { (mode : ModeAsked) → mode_of words.now ≡ Some mode → runs_script mode ≡ true
         → result.status ≡ 0 → IsRun mode (seen S.Source K.Sink D.Medium F.Medium input.old output.old drum.old disk.old (L.seen link.old))
         (seen S.Source K.Sink D.Medium F.Medium input.new output.new drum.new disk.new (L.seen link.new)) result }

@@ -45,7 +45,7 @@ fn refusal(alloc: Global, card: u32, cause: u8) -> Result<Bytes, NoMemory>
 pub(crate) fn refuse_words<K: Sink>(alloc: Global, sink: &mut K) -> Outcome
     ensures status { IsOneOf result.status (1 ∷ 4 ∷ []) }
     ensures refused { result.status ≡ 1 → result ≡ bare 1 0 0 }
-    ensures told { result.status ≡ 1 → K.held sink.new ≡ after (K.held sink.old) words_refused }
+    ensures written { result.status ≡ 1 → K.held sink.new ≡ after (K.held sink.old) words_refused }
     ensures cut { result.status ≡ 4 → result ≡ bare 4 0 0 }
     ensures part { result.status ≡ 4 → GrewByProperPrefix (K.held sink.old) words_refused (K.held sink.new) }
     ensures cause { result.status ≡ 4 → Rose (K.faults sink.old) (K.faults sink.new) }
@@ -57,7 +57,7 @@ pub(crate) fn refuse_words<K: Sink>(alloc: Global, sink: &mut K) -> Outcome
 pub(crate) fn refuse_script<K: Sink>(alloc: Global, sink: &mut K, card: u32, cause: u8) -> Outcome
     ensures status { IsOneOf result.status (2 ∷ 4 ∷ 8 ∷ []) }
     ensures refused { result.status ≡ 2 → result ≡ bare 2 card cause }
-    ensures told { result.status ≡ 2 → K.held sink.new ≡ after (K.held sink.old) (script_refused card cause) }
+    ensures written { result.status ≡ 2 → K.held sink.new ≡ after (K.held sink.old) (script_refused card cause) }
     ensures cut { result.status ≡ 4 → result ≡ bare 4 0 0 }
     ensures part { result.status ≡ 4 → GrewByProperPrefix (K.held sink.old) (script_refused card cause) (K.held sink.new) }
     ensures cause { result.status ≡ 4 → Rose (K.faults sink.old) (K.faults sink.new) }

@@ -27,7 +27,7 @@ pub trait Directories {
     ghost state: { Self → DirectoriesState };
 
     /// No call has failed at the disk.
-    ghost Works: { Self → Type 0 };
+    ghost Usable: { Self → Type 0 };
 
     /// The same objects.
     ghost Keeps: { Self → Self → Type 0 };
@@ -43,7 +43,7 @@ pub trait Directories {
         core: &mut M,
         now: u64,
     ) -> Result<Turn, StepFault>
-        requires works { Works self.old }
+        requires usable { Usable self.old }
         requires user { user ≤ (state self.old).count }
         requires tracks { (state self.old).may user ≡ session.old.inner.account.tracks }
         requires size { length (M.words core.old) ≡ 256 * session.old.inner.blocks }
@@ -56,7 +56,7 @@ pub trait Directories {
         ensures err { OnErr result (session.new ≡ session.old) }
         ensures err_core { OnErr result (M.words core.new ≡ M.words core.old) }
         ensures core_keeps { M.Keeps core.old core.new }
-        ensures works { ¬ IsErrOf result StepFault.Disk → Works self.new }
+        ensures usable { ¬ IsErrOf result StepFault.Disk → Usable self.new }
         ensures keeps { Keeps self.old self.new }
         ensures serves { Serves user result (state self.old) (state self.new) };
 
@@ -69,13 +69,13 @@ pub trait Directories {
         reply: &Reply,
         now: u64,
     ) -> Result<Step, StepFault>
-        requires works { Works self.old }
+        requires usable { Usable self.old }
         requires user { user ≤ (state self.old).count }
         requires tracks { (state self.old).may user ≡ session.old.inner.account.tracks }
         requires asks { (op : CommonOp) × IsToMake (state self.old).tells
             (stored (M.words core.old) ((state self.old).own user)) op session.old }
         requires size { length (M.words core.old) ≡ 256 * session.old.inner.blocks }
-        requires told { ReplyFits reply.now }
+        requires reply_fits { ReplyFits reply.now }
         requires fits { session.old.own < 2 ^ 64 - 1 }
         ensures step { (op : CommonOp) → IsToMake (state self.old).tells
             (stored (M.words core.old) ((state self.old).own user)) op session.old
@@ -86,28 +86,28 @@ pub trait Directories {
         ensures err { OnErr result (session.new ≡ session.old) }
         ensures err_core { OnErr result (M.words core.new ≡ M.words core.old) }
         ensures core_keeps { M.Keeps core.old core.new }
-        ensures works { ¬ IsErrOf result StepFault.Disk → Works self.new }
+        ensures usable { ¬ IsErrOf result StepFault.Disk → Usable self.new }
         ensures keeps { Keeps self.old self.new }
         ensures serves { Serves user result (state self.old) (state self.new) };
 
     /// An operation on the common files: its reply, which may be a refusal.
     fn share(&mut self, op: &CommonOp) -> Result<Reply, StepFault>
-        requires works { Works self.old }
+        requires usable { Usable self.old }
         ensures shares { Shares op.now result (state self.old) (state self.new) }
-        ensures works { ¬ IsErrOf result StepFault.Disk → Works self.new }
+        ensures usable { ¬ IsErrOf result StepFault.Disk → Usable self.new }
         ensures keeps { Keeps self.old self.new };
 
     /// A user's files of mode 0 go. It takes no memory, and makes no call of the disk.
     fn drop_temporary(&mut self, user: UserNo)
-        requires works { Works self.old }
+        requires usable { Usable self.old }
         requires user { user ≤ (state self.old).count }
         ensures drops { Drops user (state self.old) (state self.new) }
-        ensures works { Works self.new }
+        ensures usable { Usable self.new }
         ensures keeps { Keeps self.old self.new };
 
     /// All files. Nothing may be asked behind it.
     fn take_lists(&mut self, alloc: Global) -> Result<Lists, StepFault>
-        requires works { Works self.old }
+        requires usable { Usable self.old }
         ensures lists { (state self.old).tells ≡ true → IfOk result
             (λ lists. lists.own.items ≡ lists_from 1 (state self.old).count (state self.old).own) }
         ensures common { (state self.old).tells ≡ true → IfOk result (λ lists. lists.common ≡ (state self.old).common) }

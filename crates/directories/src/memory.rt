@@ -108,7 +108,7 @@ impl Directories for MemoryDirectories {
 
     ghost state = { λ d. state_of d };
 
-    ghost Works = { λ _. Unit {0} };
+    ghost Usable = { λ _. Unit {0} };
 
     ghost Keeps = { λ _ _. Unit {0} };
 

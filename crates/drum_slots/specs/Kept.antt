@@ -4,13 +4,13 @@ use Rattle.medium.specs.Medium.{HasShape}
 
 -- the words of a copy, in these records
 abbrev pub words_of : List (List ℕ) → Option ℕ → Option (List ℕ)
-words_of rows None = None
-words_of rows (Some r) = Some (slice_index_or rows r [])
+words_of contents None = None
+words_of contents (Some r) = Some (slice_index_or contents r [])
 
 -- the words of the copy of each place, where records are told
 abbrev pub copies : Option (List (List ℕ)) → List (Option ℕ) → Option (List (Option (List ℕ)))
 copies None slots = None
-copies (Some rows) slots = Some (map (words_of rows) slots)
+copies (Some contents) slots = Some (map (words_of contents) slots)
 
 -- the copies with another, or none, in one place
 abbrev pub with_copy : Option (List (Option (List ℕ))) → ℕ → Option (List ℕ) → Option (List (Option (List ℕ)))
@@ -27,7 +27,7 @@ abbrev pub ChangesCopy : Option (List (Option (List ℕ))) → Option (List (Opt
 ChangesCopy old new k = (ws : List ℕ) × (new ≡ with_copy old k (Some ws))
 
 -- a drum with this many records of this many words serves slots in so many records
-pub record Serves (rows : Option (List (List ℕ))) (count each records : ℕ) : Type 0 where
-  pub shape : HasShape rows count
+pub record Serves (contents : Option (List (List ℕ))) (count each records : ℕ) : Type 0 where
+  pub shape : HasShape contents count
   pub within : records ≤ count
   pub whole : each ≡ 256

@@ -35,4 +35,4 @@ record_of s user block = slot_of s.slots.items (place_of s user block)
 
 -- the copy of each place, where the drum tells its records
 abbrev pub copies_in : Option (List (List ℕ)) → Slots → Option (List (Option (List ℕ)))
-copies_in rows s = copies rows s.slots.items
+copies_in contents s = copies contents s.slots.items

@@ -59,7 +59,7 @@ impl<'a, D: Medium> SlotTable<'a, D> {
         quotas: &[u8],
     ) -> Result<SlotTable<'a, D>, NoMemory>
         requires fits { sum quotas.now ≤ records }
-        requires serves { Serves (D.rows drum.old) (D.record_count drum.old)
+        requires serves { Serves (D.contents drum.old) (D.record_count drum.old)
             (D.words_each drum.old) records }
         ensures same { IfOk result (λ t. t.drum.ghost_name ≡ drum.entry.ghost_name) }
         ensures now { IfOk result (λ t. t.drum.now ≡ drum.old) }
@@ -107,17 +107,17 @@ impl<'a, D: Medium> SlotTable<'a, D> {
         requires empty { record_of self.old.slots user block ≡ None }
         requires whole { length from.now ≡ 256 }
         requires words { AreWords from.now }
-        requires serves { Serves (D.rows self.old.drum.now) (D.record_count self.old.drum.now)
+        requires serves { Serves (D.contents self.old.drum.now) (D.record_count self.old.drum.now)
             (D.words_each self.old.drum.now) (records_of self.old.slots) }
 
         ensures same { self.new.drum.ghost_name ≡ self.old.drum.ghost_name }
-        ensures serves { Serves (D.rows self.new.drum.now) (D.record_count self.new.drum.now)
+        ensures serves { Serves (D.contents self.new.drum.now) (D.record_count self.new.drum.now)
             (D.words_each self.new.drum.now) (records_of self.new.slots) }
         ensures count { D.record_count self.new.drum.now ≡ D.record_count self.old.drum.now }
         ensures quotas { self.new.slots.quotas ≡ self.old.slots.quotas }
 
-        ensures ok { OnOk result (copies_in (D.rows self.new.drum.now) self.new.slots
-            ≡ with_copy (copies_in (D.rows self.old.drum.now) self.old.slots)
+        ensures ok { OnOk result (copies_in (D.contents self.new.drum.now) self.new.slots
+            ≡ with_copy (copies_in (D.contents self.old.drum.now) self.old.slots)
             (place_of self.old.slots user block) (Some from.now)) }
         ensures slot { OnOk result (slots_of self.new.slots
             ≡ slice_set (slots_of self.old.slots) (place_of self.old.slots user block)
@@ -125,15 +125,15 @@ impl<'a, D: Medium> SlotTable<'a, D> {
         ensures free { OnOk result (free_of self.new.slots
             ≡ slice_set (free_of self.old.slots) (next_of self.old.slots) false) }
 
-        ensures err { OnErr result (copies_in (D.rows self.new.drum.now) self.new.slots
-            ≡ copies_in (D.rows self.old.drum.now) self.old.slots) }
+        ensures err { OnErr result (copies_in (D.contents self.new.drum.now) self.new.slots
+            ≡ copies_in (D.contents self.old.drum.now) self.old.slots) }
         ensures slots { OnErr result (self.new.slots ≡ self.old.slots) }
 
         // One write, at the least free record.
         ensures calls { D.calls self.new.drum.now
             ≡ with_call (D.calls self.old.drum.now)
             (write_call (next_of self.old.slots) (is_err result)) }
-        ensures kept { D.faults self.old.drum.now ≤ D.faults self.new.drum.now }
+        ensures faults_grow { D.faults self.old.drum.now ≤ D.faults self.new.drum.now }
         ensures cause { OnErr result
             (Rose (D.faults self.old.drum.now) (D.faults self.new.drum.now)) }
     {
@@ -151,20 +151,20 @@ impl<'a, D: Medium> SlotTable<'a, D> {
         requires kept { IsSome (record_of self.old.slots user block) }
         requires whole { length into.old ≡ 256 }
         requires words { AreWords into.old }
-        requires serves { Serves (D.rows self.old.drum.now) (D.record_count self.old.drum.now)
+        requires serves { Serves (D.contents self.old.drum.now) (D.record_count self.old.drum.now)
             (D.words_each self.old.drum.now) (records_of self.old.slots) }
 
         ensures same { self.new.drum.ghost_name ≡ self.old.drum.ghost_name }
-        ensures serves { Serves (D.rows self.new.drum.now) (D.record_count self.new.drum.now)
+        ensures serves { Serves (D.contents self.new.drum.now) (D.record_count self.new.drum.now)
             (D.words_each self.new.drum.now) (records_of self.new.slots) }
         ensures count { D.record_count self.new.drum.now ≡ D.record_count self.old.drum.now }
         ensures quotas { self.new.slots.quotas ≡ self.old.slots.quotas }
         ensures words { AreWords into.new }
 
-        ensures given { OnOk result (HasCopy (copies_in (D.rows self.old.drum.now) self.old.slots)
+        ensures given { OnOk result (HasCopy (copies_in (D.contents self.old.drum.now) self.old.slots)
             (place_of self.old.slots user block) into.new) }
-        ensures ok { OnOk result (copies_in (D.rows self.new.drum.now) self.new.slots
-            ≡ with_copy (copies_in (D.rows self.old.drum.now) self.old.slots)
+        ensures ok { OnOk result (copies_in (D.contents self.new.drum.now) self.new.slots
+            ≡ with_copy (copies_in (D.contents self.old.drum.now) self.old.slots)
             (place_of self.old.slots user block) None) }
         ensures slot { OnOk result (slots_of self.new.slots
             ≡ slice_set (slots_of self.old.slots) (place_of self.old.slots user block) None) }
@@ -172,8 +172,8 @@ impl<'a, D: Medium> SlotTable<'a, D> {
             → OnOk result (free_of self.new.slots ≡ slice_set (free_of self.old.slots) at true) }
 
         ensures err { OnErr result
-            (ChangesCopy (copies_in (D.rows self.old.drum.now) self.old.slots)
-            (copies_in (D.rows self.new.drum.now) self.new.slots)
+            (ChangesCopy (copies_in (D.contents self.old.drum.now) self.old.slots)
+            (copies_in (D.contents self.new.drum.now) self.new.slots)
             (place_of self.old.slots user block)) }
         ensures slots { OnErr result (self.new.slots ≡ self.old.slots) }
 
@@ -181,7 +181,7 @@ impl<'a, D: Medium> SlotTable<'a, D> {
         ensures calls { (at : ℕ) → record_of self.old.slots user block ≡ Some at
             → D.calls self.new.drum.now
             ≡ with_call (D.calls self.old.drum.now) (read_call at (is_err result) into.new) }
-        ensures kept { D.faults self.old.drum.now ≤ D.faults self.new.drum.now }
+        ensures faults_grow { D.faults self.old.drum.now ≤ D.faults self.new.drum.now }
         ensures cause { OnErr result
             (Rose (D.faults self.old.drum.now) (D.faults self.new.drum.now)) }
     {

@@ -12,7 +12,7 @@ use Rattle.fap_model.specs.Places.{Known, max_place, field_is_wrong, field_is_de
 use Rattle.fap_model.specs.Decks as decks
 use Rattle.fap_model.specs.Decks.{Whole}
 use Rattle.fap_assemble.specs.declared.field.Said.{Said}
-use Rattle.fap_assemble.specs.Fields.{said, seen, is_wrong, least, is_misshapen, machine_word, plain_word, given_words}
+use Rattle.fap_assemble.specs.Fields.{said, known_at, is_wrong, least, is_misshapen, machine_word, plain_word, given_words}
 use Rattle.fap_assemble.specs.CardWords.{words_said}
 use Rattle.fap_assemble.proofs.Places.{wrong_is}
 
@@ -59,8 +59,8 @@ all_names whole = take_all (length whole.names) whole.names (omega arith)
 
 pub words_are : (whole : Whole) (visible place : ℕ) (o : Operation) (card : List ℕ)
     → words_said whole o (flag_of card) (option_map (said (take (length whole.names) whole.names) place) (says.field_for o card))
-    ≡ decks.words_by whole (seen whole.names visible place) (Some o) card
-words_are whole visible place o card = rw (all_names whole) (said_words whole (seen whole.names visible place) o card)
+    ≡ decks.words_by whole (known_at whole.names visible place) (Some o) card
+words_are whole visible place o card = rw (all_names whole) (said_words whole (known_at whole.names visible place) o card)
 
 -- what it means that a card has no fault
 
@@ -120,10 +120,10 @@ right_by whole k oct card h = (fine whole.names 0 false k oct card h).right
 right_by whole k bci card h = (fine whole.names 0 false k bci card h).right
 right_by whole k end card h = (fine whole.names (length whole.literals) (decks.start_is_outside whole k (says.field_for end card)) k end card h).right
 
-pub right_field : (whole : Whole) (visible place : ℕ) (o : Operation) (card : List ℕ) → decks.fault_of whole (seen whole.names visible place) card ≡ 0 → decks.operation_in card ≡ Some o
+pub right_field : (whole : Whole) (visible place : ℕ) (o : Operation) (card : List ℕ) → decks.fault_of whole (known_at whole.names visible place) card ≡ 0 → decks.operation_in card ≡ Some o
     → is_wrong (option_map (said (take (length whole.names) whole.names) place) (says.field_for o card)) ≡ false
 right_field whole visible place o card h e =
-    let k : Known = seen whole.names visible place in
+    let k : Known = known_at whole.names visible place in
     rw (all_names whole) (wrong_is whole.names k (says.field_for o card) ∙ right_by whole k o card (by_operation whole k card o h e))
 
 counted : (k : Known) (f : Option says.Field) → length (decks.given_words f) ≡ count_of dec k f
@@ -146,24 +146,24 @@ room_by whole k oct card p h = omega (arith, (fine whole.names 0 false k oct car
 room_by whole k bci card p h = omega (arith, (fine whole.names 0 false k bci card h).near, counted k (says.field_for bci card))
 room_by whole k end card p h = omega arith
 
-pub room_for : (whole : Whole) (visible place : ℕ) (o : Operation) (card : List ℕ) → place < 2 ^ 33 → decks.fault_of whole (seen whole.names visible place) card ≡ 0 → decks.operation_in card ≡ Some o
+pub room_for : (whole : Whole) (visible place : ℕ) (o : Operation) (card : List ℕ) → place < 2 ^ 33 → decks.fault_of whole (known_at whole.names visible place) card ≡ 0 → decks.operation_in card ≡ Some o
     → place + length (words_said whole o (flag_of card) (option_map (said (take (length whole.names) whole.names) place) (says.field_for o card))) < 2 ^ 34
 room_for whole visible place o card p h e =
-    let k : Known = seen whole.names visible place in
+    let k : Known = known_at whole.names visible place in
     rw (words_are whole visible place o card) (room_by whole k o card p (by_operation whole k card o h e))
 
 -- the same of what was read
 
-pub right_said : (whole : Whole) (visible place n : ℕ) (o : Operation) (card : List ℕ) (s : Option Said) → decks.fault_of whole (seen whole.names visible place) card ≡ 0
+pub right_said : (whole : Whole) (visible place n : ℕ) (o : Operation) (card : List ℕ) (s : Option Said) → decks.fault_of whole (known_at whole.names visible place) card ≡ 0
     → decks.operation_in card ≡ Some o → n ≡ length whole.names → s ≡ option_map (said (take n whole.names) place) (says.field_for o card) → is_wrong s ≡ false
 right_said whole visible place n o card s h e m r = rw (r, m) (right_field whole visible place o card h e)
 
 pub room_said : (whole : Whole) (visible place n : ℕ) (o : Operation) (card : List ℕ) (flag : Bool) (s : Option Said) → place < 2 ^ 33
-    → decks.fault_of whole (seen whole.names visible place) card ≡ 0 → decks.operation_in card ≡ Some o → n ≡ length whole.names
+    → decks.fault_of whole (known_at whole.names visible place) card ≡ 0 → decks.operation_in card ≡ Some o → n ≡ length whole.names
     → s ≡ option_map (said (take n whole.names) place) (says.field_for o card) → flag ≡ flag_of card → place + length (words_said whole o flag s) < 2 ^ 34
 room_said whole visible place n o card flag s p h e m r f = rw (r, m, f) (room_for whole visible place o card p h e)
 
 pub words_read : (whole : Whole) (visible place n : ℕ) (o : Operation) (card : List ℕ) (flag : Bool) (s : Option Said) → decks.operation_in card ≡ Some o → n ≡ length whole.names
     → s ≡ option_map (said (take n whole.names) place) (says.field_for o card) → flag ≡ flag_of card
-    → words_said whole o flag s ≡ decks.words_by whole (seen whole.names visible place) (decks.operation_in card) card
+    → words_said whole o flag s ≡ decks.words_by whole (known_at whole.names visible place) (decks.operation_in card) card
 words_read whole visible place n o card flag s e m r f = rw (r, m, f, e) (words_are whole visible place o card)

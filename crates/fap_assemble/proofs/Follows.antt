@@ -5,7 +5,7 @@ use Rattle.fap_read.specs.declared.card.Card.{Card}
 use Rattle.fap_model.specs.Places.{Known, value_in, known_behind, known_after}
 use Rattle.fap_model.specs.Decks.{Whole, operation_in, words_by, fault_of, fault_entry, faults_from}
 use Rattle.fap_assemble.specs.Runs.{Open, words_in, cards_in}
-use Rattle.fap_assemble.specs.Fields.{seen}
+use Rattle.fap_assemble.specs.Fields.{known_at}
 use Rattle.fap_assemble.specs.Steps.{definition, place_by, value_by, new_symbols, texts}
 use Rattle.fap_assemble.specs.Passes.{symbol_entered}
 use Rattle.fap_assemble.specs.Follows.{Follows}
@@ -51,39 +51,39 @@ front_of xs more ys n e h = rw (e, h) (front xs)
     front (z ∷ zs) = ap (λ (l : List (ℕ × ℕ)). z ∷ l) (front zs)
 
 module _ (symbols : List (ℕ × ℕ)) (visible place next_visible next : ℕ) (card : List ℕ) (rest : List (List ℕ)) (h : Follows symbols visible place (card ∷ rest))
-    (p : next ≡ place_by (operation_in card) (seen symbols visible place) card) (v : next_visible ≡ visible + new_symbols (take visible symbols) (definition card)) where
+    (p : next ≡ place_by (operation_in card) (known_at symbols visible place) card) (v : next_visible ≡ visible + new_symbols (take visible symbols) (definition card)) where
   behind : Known
-  behind = known_behind (seen symbols visible place) card
+  behind = known_behind (known_at symbols visible place) card
 
   long : next_visible ≡ length behind.symbols
   unfolding behind
   long =
-      let parts = parts_behind (seen symbols visible place) card in
-      let lengths = entered_length (take visible symbols) (definition card) (value_by (operation_in card) (seen symbols visible place) card) in
+      let parts = parts_behind (known_at symbols visible place) card in
+      let lengths = entered_length (take visible symbols) (definition card) (value_by (operation_in card) (known_at symbols visible place) card) in
       let short : length (take visible symbols) ≡ visible = simp length-take (omega (arith, h.within)) in
-      let grown : length (known_behind (seen symbols visible place) card).symbols ≡ visible + new_symbols (take visible symbols) (definition card)
+      let grown : length (known_behind (known_at symbols visible place) card).symbols ≡ visible + new_symbols (take visible symbols) (definition card)
       = ap (λ (n : Known). length n.symbols) parts ∙ lengths ∙ ap (λ (n : ℕ). n + new_symbols (take visible symbols) (definition card)) short in
       v ∙ sym grown
 
   whole_front : take next_visible symbols ≡ behind.symbols
   unfolding behind
   whole_front =
-      let g = all_grow (known_behind (seen symbols visible place) card) rest in
-      front_of (known_behind (seen symbols visible place) card).symbols g.0 symbols next_visible (sym h.all ∙ g.1) long
+      let g = all_grow (known_behind (known_at symbols visible place) card) rest in
+      front_of (known_behind (known_at symbols visible place) card).symbols g.0 symbols next_visible (sym h.all ∙ g.1) long
 
-  pub seen_next : seen symbols next_visible next ≡ known_behind (seen symbols visible place) card
+  pub seen_next : known_at symbols next_visible next ≡ known_behind (known_at symbols visible place) card
   unfolding behind
   seen_next =
-      let parts = parts_behind (seen symbols visible place) card in
-      let at : next ≡ (known_behind (seen symbols visible place) card).place = p ∙ sym (ap (λ (n : Known). n.place) parts) in
+      let parts = parts_behind (known_at symbols visible place) card in
+      let at : next ≡ (known_behind (known_at symbols visible place) card).place = p ∙ sym (ap (λ (n : Known). n.place) parts) in
       rw (whole_front, at) refl
 
   pub follows_next : Follows symbols next_visible next rest
   unfolding behind
   follows_next =
-      let g = all_grow (known_behind (seen symbols visible place) card) rest in
-      let total : length symbols ≡ length (known_behind (seen symbols visible place) card).symbols + length g.0
-      = ap (λ (l : List (ℕ × ℕ)). length l) (sym h.all ∙ g.1) ∙ length-append (known_behind (seen symbols visible place) card).symbols g.0 in
+      let g = all_grow (known_behind (known_at symbols visible place) card) rest in
+      let total : length symbols ≡ length (known_behind (known_at symbols visible place) card).symbols + length g.0
+      = ap (λ (l : List (ℕ × ℕ)). length l) (sym h.all ∙ g.1) ∙ length-append (known_behind (known_at symbols visible place) card).symbols g.0 in
       record {
         all = subst (λ (n : Known). (known_after n rest).symbols ≡ symbols) (sym seen_next) h.all;
         within = omega (arith, total, long);
@@ -92,15 +92,15 @@ module _ (symbols : List (ℕ × ℕ)) (visible place next_visible next : ℕ) (
 -- the same in a loop over cards
 
 pub follows_at : (symbols : List (ℕ × ℕ)) (cards : List Card) (i : ℕ) (c : Card) (text : List ℕ) (visible place next_visible next : ℕ) → i < length cards → c ≡ get_or cards i c → text ≡ c.text
-    → Follows symbols visible place (texts (drop i cards)) → next ≡ place_by (operation_in text) (seen symbols visible place) text
+    → Follows symbols visible place (texts (drop i cards)) → next ≡ place_by (operation_in text) (known_at symbols visible place) text
     → next_visible ≡ visible + new_symbols (take visible symbols) (definition text) → Follows symbols next_visible next (texts (drop (i + 1) cards))
 follows_at symbols cards i c text visible place next_visible next lt is e h p v =
     follows_next symbols visible place next_visible next text (texts (drop (i + 1) cards))
     (subst (λ (cs : List (List ℕ)). Follows symbols visible place cs) (texts_at cards i c lt is ∙ ap (λ (x : List ℕ). x ∷ texts (drop (i + 1) cards)) (sym e)) h) p v
 
 pub seen_at : (symbols : List (ℕ × ℕ)) (cards : List Card) (i : ℕ) (c : Card) (text : List ℕ) (visible place next_visible next : ℕ) → i < length cards → c ≡ get_or cards i c → text ≡ c.text
-    → Follows symbols visible place (texts (drop i cards)) → next ≡ place_by (operation_in text) (seen symbols visible place) text
-    → next_visible ≡ visible + new_symbols (take visible symbols) (definition text) → seen symbols next_visible next ≡ known_behind (seen symbols visible place) text
+    → Follows symbols visible place (texts (drop i cards)) → next ≡ place_by (operation_in text) (known_at symbols visible place) text
+    → next_visible ≡ visible + new_symbols (take visible symbols) (definition text) → known_at symbols next_visible next ≡ known_behind (known_at symbols visible place) text
 seen_at symbols cards i c text visible place next_visible next lt is e h p v =
     seen_next symbols visible place next_visible next text (texts (drop (i + 1) cards))
     (subst (λ (cs : List (List ℕ)). Follows symbols visible place cs) (texts_at cards i c lt is ∙ ap (λ (x : List ℕ). x ∷ texts (drop (i + 1) cards)) (sym e)) h) p v

@@ -5,7 +5,7 @@ use Rattle.fap_model.specs.declared.types.Operation.{Operation}
 use Rattle.fap_model.specs.Statements.{operation_named}
 use Rattle.fap_model.specs.Places.{Known, with_symbol, known_with, known_behind}
 use Rattle.fap_model.specs.Decks.{operation_in, size_by, reach_of, literal_by, with_literal}
-use Rattle.fap_assemble.specs.Fields.{seen}
+use Rattle.fap_assemble.specs.Fields.{known_at}
 use Rattle.fap_assemble.specs.Steps.{definition, place_by, value_by, texts}
 use Rattle.fap_read.specs.declared.card.Card.{Card}
 use Rattle.fap_assemble.specs.declared.tables.Tables.{Tables}
@@ -32,24 +32,24 @@ pub parts_behind : (k : Known) (card : List ℕ)
     → known_behind k card ≡ record { place = place_by (operation_in card) k card; symbols = symbol_entered k.symbols (definition card) (value_by (operation_in card) k card) }
 parts_behind k card = parts_case k card (is_comment card)
 
-seen_all : (symbols : List (ℕ × ℕ)) (place : ℕ) → seen symbols (length symbols) place ≡ record { place = place; symbols = symbols }
+seen_all : (symbols : List (ℕ × ℕ)) (place : ℕ) → known_at symbols (length symbols) place ≡ record { place = place; symbols = symbols }
 seen_all symbols place = rw (take_all (length symbols) symbols (omega arith)) refl
 
-pub entered_known : (symbols : List (ℕ × ℕ)) (place next value : ℕ) (card : List ℕ) → next ≡ place_by (operation_in card) (seen symbols (length symbols) place) card
-    → value ≡ value_by (operation_in card) (seen symbols (length symbols) place) card
+pub entered_known : (symbols : List (ℕ × ℕ)) (place next value : ℕ) (card : List ℕ) → next ≡ place_by (operation_in card) (known_at symbols (length symbols) place) card
+    → value ≡ value_by (operation_in card) (known_at symbols (length symbols) place) card
     → known_behind (record { place = place; symbols = symbols }) card ≡ record { place = next; symbols = symbol_entered symbols (definition card) value }
 entered_known symbols place next value card n v =
-    let at : seen symbols (length symbols) place ≡ record { place = place; symbols = symbols } = seen_all symbols place in
+    let at : known_at symbols (length symbols) place ≡ record { place = place; symbols = symbols } = seen_all symbols place in
     parts_behind (record { place = place; symbols = symbols }) card ∙ rw (n, v, at) refl
 
-pub entered_reach : (symbols : List (ℕ × ℕ)) (place size : ℕ) (card : List ℕ) → size ≡ size_by (operation_in card) (seen symbols (length symbols) place) card
+pub entered_reach : (symbols : List (ℕ × ℕ)) (place size : ℕ) (card : List ℕ) → size ≡ size_by (operation_in card) (known_at symbols (length symbols) place) card
     → size_by (operation_in card) (record { place = place; symbols = symbols }) card ≡ size
 entered_reach symbols place size card s =
-    let at : seen symbols (length symbols) place ≡ record { place = place; symbols = symbols } = seen_all symbols place in
+    let at : known_at symbols (length symbols) place ≡ record { place = place; symbols = symbols } = seen_all symbols place in
     rw (s, at) refl
 
-pub entered : (symbols new : List (ℕ × ℕ)) (place next value : ℕ) (card : List ℕ) → next ≡ place_by (operation_in card) (seen symbols (length symbols) place) card
-    → value ≡ value_by (operation_in card) (seen symbols (length symbols) place) card → new ≡ symbol_entered symbols (definition card) value
+pub entered : (symbols new : List (ℕ × ℕ)) (place next value : ℕ) (card : List ℕ) → next ≡ place_by (operation_in card) (known_at symbols (length symbols) place) card
+    → value ≡ value_by (operation_in card) (known_at symbols (length symbols) place) card → new ≡ symbol_entered symbols (definition card) value
     → record { place = next; symbols = new } ≡ known_behind (record { place = place; symbols = symbols }) card
 entered symbols new place next value card n v e = rw e (sym (entered_known symbols place next value card n v))
 

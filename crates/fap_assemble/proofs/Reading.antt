@@ -196,10 +196,6 @@ no_both (x ∷ xs) ys h = absurd (some_none h)
     some_none : (x ∷ (xs ++ ys)) ≡ [] → ⊥
     some_none h = cc
 
-pub sound_from : (cards : List (List ℕ)) (whole : Whole) (read : List (List ℕ)) → whole ≡ whole_of cards → read ≡ cards_read cards → faults_of cards ≡ []
-    → faults_from whole 1 nothing_known read ≡ []
-sound_from cards whole read w r h = rw (w, r) (no_both (faults_from (whole_of cards) 1 nothing_known (cards_read cards)) (if has_end cards then [] else (length cards + 1, 6) ∷ []) h).0
-
 abbrev one_unless : Bool → ℕ → List (ℕ × ℕ)
 one_unless b n = if b then [] else (n, 6) ∷ []
 

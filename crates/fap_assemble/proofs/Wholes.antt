@@ -6,7 +6,7 @@ use Rattle.fap_model.specs.declared.types.Operation.TheVariants.{Machine as mach
 use Rattle.fap_model.specs.Statements as says
 use Rattle.fap_model.specs.Places.{Known, looks_back, fault_with}
 use Rattle.fap_model.specs.Decks.{Whole, names_for, start_is_outside, fault_by}
-use Rattle.fap_assemble.specs.Fields.{said, seen, fault}
+use Rattle.fap_assemble.specs.Fields.{said, known_at, fault}
 use Rattle.fap_assemble.specs.declared.field.Said.{Said}
 use Rattle.fap_assemble.specs.Wholes.{is_start_outside, names_seen, card_fault}
 use Rattle.fap_assemble.proofs.Places.{fault_is}
@@ -23,13 +23,13 @@ no_back : looks_back end ≡ true → ⊥
 no_back h = cc
 
 pub end_fault_is : (whole : Whole) (visible place : ℕ) (card : List ℕ)
-    → fault (length whole.literals) (is_start_outside whole.blocks (option_map (said (take (length whole.names) whole.names) place) (says.field_for end card))) (seen whole.names visible place)
+    → fault (length whole.literals) (is_start_outside whole.blocks (option_map (said (take (length whole.names) whole.names) place) (says.field_for end card))) (known_at whole.names visible place)
     end card (option_map (said (take (length whole.names) whole.names) place) (says.field_for end card))
-    ≡ fault_by (Some end) whole (seen whole.names visible place) card
+    ≡ fault_by (Some end) whole (known_at whole.names visible place) card
 end_fault_is whole visible place card =
     let all : take (length whole.names) whole.names ≡ whole.names = take_all (length whole.names) whole.names (omega arith) in
-    rw (all, outside_is whole (seen whole.names visible place) (says.field_for end card))
-    (fault_is whole.names (length whole.literals) (start_is_outside whole (seen whole.names visible place) (says.field_for end card)) (seen whole.names visible place) end card
+    rw (all, outside_is whole (known_at whole.names visible place) (says.field_for end card))
+    (fault_is whole.names (length whole.literals) (start_is_outside whole (known_at whole.names visible place) (says.field_for end card)) (known_at whole.names visible place) end card
     (says.field_for end card) (λ h. absurd (no_back h)))
 
 names_case : (whole : Whole) (visible : ℕ) (b : Bool) → take (if b then visible else length whole.names) whole.names ≡ (if b then take visible whole.names else whole.names)
@@ -42,13 +42,13 @@ back_case whole visible false h = cc
 
 ordinary : (whole : Whole) (visible place : ℕ) (o : Operation) (card : List ℕ)
     → card_fault o whole.names visible place card
-    ≡ fault_with (names_for o whole (seen whole.names visible place)) 0 false (seen whole.names visible place) o card (says.field_for o card)
+    ≡ fault_with (names_for o whole (known_at whole.names visible place)) 0 false (known_at whole.names visible place) o card (says.field_for o card)
 ordinary whole visible place o card =
     rw (names_case whole visible (looks_back o))
-    (fault_is (names_for o whole (seen whole.names visible place)) 0 false (seen whole.names visible place) o card (says.field_for o card) (λ h. back_case whole visible (looks_back o) h))
+    (fault_is (names_for o whole (known_at whole.names visible place)) 0 false (known_at whole.names visible place) o card (says.field_for o card) (λ h. back_case whole visible (looks_back o) h))
 
 pub card_fault_is : (whole : Whole) (visible place : ℕ) (o : Operation) (card : List ℕ) → o ≢ end
-    → card_fault o whole.names visible place card ≡ fault_by (Some o) whole (seen whole.names visible place) card
+    → card_fault o whole.names visible place card ≡ fault_by (Some o) whole (known_at whole.names visible place) card
 card_fault_is whole visible place (machine o) card h = ordinary whole visible place (machine o) card
 card_fault_is whole visible place pze card h = ordinary whole visible place pze card
 card_fault_is whole visible place org card h = ordinary whole visible place org card
@@ -60,10 +60,10 @@ card_fault_is whole visible place bci card h = ordinary whole visible place bci 
 card_fault_is whole visible place end card h = absurd (h refl)
 
 pub card_said : (o : Operation) (symbols : List (ℕ × ℕ)) (visible place n : ℕ) (card : List ℕ) (s : Option Said) → s ≡ option_map (said (take n symbols) place) (says.field_for o card)
-    → n ≡ names_seen o symbols visible → fault 0 false (seen symbols visible place) o card s ≡ card_fault o symbols visible place card
+    → n ≡ names_seen o symbols visible → fault 0 false (known_at symbols visible place) o card s ≡ card_fault o symbols visible place card
 card_said o symbols visible place n card s h e = rw (h, e) refl
 
 pub end_said : (whole : Whole) (visible place n more : ℕ) (wrong : Bool) (card : List ℕ) (s : Option Said)
     → s ≡ option_map (said (take n whole.names) place) (says.field_for end card) → n ≡ length whole.names → more ≡ length whole.literals → wrong ≡ is_start_outside whole.blocks s
-    → fault more wrong (seen whole.names visible place) end card s ≡ fault_by (Some end) whole (seen whole.names visible place) card
+    → fault more wrong (known_at whole.names visible place) end card s ≡ fault_by (Some end) whole (known_at whole.names visible place) card
 end_said whole visible place n more wrong card s h e m w = rw (w, m, h, e) (end_fault_is whole visible place card)

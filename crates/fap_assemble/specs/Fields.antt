@@ -15,8 +15,8 @@ use Rattle.fap_assemble.specs.declared.field.Said.{Said}
 use Rattle.fap_assemble.specs.declared.field.Said.TheVariants.{Placed, Half, Nothing, Value, Words}
 
 -- what is known where the first symbols of a table are seen
-abbrev pub seen : List (ℕ × ℕ) → ℕ → ℕ → Known
-seen symbols visible place = record { place = place; symbols = take visible symbols }
+abbrev pub known_at : List (ℕ × ℕ) → ℕ → ℕ → Known
+known_at symbols visible place = record { place = place; symbols = take visible symbols }
 
 abbrev pub address_said : List (ℕ × ℕ) → ℕ → says.Address → Address
 address_said names place (says.plain ts) = Plain (value_of names place ts)
@@ -74,17 +74,17 @@ abbrev pub number : Option Said → ℕ
 number (Some (Value v)) = or_zero v
 number s = 0
 
-abbrev pub given : Option Said → ℕ
-given (Some (Words ws)) = length ws
-given s = 0
+abbrev pub data_words : Option Said → ℕ
+data_words (Some (Words ws)) = length ws
+data_words s = 0
 
 abbrev pub count : Operation → Option Said → ℕ
 count (machine o) s = 1
 count pze s = 1
 count bss s = number s
-count dec s = given s
-count oct s = given s
-count bci s = given s
+count dec s = data_words s
+count oct s = data_words s
+count bci s = data_words s
 count org s = 0
 count equ s = 0
 count end s = 0

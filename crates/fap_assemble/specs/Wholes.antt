@@ -9,7 +9,7 @@ use Rattle.fap_assemble.specs.declared.field.Said.{Said}
 use Rattle.fap_assemble.specs.declared.field.Said.TheVariants.{Value}
 use Rattle.fap_assemble.specs.declared.tables.Tables.{Tables}
 use Rattle.fap_assemble.specs.declared.whole.Whole.{Whole}
-use Rattle.fap_assemble.specs.Fields.{said, seen, fault}
+use Rattle.fap_assemble.specs.Fields.{said, known_at, fault}
 
 abbrev pub whole_in : Whole → decks.Whole
 whole_in w = record { names = w.symbols; literals = w.literals; end_place = w.end_place; blocks = w.blocks }
@@ -32,4 +32,4 @@ names_seen o symbols visible = if looks_back o then visible else length symbols
 
 abbrev pub card_fault : Operation → List (ℕ × ℕ) → ℕ → ℕ → List ℕ → ℕ
 card_fault o symbols visible place card =
-    fault 0 false (seen symbols visible place) o card (option_map (said (take (names_seen o symbols visible) symbols) place) (says.field_for o card))
+    fault 0 false (known_at symbols visible place) o card (option_map (said (take (names_seen o symbols visible) symbols) place) (says.field_for o card))

@@ -4,7 +4,7 @@ ghost use Rattle.fap_model.specs.Terms.{items_of};
 ghost use Rattle.fap_model.specs.Statements.{address_of, parts_of, field_for, literal_at};
 ghost use Rattle.fap_model.specs.Decks.{literal_by};
 ghost use Rattle.fap_model.specs.Places.{value_of};
-ghost use Rattle.fap_assemble.specs.Fields.{address_said, said, joined, HasShortAddress, HasShortValues, IsShort, is_wrong, address_is_defined, is_defined, number, given, begins_literal};
+ghost use Rattle.fap_assemble.specs.Fields.{address_said, said, joined, HasShortAddress, HasShortValues, IsShort, is_wrong, address_is_defined, is_defined, number, data_words, begins_literal};
 ghost use Rattle.fap_assemble.specs.declared.field.Said.TheVariants.{Words};
 
 use crate::expression::value;
@@ -203,8 +203,8 @@ pub(crate) fn number(said: &Option<Said>) -> u16
 }
 
 /// How many words a field gives.
-pub(crate) fn given(said: &Option<Said>) -> usize
-    ensures { result ≡ given said.now }
+pub(crate) fn data_words(said: &Option<Said>) -> usize
+    ensures { result ≡ data_words said.now }
 {
     match said {
         Some(Said::Words(words)) => words.len(),

@@ -4,10 +4,10 @@ ghost use Rattle.fap_model.specs.Statements.{field_for};
 ghost use Rattle.fap_model.specs.Places.{takes_flag, is_equ, symbol_is_known, max_place, early_fault, size_of, next_place, symbol_value, known_behind};
 ghost use Rattle.fap_model.specs.Places.{said as said_by};
 ghost use Rattle.fap_model.specs.Decks.{operation_in, size_by};
-ghost use Rattle.fap_assemble.specs.Fields.{seen, count, fitting, size, is_misshapen, least, fault, said_or};
+ghost use Rattle.fap_assemble.specs.Fields.{known_at, count, fitting, size, is_misshapen, least, fault, said_or};
 ghost use Rattle.fap_assemble.specs.Steps.{definition, place_by, value_by, new_symbols};
 
-use crate::field::{Said, given, is_defined, is_wrong, number, read};
+use crate::field::{Said, data_words, is_defined, is_wrong, number, read};
 use crate::symbols::Symbols;
 use ctss_types::NoMemory;
 use fap_model::Operation;
@@ -37,7 +37,7 @@ fn count(op: Operation, said: &Option<Said>) -> usize
     match op {
         Operation::Machine(_) | Operation::Pze => 1,
         Operation::Bss => usize::from(number(said)),
-        Operation::Dec | Operation::Oct | Operation::Bci => given(said),
+        Operation::Dec | Operation::Oct | Operation::Bci => data_words(said),
         Operation::Org | Operation::Equ | Operation::End => 0,
     }
 }
@@ -103,7 +103,7 @@ fn is_misshapen(op: Operation, text: &[u8]) -> bool
 
 /// Whether an earlier card has a card's symbol.
 fn is_known(text: &[u8], symbols: &Symbols, visible: usize, place: u64) -> bool
-    ensures { result ≡ symbol_is_known (seen symbols.now visible place) (symbol_of text.now) }
+    ensures { result ≡ symbol_is_known (known_at symbols.now visible place) (symbol_of text.now) }
 {
     match symbol(text) {
         Some(name) => symbols.value(visible, name).is_some(),
@@ -150,7 +150,7 @@ pub(crate) fn fault(
     more: usize,
     wrong: bool,
 ) -> u8
-    ensures { result ≡ fault more wrong (seen symbols.now visible place) op text.now said.now }
+    ensures { result ≡ fault more wrong (known_at symbols.now visible place) op text.now said.now }
 {
     least(
         is_misshapen(op, text),
@@ -171,7 +171,7 @@ fn early_fault(
     visible: usize,
     place: u64,
 ) -> Result<u8, NoMemory>
-    ensures { IfOk result (λ f. f ≡ early_fault (seen symbols.now visible place) op text.now) }
+    ensures { IfOk result (λ f. f ≡ early_fault (known_at symbols.now visible place) op text.now) }
 {
     let said = read(alloc, op, text, symbols, visible, place)?;
     Ok(fault(op, text, &said, symbols, visible, place, 0, false))
@@ -187,7 +187,7 @@ fn said_number(
     visible: usize,
     place: u64,
 ) -> Result<u16, NoMemory>
-    ensures { IfOk result (λ n. n ≡ said_by (seen symbols.now visible place) (field_for op text.now)) }
+    ensures { IfOk result (λ n. n ≡ said_by (known_at symbols.now visible place) (field_for op text.now)) }
 {
     let said = read(alloc, op, text, symbols, visible, place)?;
     Ok(number(&said))
@@ -204,7 +204,7 @@ fn size_of(
     place: u64,
 ) -> Result<u64, NoMemory>
     requires { place < 2 ^ 40 }
-    ensures value { IfOk result (λ n. n ≡ size_of op (seen symbols.now visible place) (field_for op text.now)) }
+    ensures value { IfOk result (λ n. n ≡ size_of op (known_at symbols.now visible place) (field_for op text.now)) }
     ensures within { IfOk result (λ n. place + n ≤ max 32768 (place + 1)) }
 {
     match op {
@@ -226,7 +226,7 @@ fn said_or(
     place: u64,
     other: u64,
 ) -> Result<u64, NoMemory>
-    ensures value { IfOk result (λ n. n ≡ said_or op (seen symbols.now visible place) text.now other) }
+    ensures value { IfOk result (λ n. n ≡ said_or op (known_at symbols.now visible place) text.now other) }
     ensures within { IfOk result (λ n. n ≤ max 65535 other) }
 {
     let fault = early_fault(alloc, op, text, symbols, visible, place)?;
@@ -248,7 +248,7 @@ fn next_place(
     place: u64,
 ) -> Result<u64, NoMemory>
     requires { place < 2 ^ 40 }
-    ensures value { IfOk result (λ n. n ≡ next_place (seen symbols.now visible place) op text.now) }
+    ensures value { IfOk result (λ n. n ≡ next_place (known_at symbols.now visible place) op text.now) }
     ensures within { IfOk result (λ n. n ≤ max 65535 (place + 1)) }
 {
     match op {
@@ -269,7 +269,7 @@ fn symbol_value(
     visible: usize,
     place: u64,
 ) -> Result<u16, NoMemory>
-    ensures { IfOk result (λ n. n ≡ symbol_value (seen symbols.now visible place) op text.now) }
+    ensures { IfOk result (λ n. n ≡ symbol_value (known_at symbols.now visible place) op text.now) }
 {
     match op {
         Operation::Equ => {
@@ -294,7 +294,7 @@ pub(crate) fn place_behind(
     place: u64,
 ) -> Result<u64, NoMemory>
     requires { place < 2 ^ 40 }
-    ensures value { IfOk result (λ n. n ≡ place_by op (seen symbols.now visible place) text.now) }
+    ensures value { IfOk result (λ n. n ≡ place_by op (known_at symbols.now visible place) text.now) }
     ensures within { IfOk result (λ n. n ≤ max 65535 (place + 1)) }
 {
     match op {
@@ -312,7 +312,7 @@ pub(crate) fn value_behind(
     visible: usize,
     place: u64,
 ) -> Result<u16, NoMemory>
-    ensures { IfOk result (λ n. n ≡ value_by op (seen symbols.now visible place) text.now) }
+    ensures { IfOk result (λ n. n ≡ value_by op (known_at symbols.now visible place) text.now) }
 {
     match op {
         Some(op) => symbol_value(alloc, op, text, symbols, visible, place),
@@ -330,7 +330,7 @@ pub(crate) fn size_behind(
     place: u64,
 ) -> Result<u64, NoMemory>
     requires { place < 2 ^ 40 }
-    ensures value { IfOk result (λ n. n ≡ size_by op (seen symbols.now visible place) text.now) }
+    ensures value { IfOk result (λ n. n ≡ size_by op (known_at symbols.now visible place) text.now) }
     ensures within { IfOk result (λ n. place + n ≤ max 32768 (place + 1)) }
 {
     match op {

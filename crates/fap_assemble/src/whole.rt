@@ -1,7 +1,7 @@
 ghost use Rattle.std.specs.Prelude.{◌≡◌, ◌+◌, ◌^◌, ◌<◌, Some, IfOk, length};
 ghost use Rattle.fap_model.specs.Places.{looks_back};
 ghost use Rattle.fap_model.specs.Decks.{blocks_for, reach_of, fault_by, fault_of};
-ghost use Rattle.fap_assemble.specs.Fields.{seen};
+ghost use Rattle.fap_assemble.specs.Fields.{known_at};
 ghost use Rattle.fap_assemble.specs.Wholes.{whole_in, whole_of_tables, is_start_outside, names_seen, card_fault};
 ghost use Rattle.fap_model.specs.declared.types.Operation.TheVariants.{End as end};
 
@@ -91,7 +91,7 @@ fn end_fault(
     place: u64,
 ) -> Result<u8, NoMemory>
     requires { whole.now.blocks < 2 ^ 30 }
-    ensures { IfOk result (λ f. f ≡ fault_by (Some end) (whole_in whole.now) (seen whole.now.symbols visible place) text.now) }
+    ensures { IfOk result (λ f. f ≡ fault_by (Some end) (whole_in whole.now) (known_at whole.now.symbols visible place) text.now) }
 {
     let symbols = &whole.symbols;
     let said = read(alloc, Operation::End, text, symbols, symbols.len(), place)?;
@@ -147,7 +147,7 @@ fn fault_by(
     place: u64,
 ) -> Result<u8, NoMemory>
     requires { whole.now.blocks < 2 ^ 30 }
-    ensures { IfOk result (λ f. f ≡ fault_by (Some op) (whole_in whole.now) (seen whole.now.symbols visible place) text.now) }
+    ensures { IfOk result (λ f. f ≡ fault_by (Some op) (whole_in whole.now) (known_at whole.now.symbols visible place) text.now) }
 {
     match op {
         Operation::End => end_fault(alloc, text, whole, visible, place),
@@ -164,7 +164,7 @@ pub(crate) fn fault_of(
     place: u64,
 ) -> Result<u8, NoMemory>
     requires { whole.now.blocks < 2 ^ 30 }
-    ensures { IfOk result (λ f. f ≡ fault_of (whole_in whole.now) (seen whole.now.symbols visible place) text.now) }
+    ensures { IfOk result (λ f. f ≡ fault_of (whole_in whole.now) (known_at whole.now.symbols visible place) text.now) }
 {
     if is_comment(text) {
         return Ok(if is_bad(text) { 2 } else { 0 });

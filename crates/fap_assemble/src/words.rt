@@ -2,7 +2,7 @@ ghost use Rattle.std.specs.Prelude.{◌≡◌, ◌+◌, ◌^◌, ◌<◌, [], �
 ghost use Rattle.opcode_table.specs.Words.{encoded};
 ghost use Rattle.fap_model.specs.Places.{known_after, nothing_known};
 ghost use Rattle.fap_model.specs.Decks.{instruction, operation_in, words_by, fault_of, faults_from};
-ghost use Rattle.fap_assemble.specs.Fields.{seen, HasShortAddress, HasShortValues, is_wrong, address_value, machine_word, plain_word, given_words};
+ghost use Rattle.fap_assemble.specs.Fields.{known_at, HasShortAddress, HasShortValues, is_wrong, address_value, machine_word, plain_word, given_words};
 ghost use Rattle.fap_assemble.specs.Runs.{words_in, cards_in, closed};
 ghost use Rattle.fap_assemble.specs.Steps.{texts};
 ghost use Rattle.fap_assemble.specs.Wholes.{whole_in};
@@ -161,12 +161,12 @@ fn add_card(
     visible: usize,
     place: u64,
 ) -> Result<(), NoMemory>
-    requires sound { fault_of (whole_in whole.now) (seen whole.now.symbols visible place) text.now ≡ 0 }
+    requires sound { fault_of (whole_in whole.now) (known_at whole.now.symbols visible place) text.now ≡ 0 }
     requires at { place < 2 ^ 33 }
     requires place { whole.now.end_place < 2 ^ 33 }
     requires few { length whole.now.literals < 2 ^ 33 }
     ensures { OnOk result (segments.new
-        ≡ words_in segments.old place (words_by (whole_in whole.now) (seen whole.now.symbols visible place) (operation_in text.now) text.now)) }
+        ≡ words_in segments.old place (words_by (whole_in whole.now) (known_at whole.now.symbols visible place) (operation_in text.now) text.now)) }
 {
     let Some(op) = operation_in(text) else {
         return Ok(());

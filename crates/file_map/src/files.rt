@@ -114,7 +114,7 @@ impl FilePort for Files {
 
     ghost faults = { λ _. 0 };
 
-    ghost Works = { λ _. Unit {0} };
+    ghost Usable = { λ _. Unit {0} };
 
     ghost Keeps = { λ a b. b.quota ≡ a.quota };
 
@@ -261,7 +261,7 @@ impl FilePort for Files {
         self.used = self.table.tracks();
     }
 
-    ghost is_known = { λ a works. whole_is_known a.files };
+    ghost is_known = { λ a usable. whole_is_known a.files };
 
     ghost stays = { λ a. refl };
 

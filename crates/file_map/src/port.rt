@@ -41,14 +41,14 @@ pub trait FilePort {
     ghost faults: { Self → ℕ };
 
     /// No call has failed at the disk.
-    ghost Works: { Self → Type 0 };
+    ghost Usable: { Self → Type 0 };
 
     /// The second stands over the same objects as the first, after calls.
     ghost Keeps: { Self → Self → Type 0 };
 
     /// How many words a file has, and its mode.
     fn stat(&self, name: FileName) -> Result<Stat, PortFault>
-        requires works { Works self.now }
+        requires usable { Usable self.now }
         ensures answer { Answers result (stat name (files self.now)) }
         ensures mode { IfOk result (λ s. s.mode ≤ 3) }
         ensures words { IfOk result (λ s. s.words < 2 ^ 32) }
@@ -57,86 +57,86 @@ pub trait FilePort {
 
     /// So many words of a file from a place on.
     fn read(&mut self, name: FileName, place: u64, count: u16) -> Result<WordList, PortFault>
-        requires works { Works self.old }
+        requires usable { Usable self.old }
         ensures answer { AnswersOver (tells self.old) (files self.old) result (read name place count) }
         ensures left { ¬ IsErrOf result PortFault.Disk → files self.new ≡ files self.old }
-        ensures told { ¬ IsErrOf result PortFault.Disk → tells self.new ≡ tells self.old }
-        ensures works { ¬ IsErrOf result PortFault.Disk → Works self.new }
+        ensures telling { ¬ IsErrOf result PortFault.Disk → tells self.new ≡ tells self.old }
+        ensures usable { ¬ IsErrOf result PortFault.Disk → Usable self.new }
         ensures keeps { Keeps self.old self.new }
         ensures cause { IsErrOf result PortFault.Disk → Rose (faults self.old) (faults self.new) };
 
     /// All words of a file.
     fn get(&mut self, name: FileName) -> Result<WordList, PortFault>
-        requires works { Works self.old }
+        requires usable { Usable self.old }
         ensures answer { AnswersOver (tells self.old) (files self.old) result (got name) }
         ensures left { ¬ IsErrOf result PortFault.Disk → files self.new ≡ files self.old }
-        ensures told { ¬ IsErrOf result PortFault.Disk → tells self.new ≡ tells self.old }
-        ensures works { ¬ IsErrOf result PortFault.Disk → Works self.new }
+        ensures telling { ¬ IsErrOf result PortFault.Disk → tells self.new ≡ tells self.old }
+        ensures usable { ¬ IsErrOf result PortFault.Disk → Usable self.new }
         ensures keeps { Keeps self.old self.new }
         ensures cause { IsErrOf result PortFault.Disk → Rose (faults self.old) (faults self.new) };
 
     /// Writes words from a place on, over those that stand there and behind the end. At place 0 an absent file is made.
     fn write(&mut self, name: FileName, place: u64, words: &[Word]) -> Result<(), PortFault>
-        requires works { Works self.old }
+        requires usable { Usable self.old }
         ensures left { let told = written name place words.now (quota self.old) (files self.old)
             in Leaves result (known_of (tells self.old) told) (files self.old) (files self.new) }
-        ensures told { ¬ IsErrOf result PortFault.Disk → tells self.new ≡ tells self.old }
-        ensures works { ¬ IsErrOf result PortFault.Disk → Works self.new }
+        ensures telling { ¬ IsErrOf result PortFault.Disk → tells self.new ≡ tells self.old }
+        ensures usable { ¬ IsErrOf result PortFault.Disk → Usable self.new }
         ensures keeps { Keeps self.old self.new }
         ensures cause { IsErrOf result PortFault.Disk → Rose (faults self.old) (faults self.new) };
 
     /// Writes words behind a file's end. An absent file is made.
     fn append(&mut self, name: FileName, words: &[Word]) -> Result<(), PortFault>
-        requires works { Works self.old }
+        requires usable { Usable self.old }
         ensures left { let told = appended name words.now (quota self.old) (files self.old)
             in Leaves result (known_of (tells self.old) told) (files self.old) (files self.new) }
-        ensures told { ¬ IsErrOf result PortFault.Disk → tells self.new ≡ tells self.old }
-        ensures works { ¬ IsErrOf result PortFault.Disk → Works self.new }
+        ensures telling { ¬ IsErrOf result PortFault.Disk → tells self.new ≡ tells self.old }
+        ensures usable { ¬ IsErrOf result PortFault.Disk → Usable self.new }
         ensures keeps { Keeps self.old self.new }
         ensures cause { IsErrOf result PortFault.Disk → Rose (faults self.old) (faults self.new) };
 
     /// Replaces a file's content. An absent file is made.
     fn put(&mut self, name: FileName, words: &[Word]) -> Result<(), PortFault>
-        requires works { Works self.old }
+        requires usable { Usable self.old }
         ensures left { let told = put name words.now (quota self.old) (files self.old)
             in Leaves result (known_of (tells self.old) told) (files self.old) (files self.new) }
-        ensures told { ¬ IsErrOf result PortFault.Disk → tells self.new ≡ tells self.old }
-        ensures works { ¬ IsErrOf result PortFault.Disk → Works self.new }
+        ensures telling { ¬ IsErrOf result PortFault.Disk → tells self.new ≡ tells self.old }
+        ensures usable { ¬ IsErrOf result PortFault.Disk → Usable self.new }
         ensures keeps { Keeps self.old self.new }
         ensures cause { IsErrOf result PortFault.Disk → Rose (faults self.old) (faults self.new) };
 
     /// Gives a file another name, in its place. It makes no call of the disk.
     fn rename(&mut self, name: FileName, to: FileName) -> Result<(), PortFault>
-        requires works { Works self.old }
+        requires usable { Usable self.old }
         ensures left { Leaves result (renamed name to (files self.old)) (files self.old) (files self.new) }
         ensures disk { ¬ IsErrOf result PortFault.Disk }
-        ensures told { tells self.new ≡ tells self.old }
-        ensures works { Works self.new }
+        ensures telling { tells self.new ≡ tells self.old }
+        ensures usable { Usable self.new }
         ensures keeps { Keeps self.old self.new };
 
     /// Takes a file out. It takes no memory, and makes no call of the disk.
     fn delete(&mut self, name: FileName) -> Result<(), PortFault>
-        requires works { Works self.old }
+        requires usable { Usable self.old }
         ensures left { Leaves result (deleted name (files self.old)) (files self.old) (files self.new) }
         ensures disk { ¬ IsErrOf result PortFault.Disk }
         ensures memory { ¬ IsErrOf result PortFault.NoMemory }
-        ensures told { tells self.new ≡ tells self.old }
-        ensures works { Works self.new }
+        ensures telling { tells self.new ≡ tells self.old }
+        ensures usable { Usable self.new }
         ensures keeps { Keeps self.old self.new };
 
     /// Gives a file another mode. It takes no memory, and makes no call of the disk.
     fn chmode(&mut self, name: FileName, mode: u8) -> Result<(), PortFault>
-        requires works { Works self.old }
+        requires usable { Usable self.old }
         ensures left { Leaves result (moded name mode (files self.old)) (files self.old) (files self.new) }
         ensures disk { ¬ IsErrOf result PortFault.Disk }
         ensures memory { ¬ IsErrOf result PortFault.NoMemory }
-        ensures told { tells self.new ≡ tells self.old }
-        ensures works { Works self.new }
+        ensures telling { tells self.new ≡ tells self.old }
+        ensures usable { Usable self.new }
         ensures keeps { Keeps self.old self.new };
 
     /// A row for each file, in order.
     fn list(&self) -> Result<Listing, PortFault>
-        requires works { Works self.now }
+        requires usable { Usable self.now }
         ensures answer { Answers result (Ok (listing_of (files self.now))) }
         ensures disk { ¬ IsErrOf result PortFault.Disk };
 
@@ -146,20 +146,20 @@ pub trait FilePort {
 
     /// How many tracks the files take together.
     fn tracks(&self) -> u32
-        requires works { Works self.now }
+        requires usable { Usable self.now }
         ensures count { result ≡ tracks_of (files self.now) }
         ensures most { result ≤ quota self.now };
 
     /// Takes the files of mode 0 out. It takes no memory, and makes no call of the disk.
     fn drop_temporary(&mut self)
-        requires works { Works self.old }
+        requires usable { Usable self.old }
         ensures left { files self.new ≡ lasting (files self.old) }
-        ensures told { tells self.new ≡ tells self.old }
-        ensures works { Works self.new }
+        ensures telling { tells self.new ≡ tells self.old }
+        ensures usable { Usable self.new }
         ensures keeps { Keeps self.old self.new };
 
     /// The files are known as its disk tells them.
-    ghost is_known: { (a : Self) → Works a → known (tells a) (files a) ≡ files a };
+    ghost is_known: { (a : Self) → Usable a → known (tells a) (files a) ≡ files a };
 
     /// A port that nothing was done to stands over the same objects.
     ghost stays: { (a : Self) → Keeps a a };

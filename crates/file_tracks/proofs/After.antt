@@ -3,7 +3,7 @@ use Rattle.std.specs.Prelude.{Bool, true, false, Option, None}
 use Rattle.std.proofs.Common.{◌≡◌, ℕ, ◌+◌, ◌≤◌, List, length, refl, sym, ap, subst, arith}
 use Rattle.faults.specs.Faults.{WhereTold}
 use Rattle.track_store.specs.Tracks.{count_taken, Serves}
-use Rattle.track_store.specs.Words.{row}
+use Rattle.track_store.specs.Words.{record_at}
 use Rattle.file_tracks.specs.Stored.{occurs, IsDirectory, StandBeside, LeavesOthers}
 use Rattle.file_tracks.specs.Directories.{IsOne}
 use Rattle.file_tracks.specs.Seen.{tells_of}
@@ -26,13 +26,13 @@ pub beside_only : (o o' : Option (List (List ℕ))) (taken taken' : List Bool) (
     → (others : ℕ → ℕ) → StandBeside others taken fs → LeavesOthers o o' taken taken' fs fs' others
 beside_only o o' taken taken' fs fs' same h others beside = record {
   beside = h others beside;
-  held = subst (λ (p : Option (List (List ℕ))). WhereTold o (λ was. WhereTold p (λ now. (t : ℕ) → 1 ≤ others t → row now t ≡ row was t))) (sym same) (held_still o others);
+  held = subst (λ (p : Option (List (List ℕ))). WhereTold o (λ was. WhereTold p (λ now. (t : ℕ) → 1 ≤ others t → record_at now t ≡ record_at was t))) (sym same) (held_still o others);
 }
 
 -- a call that reads
 pub after_read : (o o' : Option (List (List ℕ))) (taken taken' : List Bool) (d : TrackTable) → o' ≡ o → taken' ≡ taken → IsAfter o o' taken taken' d d
 after_read o o' taken taken' d same tracks = record {
-  told = ap tells_of same;
+  telling = ap tells_of same;
   many = ap length tracks;
   counts = ap (λ (ts : List Bool). count_taken ts + d.used) tracks;
   others = beside_only o o' taken taken' d.files.items d.files.items same (λ others beside. subst (λ (ts : List Bool). StandBeside others ts d.files.items) (sym tracks) beside);
@@ -43,7 +43,7 @@ pub after_taking : (o o' : Option (List (List ℕ))) (taken taken' : List Bool) 
     → count_taken taken' + d.used ≡ count_taken taken + d'.used → ((others : ℕ → ℕ) → StandBeside others taken d.files.items → StandBeside others taken' d'.files.items)
     → IsAfter o o' taken taken' d d'
 after_taking o o' taken taken' d d' same many counts beside = record {
-  told = ap tells_of same;
+  telling = ap tells_of same;
   many = many;
   counts = counts;
   others = beside_only o o' taken taken' d.files.items d'.files.items same beside;

@@ -6,7 +6,7 @@ use Rattle.std.proofs.lemmas.List.{length-replicate}
 use Rattle.std.proofs.lemmas.Bool.{cases_eq}
 use Rattle.faults.specs.Faults.{WhereTold}
 use Rattle.track_store.proofs.Taken.{taken_below}
-use Rattle.track_store.specs.Words.{row, joined}
+use Rattle.track_store.specs.Words.{record_at, joined}
 use Rattle.file_model.specs.Files.{tracks_of_words}
 use Rattle.file_tracks.specs.Places.{count_in}
 use Rattle.file_tracks.specs.Stored.{occurs, IsWhole, IsDirectory, MayBe}
@@ -15,11 +15,11 @@ use Rattle.file_tracks.proofs.Joined.{set_all, other_row, joined_same, whole_row
 use Rattle.file_tracks.proofs.Replaced.{bit_le, bit_taken}
 use Rattle.file_tracks.proofs.Tables.{occurs_at}
 
--- so many rows of zeros
+-- contents of so many zeros
 abbrev pub zeros : ℕ → List (List ℕ)
 zeros n = replicate n (replicate 432 0)
 
-pub zeros_row : (n t : ℕ) → t < n → length (row (zeros n) t) ≡ 432
+pub zeros_row : (n t : ℕ) → t < n → length (record_at (zeros n) t) ≡ 432
 zeros_row zero t h = absurd (omega arith)
 zeros_row (suc n) zero h = length-replicate {A = ℕ} 432 0
 zeros_row (suc n) (suc t) h = zeros_row n t (omega arith)
@@ -28,46 +28,46 @@ some : (n : ℕ) → n ≢ 0 → 1 ≤ n
 some zero h = absurd (h refl)
 some (suc n) h = omega arith
 
-module _ (told : Option (List (List ℕ))) (taken : List Bool) (quota used : ℕ) (fs : List Filed) (works : IsDirectory told taken quota used fs) where
+module _ (told : Option (List (List ℕ))) (taken : List Bool) (quota used : ℕ) (fs : List Filed) (usable : IsDirectory told taken quota used fs) where
   within : (t : ℕ) → 1 ≤ occurs t fs → t < length taken
-  within t h = taken_below taken t (bit_taken taken t (let a = works.once t in omega (arith, a, h)))
+  within t h = taken_below taken t (bit_taken taken t (let a = usable.once t in omega (arith, a, h)))
 
-  pub any_rows : (rows : List (List ℕ)) × (MayBe told rows × All (IsWhole rows) fs)
+  pub any_rows : (contents : List (List ℕ)) × (MayBe told contents × All (IsWhole contents) fs)
   any_rows = by_told told refl
     where
-      by_told : (o : Option (List (List ℕ))) → told ≡ o → (rows : List (List ℕ)) × (MayBe o rows × All (IsWhole rows) fs)
+      by_told : (o : Option (List (List ℕ))) → told ≡ o → (contents : List (List ℕ)) × (MayBe o contents × All (IsWhole contents) fs)
       by_told None is = (zeros (length taken), (tt, λ i f low t h. zeros_row (length taken) t (within t (let o = occurs_at t fs i f low in omega (arith, o, h)))))
-      by_told (Some r) is = (r, (refl, subst (λ (x : Option (List (List ℕ))). WhereTold x (λ rows. All (IsWhole rows) fs)) is works.whole))
+      by_told (Some r) is = (r, (refl, subst (λ (x : Option (List (List ℕ))). WhereTold x (λ contents. All (IsWhole contents) fs)) is usable.whole))
 
-  -- rows in which these tracks of the files hold the words that were read
+  -- contents in which these tracks of the files hold the words that were read
   pub any_span : (ts span : List ℕ) → ((t : ℕ) → count_in t ts ≤ occurs t fs) → length span ≡ 432 * length ts
       → WhereTold told (λ r. span ≡ joined r ts)
-      → (rows : List (List ℕ)) × (MayBe told rows × (All (IsWhole rows) fs × (joined rows ts ≡ span)))
+      → (contents : List (List ℕ)) × (MayBe told contents × (All (IsWhole contents) fs × (joined contents ts ≡ span)))
   any_span ts span among len given = by_told told refl
     where
       nothing : List (List ℕ)
       nothing = zeros (length taken)
 
       once : (t : ℕ) → count_in t ts ≤ 1
-      once t = let a = works.once t in let b = bit_le taken t in let o = among t in omega (arith, a, b, o)
+      once t = let a = usable.once t in let b = bit_le taken t in let o = among t in omega (arith, a, b, o)
 
       inside : (t : ℕ) → 1 ≤ count_in t ts → t < length nothing
       inside t h = let o = among t in let w = within t (omega (arith, o, h)) in let l = length-replicate {A = List ℕ} (length taken) (replicate 432 0) in omega (arith, w, l)
 
-      row_there : (t : ℕ) → 1 ≤ occurs t fs → length (row (set_all nothing ts span) t) ≡ 432
+      row_there : (t : ℕ) → 1 ≤ occurs t fs → length (record_at (set_all nothing ts span) t) ≡ 432
       row_there t h = elim (cases_eq (count_in t ts) 0) [
         | inl none ↦ ap length (other_row nothing ts span t none) ∙ zeros_row (length taken) t (within t h)
         | inr more ↦ whole_rows nothing ts span once inside len t (some (count_in t ts) more)
       ]
 
-      by_told : (o : Option (List (List ℕ))) → told ≡ o → (rows : List (List ℕ)) × (MayBe o rows × (All (IsWhole rows) fs × (joined rows ts ≡ span)))
+      by_told : (o : Option (List (List ℕ))) → told ≡ o → (contents : List (List ℕ)) × (MayBe o contents × (All (IsWhole contents) fs × (joined contents ts ≡ span)))
       by_told None is = (set_all nothing ts span, (tt, (λ j f k t h. row_there t (let o = occurs_at t fs j f k in omega (arith, o, h)), joined_same nothing ts span once inside len)))
       by_told (Some r) is = (
         r,
         (
           refl,
           (
-            subst (λ (x : Option (List (List ℕ))). WhereTold x (λ rows. All (IsWhole rows) fs)) is works.whole,
+            subst (λ (x : Option (List (List ℕ))). WhereTold x (λ contents. All (IsWhole contents) fs)) is usable.whole,
             sym (subst (λ (x : Option (List (List ℕ))). WhereTold x (λ r. span ≡ joined r ts)) is given),
           ),
         ),

@@ -8,7 +8,7 @@ use Rattle.std.proofs.lemmas.List.Elements.{All-from_get_or, All-get_or}
 use Rattle.ctss_types.specs.Names.{NamePair}
 use Rattle.file_model.specs.Files.{is_named}
 use Rattle.file_map.specs.Directory.{NamesDiffer}
-use Rattle.track_store.specs.Words.{row}
+use Rattle.track_store.specs.Words.{record_at}
 use Rattle.file_tracks.specs.Places.{count_in, bit}
 use Rattle.file_tracks.specs.Stored.{content, body_on, files_on, occurs, IsWhole}
 use Rattle.file_tracks.specs.declared.table.Filed.{Filed}
@@ -17,27 +17,27 @@ use Rattle.file_tracks.proofs.Replaced.{Swaps, bit_le}
 use Rattle.file_tracks.proofs.Tables.{files_set, occurs_at, occurs_two}
 
 -- only tracks of the changed file have other words
-module _ (rows rows' : List (List ℕ)) (taken taken' : List Bool) (fs : List Filed) (i : ℕ) (d g : Filed)
+module _ (contents rows' : List (List ℕ)) (taken taken' : List Bool) (fs : List Filed) (i : ℕ) (d g : Filed)
     (inside : i < length fs) (once : (t : ℕ) → occurs t fs ≤ bit taken t)
     (swaps : Swaps taken taken' (get_or fs i d).tracks.items g.tracks.items)
-    (same : (t : ℕ) → count_in t g.tracks.items ≡ 0 → row rows' t ≡ row rows t) where
+    (same : (t : ℕ) → count_in t g.tracks.items ≡ 0 → record_at rows' t ≡ record_at contents t) where
   at_most : (t : ℕ) → occurs t fs ≤ 1
   at_most t = let a = once t in let b = bit_le taken t in omega (arith, a, b)
 
   not_new : (t : ℕ) → 1 ≤ occurs t fs → count_in t (get_or fs i d).tracks.items ≡ 0 → count_in t g.tracks.items ≡ 0
   not_new t some none = let a = once t in let b = bit_le taken t in let c = bit_le taken' t in let e = swaps.bits t in omega (arith, a, b, c, e, some, none)
 
-  pub changed_elsewhere : (others : ℕ → ℕ) → ((t : ℕ) → others t + occurs t fs ≡ bit taken t) → (t : ℕ) → 1 ≤ others t → row rows' t ≡ row rows t
+  pub changed_elsewhere : (others : ℕ → ℕ) → ((t : ℕ) → others t + occurs t fs ≡ bit taken t) → (t : ℕ) → 1 ≤ others t → record_at rows' t ≡ record_at contents t
   changed_elsewhere others beside t some =
       same t (let a = beside t in let b = bit_le taken t in let c = bit_le taken' t in let e = swaps.bits t in let o = occurs_at t fs i d inside in omega (arith, a, b, c, e, o, some))
 
-  pub changed_whole : All (IsWhole rows) fs → IsWhole rows' g → All (IsWhole rows') (set fs i g)
+  pub changed_whole : All (IsWhole contents) fs → IsWhole rows' g → All (IsWhole rows') (set fs i g)
   changed_whole all here =
       All-from_get_or (IsWhole rows') (set fs i g) d (λ j low. elim (cases_eq j i) [
         | inl is ↦ subst (λ (f : Filed). IsWhole rows' f) (sym (ap (λ (n : ℕ). get_or (set fs i g) n d) is ∙ get_or-set_same fs i g d inside)) here
         | inr other ↦
             let within : j < length fs = let l = length-set fs i g in omega (arith, l, low) in
-            let was : IsWhole rows (get_or fs j d) = All-get_or (IsWhole rows) fs j d within all in
+            let was : IsWhole contents (get_or fs j d) = All-get_or (IsWhole contents) fs j d within all in
             subst (λ (f : Filed). IsWhole rows' f) (sym (get_or-set_other fs i j g d other))
             (λ t some.
             let two = occurs_two t fs i j d inside within other in
@@ -46,12 +46,12 @@ module _ (rows rows' : List (List ℕ)) (taken taken' : List Bool) (fs : List Fi
             ap length (same t (not_new t (omega (arith, at, some)) (omega (arith, two, most, some)))) ∙ was t some)
       ])
 
-  pub changed_file : (name : NamePair) (words : List ℕ) → NamesDiffer (files_on rows fs) → is_named name (body_on rows (get_or fs i d)) ≡ true
+  pub changed_file : (name : NamePair) (words : List ℕ) → NamesDiffer (files_on contents fs) → is_named name (body_on contents (get_or fs i d)) ≡ true
       → g.name ≡ (get_or fs i d).name → g.mode ≡ (get_or fs i d).mode → content rows' g ≡ words
-      → files_on rows' (set fs i g) ≡ set (files_on rows fs) i (record (body_on rows (get_or fs i d)) { words = words })
+      → files_on rows' (set fs i g) ≡ set (files_on contents fs) i (record (body_on contents (get_or fs i d)) { words = words })
   changed_file name words differ named same_name same_mode is =
-      files_set rows rows' fs i g d inside at_most (λ t some none. same t (not_new t some none))
-      ∙ ap (set (files_on rows fs) i) (λ j. record { name = same_name j; mode = same_mode j; words = is j })
+      files_set contents rows' fs i g d inside at_most (λ t some none. same t (not_new t some none))
+      ∙ ap (set (files_on contents fs) i) (λ j. record { name = same_name j; mode = same_mode j; words = is j })
 
 -- tracks that stand in a part of a list stand in the list
 pub count_take : (t n : ℕ) (ts : List ℕ) → count_in t (take n ts) ≤ count_in t ts

@@ -12,14 +12,14 @@ use Rattle.file_tracks.specs.declared.table.Filed.{Filed}
 abbrev pub lasts : Filed → Bool
 lasts f = not (nat_eq f.mode 0)
 
-kept_if : (rows : List (List ℕ)) (f : Filed) (fs : List Filed) (b : Bool) → files_on rows (filter lasts fs) ≡ lasting (files_on rows fs)
-    → files_on rows (cond b (f ∷ filter lasts fs) (filter lasts fs)) ≡ cond b (body_on rows f ∷ lasting (files_on rows fs)) (lasting (files_on rows fs))
-kept_if rows f fs true h = ap (λ (xs : List FileBody). body_on rows f ∷ xs) h
-kept_if rows f fs false h = h
+kept_if : (contents : List (List ℕ)) (f : Filed) (fs : List Filed) (b : Bool) → files_on contents (filter lasts fs) ≡ lasting (files_on contents fs)
+    → files_on contents (cond b (f ∷ filter lasts fs) (filter lasts fs)) ≡ cond b (body_on contents f ∷ lasting (files_on contents fs)) (lasting (files_on contents fs))
+kept_if contents f fs true h = ap (λ (xs : List FileBody). body_on contents f ∷ xs) h
+kept_if contents f fs false h = h
 
-pub lasting_are : (rows : List (List ℕ)) (fs : List Filed) → files_on rows (filter lasts fs) ≡ lasting (files_on rows fs)
-lasting_are rows [] = refl
-lasting_are rows (f ∷ fs) = kept_if rows f fs (lasts f) (lasting_are rows fs)
+pub lasting_are : (contents : List (List ℕ)) (fs : List Filed) → files_on contents (filter lasts fs) ≡ lasting (files_on contents fs)
+lasting_are contents [] = refl
+lasting_are contents (f ∷ fs) = kept_if contents f fs (lasts f) (lasting_are contents fs)
 
 middle_get : (p : List Filed) (x : Filed) (ys : List Filed) (d : Filed) → get_or (p ++ x ∷ ys) (length p) d ≡ x
 middle_get [] x ys d = refl

@@ -6,7 +6,7 @@ use Rattle.std.proofs.lemmas.Bool.{cases_eq}
 use Rattle.std.proofs.lemmas.List.{get_or_default}
 use Rattle.faults.specs.Faults.{WhereTold}
 use Rattle.track_store.specs.Tracks.{count_taken}
-use Rattle.track_store.specs.Words.{row}
+use Rattle.track_store.specs.Words.{record_at}
 use Rattle.file_tracks.specs.Stored.{files_on, occurs, IsWhole, IsDirectory, StandBeside, LeavesOthers}
 use Rattle.file_tracks.specs.Directories.{total, used_all, quota_all, IsOne, AreDirectories}
 use Rattle.file_tracks.specs.declared.table.Filed.{Filed}
@@ -53,12 +53,12 @@ others_fit [] d e h few = absurd (omega arith)
 others_fit (x ∷ ds) zero e h few = let b = used_le ds (λ d e h. few (suc d) e (omega (arith, h))) in omega (arith, b)
 others_fit (x ∷ ds) (suc d) e h few = let a = few 0 x (omega arith) in let b = others_fit ds d e (omega arith) (λ d e h. few (suc d) e (omega (arith, h))) in omega (arith, a, b)
 
-module _ (rows : Option (List (List ℕ))) (taken : List Bool) (ds : List TrackTable) (all : AreDirectories rows taken ds) (d : ℕ) (e : TrackTable) (low : d < length ds) where
+module _ (contents : Option (List (List ℕ))) (taken : List Bool) (ds : List TrackTable) (all : AreDirectories contents taken ds) (d : ℕ) (e : TrackTable) (low : d < length ds) where
   abbrev pub one : TrackTable
   one = get_or ds d e
 
   -- so each directory has room for all that its quota still allows
-  pub directory_of : IsDirectory rows taken one.quota one.used one.files.items
+  pub directory_of : IsDirectory contents taken one.quota one.used one.files.items
   directory_of =
       let o = all.each d e low in
       record {
@@ -80,13 +80,13 @@ module _ (rows : Option (List (List ℕ))) (taken : List Bool) (ds : List TrackT
   beside t = let a = total_at t ds d e low in let b = all.once t in omega (arith, a, b)
 
   module _ (rows' : Option (List (List ℕ))) (taken' : List Bool) (g : TrackTable)
-      (new : IsDirectory rows' taken' g.quota g.used g.files.items) (leaves : LeavesOthers rows rows' taken taken' one.files.items g.files.items elsewhere)
-      (told : rows ≡ None → rows' ≡ None)
+      (new : IsDirectory rows' taken' g.quota g.used g.files.items) (leaves : LeavesOthers contents rows' taken taken' one.files.items g.files.items elsewhere)
+      (told : contents ≡ None → rows' ≡ None)
       (quota : g.quota ≡ one.quota) (many : length taken' ≡ length taken) (counts : count_taken taken' + one.used ≡ count_taken taken + g.used) where
-    was_told : (now : List (List ℕ)) → rows' ≡ Some now → (was : List (List ℕ)) × (rows ≡ Some was)
-    was_told now q = by_rows rows refl
+    was_told : (now : List (List ℕ)) → rows' ≡ Some now → (was : List (List ℕ)) × (contents ≡ Some was)
+    was_told now q = by_rows contents refl
       where
-        by_rows : (o : Option (List (List ℕ))) → rows ≡ o → (was : List (List ℕ)) × (rows ≡ Some was)
+        by_rows : (o : Option (List (List ℕ))) → contents ≡ o → (was : List (List ℕ)) × (contents ≡ Some was)
         by_rows None p = absurd (let k = told p in cc)
         by_rows (Some r) p = (r, p)
 
@@ -94,14 +94,14 @@ module _ (rows : Option (List (List ℕ))) (taken : List Bool) (ds : List TrackT
     other_track : (t j : ℕ) → j < length ds → j ≢ d → 1 ≤ occurs t (get_or ds j e).files.items → 1 ≤ elsewhere t
     other_track t j k n some = let a = total_two t ds d j e low k n in omega (arith, a, some)
 
-    kept_row : (was now : List (List ℕ)) → rows ≡ Some was → rows' ≡ Some now → (t j : ℕ) → j < length ds → j ≢ d → 1 ≤ occurs t (get_or ds j e).files.items → row now t ≡ row was t
+    kept_row : (was now : List (List ℕ)) → contents ≡ Some was → rows' ≡ Some now → (t j : ℕ) → j < length ds → j ≢ d → 1 ≤ occurs t (get_or ds j e).files.items → record_at now t ≡ record_at was t
     kept_row was now p q t j k n some =
-        subst (λ (x : Option (List (List ℕ))). WhereTold x (λ now. (t : ℕ) → 1 ≤ elsewhere t → row now t ≡ row was t)) q
-        (subst (λ (x : Option (List (List ℕ))). WhereTold x (λ was. WhereTold rows' (λ now. (t : ℕ) → 1 ≤ elsewhere t → row now t ≡ row was t))) p leaves.held)
+        subst (λ (x : Option (List (List ℕ))). WhereTold x (λ now. (t : ℕ) → 1 ≤ elsewhere t → record_at now t ≡ record_at was t)) q
+        (subst (λ (x : Option (List (List ℕ))). WhereTold x (λ was. WhereTold rows' (λ now. (t : ℕ) → 1 ≤ elsewhere t → record_at now t ≡ record_at was t))) p leaves.held)
         t (other_track t j k n some)
 
     -- no other directory has changed
-    pub others_same : (was now : List (List ℕ)) → rows ≡ Some was → rows' ≡ Some now → (j : ℕ) → j < length ds → j ≢ d → files_on now (get_or ds j e).files.items ≡ files_on was (get_or ds j e).files.items
+    pub others_same : (was now : List (List ℕ)) → contents ≡ Some was → rows' ≡ Some now → (j : ℕ) → j < length ds → j ≢ d → files_on now (get_or ds j e).files.items ≡ files_on was (get_or ds j e).files.items
     others_same was now p q j k n = files_same was now (get_or ds j e).files.items (λ t some. kept_row was now p q t j k n some)
 
     whole_there : (j : ℕ) → j < length ds → j ≢ d → (x : Option (List (List ℕ))) → rows' ≡ x → WhereTold x (λ now. All (IsWhole now) (get_or ds j e).files.items)
@@ -111,7 +111,7 @@ module _ (rows : Option (List (List ℕ))) (taken : List Bool) (ds : List TrackT
         let old : All (IsWhole w.0) (get_or ds j e).files.items = subst (λ (x : Option (List (List ℕ))). WhereTold x (λ was. All (IsWhole was) (get_or ds j e).files.items)) w.1 (all.each j e k).whole in
         at_each w.0 w.1 (get_or ds j e).files.items old (λ t some. kept_row w.0 now w.1 q t j k n some)
       where
-        at_each : (was : List (List ℕ)) → rows ≡ Some was → (fs : List Filed) → All (IsWhole was) fs → ((t : ℕ) → 1 ≤ occurs t fs → row now t ≡ row was t) → All (IsWhole now) fs
+        at_each : (was : List (List ℕ)) → contents ≡ Some was → (fs : List Filed) → All (IsWhole was) fs → ((t : ℕ) → 1 ≤ occurs t fs → record_at now t ≡ record_at was t) → All (IsWhole now) fs
         at_each was p fs h same = λ i f low t some. ap length (same t (let o = occurs_at t fs i f low in omega (arith, o, some))) ∙ h i f low t some
 
     pub are_still : AreDirectories rows' taken' (set ds d g)
@@ -131,21 +131,21 @@ module _ (rows : Option (List (List ℕ))) (taken : List Bool) (ds : List TrackT
       ];
     }
 
-none_too : (rows rows' : Option (List (List ℕ))) → tells_of rows' ≡ tells_of rows → rows ≡ None → rows' ≡ None
+none_too : (contents rows' : Option (List (List ℕ))) → tells_of rows' ≡ tells_of contents → contents ≡ None → rows' ≡ None
 unfolding tells_of
-none_too rows None t e = refl
+none_too contents None t e = refl
 none_too None (Some r) t e = absurd (true≢false t)
 none_too (Some s) (Some r) t e = absurd (let k = e in cc)
 
 -- the same from what a port's calls leave
-module _ (rows : Option (List (List ℕ))) (taken : List Bool) (ds : List TrackTable) (all : AreDirectories rows taken ds) (d : ℕ) (e : TrackTable) (low : d < length ds)
+module _ (contents : Option (List (List ℕ))) (taken : List Bool) (ds : List TrackTable) (all : AreDirectories contents taken ds) (d : ℕ) (e : TrackTable) (low : d < length ds)
     (rows' : Option (List (List ℕ))) (taken' : List Bool) (g : TrackTable) (new : IsDirectory rows' taken' g.quota g.used g.files.items)
-    (after : IsAfter rows rows' taken taken' (get_or ds d e) g) (quota : g.quota ≡ (get_or ds d e).quota) where
-  leaves : LeavesOthers rows rows' taken taken' (get_or ds d e).files.items g.files.items (elsewhere rows taken ds all d e low)
-  leaves = after.others (elsewhere rows taken ds all d e low) (beside rows taken ds all d e low)
+    (after : IsAfter contents rows' taken taken' (get_or ds d e) g) (quota : g.quota ≡ (get_or ds d e).quota) where
+  leaves : LeavesOthers contents rows' taken taken' (get_or ds d e).files.items g.files.items (elsewhere contents taken ds all d e low)
+  leaves = after.others (elsewhere contents taken ds all d e low) (beside contents taken ds all d e low)
 
   pub all_still : AreDirectories rows' taken' (set ds d g)
-  all_still = are_still rows taken ds all d e low rows' taken' g new leaves (none_too rows rows' after.told) quota after.many after.counts
+  all_still = are_still contents taken ds all d e low rows' taken' g new leaves (none_too contents rows' after.telling) quota after.many after.counts
 
-  pub others_stay : (was now : List (List ℕ)) → rows ≡ Some was → rows' ≡ Some now → (j : ℕ) → j < length ds → j ≢ d → files_on now (get_or ds j e).files.items ≡ files_on was (get_or ds j e).files.items
-  others_stay = others_same rows taken ds all d e low rows' taken' g new leaves (none_too rows rows' after.told) quota after.many after.counts
+  pub others_stay : (was now : List (List ℕ)) → contents ≡ Some was → rows' ≡ Some now → (j : ℕ) → j < length ds → j ≢ d → files_on now (get_or ds j e).files.items ≡ files_on was (get_or ds j e).files.items
+  others_stay = others_same contents taken ds all d e low rows' taken' g new leaves (none_too contents rows' after.telling) quota after.many after.counts

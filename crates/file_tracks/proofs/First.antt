@@ -36,25 +36,25 @@ count_none : (n : ℕ) → count_taken (replicate n false) ≡ 0
 count_none zero = refl
 count_none (suc n) = let k = count_none n in omega (arith, k)
 
-one_bare : (rows : Option (List (List ℕ))) (d : TrackTable) → d.files.items ≡ [] → d.used ≡ 0 → IsOne rows d
-one_bare rows d none unused = record {
+one_bare : (contents : Option (List (List ℕ))) (d : TrackTable) → d.files.items ≡ [] → d.used ≡ 0 → IsOne contents d
+one_bare contents d none unused = record {
   few = omega (arith, unused);
   counted = unused ∙ ap used_by (sym none);
   tracked = All-same HasTracks d.files.items [] none (All-nil HasTracks);
   modes = All-same HasMode d.files.items [] none (All-nil HasMode);
   differ = subst (λ (fs : List Filed). IsDistinct same_name (map (λ (f : Filed). f.name) fs)) (sym none) (IsDistinct-from_apart same_name [] (λ i j e less low. absurd (omega (arith, low))));
-  whole = told_all rows (λ r. All (IsWhole r) d.files.items) (λ r. All-same (IsWhole r) d.files.items [] none (All-nil (IsWhole r)));
+  whole = told_all contents (λ r. All (IsWhole r) d.files.items) (λ r. All-same (IsWhole r) d.files.items [] none (All-nil (IsWhole r)));
 }
 
-each_bare : (rows : Option (List (List ℕ))) (ds : List TrackTable) → AreBare ds → (d : ℕ) (e : TrackTable) → d < length ds → IsOne rows (get_or ds d e)
-each_bare rows [] h d e low = absurd (omega (arith, low))
-each_bare rows (x ∷ ds) h zero e low = one_bare rows x h.0 h.1
-each_bare rows (x ∷ ds) h (suc d) e low = each_bare rows ds h.2 d e (omega (arith, low))
+each_bare : (contents : Option (List (List ℕ))) (ds : List TrackTable) → AreBare ds → (d : ℕ) (e : TrackTable) → d < length ds → IsOne contents (get_or ds d e)
+each_bare contents [] h d e low = absurd (omega (arith, low))
+each_bare contents (x ∷ ds) h zero e low = one_bare contents x h.0 h.1
+each_bare contents (x ∷ ds) h (suc d) e low = each_bare contents ds h.2 d e (omega (arith, low))
 
-pub are_first : (rows : Option (List (List ℕ))) (n : ℕ) (ds : List TrackTable) → AreBare ds → quota_all ds ≤ n → AreDirectories rows (replicate n false) ds
-are_first rows n ds h fits = record {
+pub are_first : (contents : Option (List (List ℕ))) (n : ℕ) (ds : List TrackTable) → AreBare ds → quota_all ds ≤ n → AreDirectories contents (replicate n false) ds
+are_first contents n ds h fits = record {
   once = λ t. (total_bare t ds h ∙ sym (none_taken n t));
   counted = count_none n ∙ sym (used_bare ds h);
   fits = (let l = length-replicate {A = Bool} n false in omega (arith, l, fits));
-  each = each_bare rows ds h;
+  each = each_bare contents ds h;
 }

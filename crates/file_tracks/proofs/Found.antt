@@ -17,22 +17,22 @@ use Rattle.file_tracks.proofs.Tables.{content-length}
 use Rattle.file_tracks.proofs.Replaced.{bit_taken}
 
 -- one place on in the search
-pub named_more : (name : NamePair) (rows : List (List ℕ)) (fs : List Filed) (i : ℕ) (f : Filed) → i < length fs → f ≡ get_or fs i f → same_name f.name name ≡ false
-    → file_named name (files_on rows (drop i fs)) ≡ file_named name (files_on rows (drop (i + 1) fs))
-named_more name rows fs i f inside is other =
-    ap (λ (gs : List Filed). file_named name (files_on rows gs)) (drop_more fs i f inside)
-    ∙ ap (λ (g : Filed). file_named name (body_on rows g ∷ files_on rows (drop (i + 1) fs))) (sym is)
-    ∙ ap (λ (b : Bool). if b then Some (body_on rows f) else file_named name (files_on rows (drop (i + 1) fs))) other
+pub named_more : (name : NamePair) (contents : List (List ℕ)) (fs : List Filed) (i : ℕ) (f : Filed) → i < length fs → f ≡ get_or fs i f → same_name f.name name ≡ false
+    → file_named name (files_on contents (drop i fs)) ≡ file_named name (files_on contents (drop (i + 1) fs))
+named_more name contents fs i f inside is other =
+    ap (λ (gs : List Filed). file_named name (files_on contents gs)) (drop_more fs i f inside)
+    ∙ ap (λ (g : Filed). file_named name (body_on contents g ∷ files_on contents (drop (i + 1) fs))) (sym is)
+    ∙ ap (λ (b : Bool). if b then Some (body_on contents f) else file_named name (files_on contents (drop (i + 1) fs))) other
 
-pub named_here : (name : NamePair) (rows : List (List ℕ)) (fs : List Filed) (i : ℕ) (f : Filed) → i < length fs → f ≡ get_or fs i f → same_name f.name name ≡ true
-    → file_named name (files_on rows (drop i fs)) ≡ Some (body_on rows f)
-named_here name rows fs i f inside is same =
-    ap (λ (gs : List Filed). file_named name (files_on rows gs)) (drop_more fs i f inside)
-    ∙ ap (λ (g : Filed). file_named name (body_on rows g ∷ files_on rows (drop (i + 1) fs))) (sym is)
-    ∙ ap (λ (b : Bool). if b then Some (body_on rows f) else file_named name (files_on rows (drop (i + 1) fs))) same
+pub named_here : (name : NamePair) (contents : List (List ℕ)) (fs : List Filed) (i : ℕ) (f : Filed) → i < length fs → f ≡ get_or fs i f → same_name f.name name ≡ true
+    → file_named name (files_on contents (drop i fs)) ≡ Some (body_on contents f)
+named_here name contents fs i f inside is same =
+    ap (λ (gs : List Filed). file_named name (files_on contents gs)) (drop_more fs i f inside)
+    ∙ ap (λ (g : Filed). file_named name (body_on contents g ∷ files_on contents (drop (i + 1) fs))) (sym is)
+    ∙ ap (λ (b : Bool). if b then Some (body_on contents f) else file_named name (files_on contents (drop (i + 1) fs))) same
 
-pub named_none : (name : NamePair) (rows : List (List ℕ)) (fs : List Filed) (i : ℕ) → length fs ≤ i → file_named name (files_on rows (drop i fs)) ≡ None
-named_none name rows fs i h = ap (λ (gs : List Filed). file_named name (files_on rows gs)) (drop_all i fs h)
+pub named_none : (name : NamePair) (contents : List (List ℕ)) (fs : List Filed) (i : ℕ) → length fs ≤ i → file_named name (files_on contents (drop i fs)) ≡ None
+named_none name contents fs i h = ap (λ (gs : List Filed). file_named name (files_on contents gs)) (drop_all i fs h)
 
 -- a file that was found has the name
 pub is_found : (name : NamePair) (fs : List FileBody) (f : FileBody) → file_named name fs ≡ Some f → is_named name f ≡ true
@@ -56,17 +56,17 @@ all_taken taken ts few k d low = bit_taken taken (slice_index_or ts k d) (let a 
     stands (x ∷ xs) (suc k) d low = let a = stands xs k d (omega arith) in let b = in_rest x (slice_index_or xs k d) xs in omega (arith, a, b)
 
 -- whether a file was found
-pub has_is : (name : NamePair) (fs : List Filed) (r : Option ℕ) → MatchOption r ((rows : List (List ℕ)) → file_named name (files_on rows fs) ≡ None)
-    (λ i. (i < length fs) × ((rows : List (List ℕ)) (d : Filed) → file_named name (files_on rows fs) ≡ Some (body_on rows (get_or fs i d))))
-    → (rows : List (List ℕ)) → is_some r ≡ is_some (file_named name (files_on rows fs))
-has_is name fs None h rows = ap is_some (sym (h rows))
-has_is name [] (Some i) h rows = absurd (let low = h.0 in omega (arith, low))
-has_is name (f ∷ fs) (Some i) h rows = ap is_some (sym (h.1 rows f))
+pub has_is : (name : NamePair) (fs : List Filed) (r : Option ℕ) → MatchOption r ((contents : List (List ℕ)) → file_named name (files_on contents fs) ≡ None)
+    (λ i. (i < length fs) × ((contents : List (List ℕ)) (d : Filed) → file_named name (files_on contents fs) ≡ Some (body_on contents (get_or fs i d))))
+    → (contents : List (List ℕ)) → is_some r ≡ is_some (file_named name (files_on contents fs))
+has_is name fs None h contents = ap is_some (sym (h contents))
+has_is name [] (Some i) h contents = absurd (let low = h.0 in omega (arith, low))
+has_is name (f ∷ fs) (Some i) h contents = ap is_some (sym (h.1 contents f))
 
 -- what a listing shows of files
-pub listing_is : (rows : List (List ℕ)) (fs : List Filed) → All HasTracks fs → All (IsWhole rows) fs → listing_of (files_on rows fs) ≡ map row_for fs
-listing_is rows [] tracks whole = refl
-listing_is rows (f ∷ fs) tracks whole =
-    let here = content-length rows f (All-head HasTracks f fs tracks) (All-head (IsWhole rows) f fs whole) in
-    let more = listing_is rows fs (All-tail HasTracks f fs tracks) (All-tail (IsWhole rows) f fs whole) in
+pub listing_is : (contents : List (List ℕ)) (fs : List Filed) → All HasTracks fs → All (IsWhole contents) fs → listing_of (files_on contents fs) ≡ map row_for fs
+listing_is contents [] tracks whole = refl
+listing_is contents (f ∷ fs) tracks whole =
+    let here = content-length contents f (All-head HasTracks f fs tracks) (All-head (IsWhole contents) f fs whole) in
+    let more = listing_is contents fs (All-tail HasTracks f fs tracks) (All-tail (IsWhole contents) f fs whole) in
     λ j. record { name = f.name; mode = f.mode; words = here j } ∷ more j

@@ -17,43 +17,43 @@ use Rattle.file_tracks.specs.declared.table.Filed.{Filed}
 use Rattle.file_tracks.proofs.Tables.{content-length}
 use Rattle.file_tracks.proofs.Zeros.{rows_of, may_rows, reach_rows, rows_whole, rows_seen}
 
--- without its words a file is the same, whatever the rows are
-blanks_are : (rows : List (List ℕ)) (fs : List Filed) → All HasTracks fs → All (IsWhole rows) fs → map blank (files_on rows fs) ≡ map blank_of fs
-blanks_are rows [] tracks whole = refl
-blanks_are rows (f ∷ fs) tracks whole =
-    let here : length (content rows f) ≡ f.words = content-length rows f (All-head HasTracks f fs tracks) (All-head (IsWhole rows) f fs whole) in
-    let more = blanks_are rows fs (All-tail HasTracks f fs tracks) (All-tail (IsWhole rows) f fs whole) in
+-- without its words a file is the same, whatever the contents are
+blanks_are : (contents : List (List ℕ)) (fs : List Filed) → All HasTracks fs → All (IsWhole contents) fs → map blank (files_on contents fs) ≡ map blank_of fs
+blanks_are contents [] tracks whole = refl
+blanks_are contents (f ∷ fs) tracks whole =
+    let here : length (content contents f) ≡ f.words = content-length contents f (All-head HasTracks f fs tracks) (All-head (IsWhole contents) f fs whole) in
+    let more = blanks_are contents fs (All-tail HasTracks f fs tracks) (All-tail (IsWhole contents) f fs whole) in
     λ j. record { name = f.name; mode = f.mode; words = replicate (here j) 0 } ∷ more j
 
 -- files that a disk may have are known as those that the port stands for
-pub known_is : (told : Option (List (List ℕ))) (fs : List Filed) → All HasTracks fs → (rows : List (List ℕ)) → MayBe told rows → All (IsWhole rows) fs
-    → known (tells_of told) (files_on rows fs) ≡ seen told fs
+pub known_is : (told : Option (List (List ℕ))) (fs : List Filed) → All HasTracks fs → (contents : List (List ℕ)) → MayBe told contents → All (IsWhole contents) fs
+    → known (tells_of told) (files_on contents fs) ≡ seen told fs
 unfolding known tells_of seen
-known_is None fs tracks rows may whole = blanks_are rows fs tracks whole
-known_is (Some r) fs tracks rows may whole = ap (λ (x : List (List ℕ)). files_on x fs) (sym may)
+known_is None fs tracks contents may whole = blanks_are contents fs tracks whole
+known_is (Some r) fs tracks contents may whole = ap (λ (x : List (List ℕ)). files_on x fs) (sym may)
 
 pub answers_over : {T : Type 0} (told : Option (List (List ℕ))) (fs : List Filed) → All HasTracks fs → (result : Result T PortFault) (tells : List FileBody → Result T Refusal)
-    → ((rows : List (List ℕ)) × (MayBe told rows × (All (IsWhole rows) fs × Answers result (tells (files_on rows fs)))))
+    → ((contents : List (List ℕ)) × (MayBe told contents × (All (IsWhole contents) fs × Answers result (tells (files_on contents fs)))))
     → AnswersOver (tells_of told) (seen told fs) result tells
 answers_over told fs tracks result tells a = (files_on a.0 fs, (known_is told fs tracks a.0 a.1.0 a.1.1.0, a.1.1.1))
 
--- what holds with all rows with which tracks are whole holds of the files that the port stands for
+-- what holds with all contents with which tracks are whole holds of the files that the port stands for
 pub with_seen : (P : List FileBody → Type 0) (told : Option (List (List ℕ))) (taken : List Bool) (quota used : ℕ) (fs : List Filed) → IsDirectory told taken quota used fs
-    → ((rows : List (List ℕ)) → All (IsWhole rows) fs → P (files_on rows fs)) → P (seen told fs)
-with_seen P told taken quota used fs works h = subst P (rows_seen taken quota used fs told works) (h (rows_of told (length taken)) (rows_whole taken quota used fs told works))
+    → ((contents : List (List ℕ)) → All (IsWhole contents) fs → P (files_on contents fs)) → P (seen told fs)
+with_seen P told taken quota used fs usable h = subst P (rows_seen taken quota used fs told usable) (h (rows_of told (length taken)) (rows_whole taken quota used fs told usable))
 
 -- a call that makes no call of the disk
 pub with_both : (P : List FileBody → List FileBody → Type 0) (told : Option (List (List ℕ))) (taken taken' : List Bool) (quota used quota' used' : ℕ) (fs fs' : List Filed)
     → IsDirectory told taken quota used fs → IsDirectory told taken' quota' used' fs' → length taken' ≡ length taken
-    → ((rows : List (List ℕ)) → P (files_on rows fs) (files_on rows fs')) → P (seen told fs) (seen told fs')
-with_both P told taken taken' quota used quota' used' fs fs' works works' many h =
-    let one = rows_seen taken quota used fs told works in
+    → ((contents : List (List ℕ)) → P (files_on contents fs) (files_on contents fs')) → P (seen told fs) (seen told fs')
+with_both P told taken taken' quota used quota' used' fs fs' usable works' many h =
+    let one = rows_seen taken quota used fs told usable in
     let two = ap (λ (n : ℕ). files_on (rows_of told n) fs') (sym many) ∙ rows_seen taken' quota' used' fs' told works' in
     subst (λ (xs : List FileBody). P (seen told fs) xs) two (subst (λ (xs : List FileBody). P xs (files_on (rows_of told (length taken)) fs')) one (h (rows_of told (length taken))))
 
 -- a call that writes
 module _ (told : List FileBody → Result (List FileBody) Refusal) (old new : Option (List (List ℕ))) (taken : List Bool) (quota used : ℕ) (fs fs' : List Filed)
-    (works : IsDirectory old taken quota used fs) (reaches : WhereTold old (λ rows. length taken ≤ length rows)) where
+    (usable : IsDirectory old taken quota used fs) (reaches : WhereTold old (λ contents. length taken ≤ length contents)) where
   abbrev pub Any : Result (Unit {0}) PortFault → Type 0
   Any result = LeavesAny result told old new (length taken) fs fs'
 
@@ -62,8 +62,8 @@ module _ (told : List FileBody → Result (List FileBody) Refusal) (old new : Op
 
   now_of : (result : Result (Unit {0}) PortFault) → Any result → Now result
   now_of result any =
-      let a = any (rows_of old (length taken)) (may_rows old (length taken)) (reach_rows old (length taken) reaches) (rows_whole taken quota used fs old works) in
-      (a.0, (a.1.0, (a.1.1.0, subst (λ (xs : List FileBody). Leaves result (told xs) xs (files_on a.0 fs')) (rows_seen taken quota used fs old works) a.1.1.1)))
+      let a = any (rows_of old (length taken)) (may_rows old (length taken)) (reach_rows old (length taken) reaches) (rows_whole taken quota used fs old usable) in
+      (a.0, (a.1.0, (a.1.1.0, subst (λ (xs : List FileBody). Leaves result (told xs) xs (files_on a.0 fs')) (rows_seen taken quota used fs old usable) a.1.1.1)))
 
   module _ (tracked : All HasTracks fs') (tells : tells_of new ≡ tells_of old) where
     -- what is left is known as what the port stands for then

@@ -15,7 +15,7 @@ use Rattle.file_map.proofs.Operations.{fits, over}
 use Rattle.file_map.proofs.Tracks.{tracks-cons}
 use Rattle.track_store.specs.Tracks.{count_taken}
 use Rattle.track_store.proofs.Taken.{taken_below}
-use Rattle.track_store.specs.Words.{row, joined, with_words}
+use Rattle.track_store.specs.Words.{record_at, joined, with_words}
 use Rattle.file_tracks.specs.Places.{count_in, bit}
 use Rattle.file_tracks.specs.Stored.{body_on, files_on, occurs, used_by, HasTracks, HasMode, IsWhole, MayBe, IsDirectory, StandBeside, LeavesOthers}
 use Rattle.file_tracks.specs.declared.table.Filed.{Filed}
@@ -28,9 +28,9 @@ pub used-append : (fs gs : List Filed) → used_by (fs ++ gs) ≡ used_by fs + u
 used-append [] gs = omega arith
 used-append (f ∷ fs) gs = let k = used-append fs gs in omega (arith, k)
 
-files-push : (rows : List (List ℕ)) (fs : List Filed) (g : Filed) → files_on rows (fs ++ g ∷ []) ≡ files_on rows fs ++ body_on rows g ∷ []
-files-push rows [] g = refl
-files-push rows (f ∷ fs) g = ap (λ (xs : List FileBody). body_on rows f ∷ xs) (files-push rows fs g)
+files-push : (contents : List (List ℕ)) (fs : List Filed) (g : Filed) → files_on contents (fs ++ g ∷ []) ≡ files_on contents fs ++ body_on contents g ∷ []
+files-push contents [] g = refl
+files-push contents (f ∷ fs) g = ap (λ (xs : List FileBody). body_on contents f ∷ xs) (files-push contents fs g)
 
 tracks-push : (fs : List FileBody) (b : FileBody) → tracks_of (fs ++ b ∷ []) ≡ tracks_of fs + tracks_of_words (length b.words)
 tracks-push [] b = let e = tracks-cons b [] in let z : tracks_of [] ≡ 0 = refl in omega (arith, e, z)
@@ -54,16 +54,16 @@ names_push (f ∷ fs) g differ absent =
     (all_push (λ n. same_name f.name n ≡ false) fs g (IsDistinct-head same_name f.name names differ) out.0)
     (names_push fs g (IsDistinct-tail same_name f.name names differ) out.1)
 
-module _ (rows : List (List ℕ)) (taken taken' : List Bool) (fs : List Filed) (g : Filed) (padded : List ℕ)
+module _ (contents : List (List ℕ)) (taken taken' : List Bool) (fs : List Filed) (g : Filed) (padded : List ℕ)
     (once : (t : ℕ) → occurs t fs ≤ bit taken t) (bits : (t : ℕ) → count_in t g.tracks.items + bit taken t ≡ bit taken' t)
-    (reach : length taken' ≤ length rows) (long : length padded ≡ 432 * length g.tracks.items) where
+    (reach : length taken' ≤ length contents) (long : length padded ≡ 432 * length g.tracks.items) where
   abbrev pub after : List (List ℕ)
-  after = set_all rows g.tracks.items padded
+  after = set_all contents g.tracks.items padded
 
   new_once : (t : ℕ) → count_in t g.tracks.items ≤ 1
   new_once t = let a = bits t in let b = bit_le taken' t in omega (arith, a, b)
 
-  new_within : (t : ℕ) → 1 ≤ count_in t g.tracks.items → t < length rows
+  new_within : (t : ℕ) → 1 ≤ count_in t g.tracks.items → t < length contents
   new_within t some =
       let a = bits t in
       let b = taken_below taken' t (bit_taken taken' t (omega (arith, a, some))) in
@@ -74,45 +74,45 @@ module _ (rows : List (List ℕ)) (taken taken' : List Bool) (fs : List Filed) (
   not_new t some = let a = bits t in let b = bit_le taken' t in let c = once t in omega (arith, a, b, c, some)
 
   new_words : joined after g.tracks.items ≡ padded
-  new_words = joined_same rows g.tracks.items padded new_once new_within long
+  new_words = joined_same contents g.tracks.items padded new_once new_within long
 
-  pub made_elsewhere : (others : ℕ → ℕ) → ((t : ℕ) → others t + occurs t fs ≡ bit taken t) → (t : ℕ) → 1 ≤ others t → row after t ≡ row rows t
+  pub made_elsewhere : (others : ℕ → ℕ) → ((t : ℕ) → others t + occurs t fs ≡ bit taken t) → (t : ℕ) → 1 ≤ others t → record_at after t ≡ record_at contents t
   made_elsewhere others beside t some =
-      other_row rows g.tracks.items padded t (let a = bits t in let b = bit_le taken' t in let c = beside t in omega (arith, a, b, c, some))
+      other_row contents g.tracks.items padded t (let a = bits t in let b = bit_le taken' t in let c = beside t in omega (arith, a, b, c, some))
 
-  pub made_files : files_on after (fs ++ g ∷ []) ≡ files_on rows fs ++ record { name = g.name; mode = g.mode; words = take g.words padded } ∷ []
+  pub made_files : files_on after (fs ++ g ∷ []) ≡ files_on contents fs ++ record { name = g.name; mode = g.mode; words = take g.words padded } ∷ []
   made_files =
       files-push after fs g
-      ∙ (λ j. files_same rows after fs (λ t some. other_row rows g.tracks.items padded t (not_new t some)) j ++ record { name = g.name; mode = g.mode; words = take g.words (new_words j) } ∷ [])
+      ∙ (λ j. files_same contents after fs (λ t some. other_row contents g.tracks.items padded t (not_new t some)) j ++ record { name = g.name; mode = g.mode; words = take g.words (new_words j) } ∷ [])
 
-  pub made_whole : All (IsWhole rows) fs → All (IsWhole after) (fs ++ g ∷ [])
+  pub made_whole : All (IsWhole contents) fs → All (IsWhole after) (fs ++ g ∷ [])
   made_whole all =
       All-push (IsWhole after) fs g
       (λ i d low t some.
-      ap length (other_row rows g.tracks.items padded t (not_new t (let o = occurs_at t fs i d low in omega (arith, o, some)))) ∙ all i d low t some)
-      (λ t some. whole_rows rows g.tracks.items padded new_once new_within long t some)
+      ap length (other_row contents g.tracks.items padded t (not_new t (let o = occurs_at t fs i d low in omega (arith, o, some)))) ∙ all i d low t some)
+      (λ t some. whole_rows contents g.tracks.items padded new_once new_within long t some)
 
 module _ (o : Option (List (List ℕ))) (taken taken' : List Bool) (quota used now n : ℕ) (fs : List Filed) (v : Vec ℕ Global) (ws padded : List ℕ) (name : NamePair)
-    (h : IsDirectory o taken quota used fs) (reaches : WhereTold o (λ rows. length taken ≤ length rows))
+    (h : IsDirectory o taken quota used fs) (reaches : WhereTold o (λ contents. length taken ≤ length contents))
     (bits : (t : ℕ) → count_in t v.items + bit taken t ≡ bit taken' t) (many : length taken' ≡ length taken)
     (len : length v.items ≡ n) (tracks : n ≡ tracks_of_words (length ws)) (plen : length padded ≡ 432 * n) (cut : take (length ws) padded ≡ ws)
     (sum : now ≡ used + n) (few : now ≤ quota) (counts : count_taken taken' ≡ count_taken taken + n)
-    (absent : (rows : List (List ℕ)) → file_named name (files_on rows fs) ≡ None) where
+    (absent : (contents : List (List ℕ)) → file_named name (files_on contents fs) ≡ None) where
   abbrev pub made : Filed
   made = record { name = name; mode = 1; words = length ws; tracks = v }
 
-  reach_le : (rows : List (List ℕ)) → length taken ≤ length rows → length taken' ≤ length rows
-  reach_le rows e = omega (arith, e, many)
+  reach_le : (contents : List (List ℕ)) → length taken ≤ length contents → length taken' ≤ length contents
+  reach_le contents e = omega (arith, e, many)
 
   long : length padded ≡ 432 * length v.items
   long = plen ∙ ap (λ (k : ℕ). 432 * k) (sym len)
 
-  whole_so : (o : Option (List (List ℕ))) → WhereTold o (λ rows. length taken ≤ length rows) → ((t : ℕ) → occurs t fs ≤ bit taken t) → WhereTold o (λ rows. All (IsWhole rows) fs)
-      → WhereTold (with_words o v.items padded) (λ rows. All (IsWhole rows) (fs ++ made ∷ []))
-  whole_so None e once all = subst (λ (p : Option (List (List ℕ))). WhereTold p (λ rows. All (IsWhole rows) (fs ++ made ∷ []))) (sym (no_rows v.items padded)) tt
-  whole_so (Some rows) e once all =
-      subst (λ (p : Option (List (List ℕ))). WhereTold p (λ rows. All (IsWhole rows) (fs ++ made ∷ []))) (sym (with_words_is rows v.items padded))
-      (made_whole rows taken taken' fs made padded once bits (reach_le rows e) long all)
+  whole_so : (o : Option (List (List ℕ))) → WhereTold o (λ contents. length taken ≤ length contents) → ((t : ℕ) → occurs t fs ≤ bit taken t) → WhereTold o (λ contents. All (IsWhole contents) fs)
+      → WhereTold (with_words o v.items padded) (λ contents. All (IsWhole contents) (fs ++ made ∷ []))
+  whole_so None e once all = subst (λ (p : Option (List (List ℕ))). WhereTold p (λ contents. All (IsWhole contents) (fs ++ made ∷ []))) (sym (no_rows v.items padded)) tt
+  whole_so (Some contents) e once all =
+      subst (λ (p : Option (List (List ℕ))). WhereTold p (λ contents. All (IsWhole contents) (fs ++ made ∷ []))) (sym (with_words_is contents v.items padded))
+      (made_whole contents taken taken' fs made padded once bits (reach_le contents e) long all)
 
   pub made_works : IsDirectory (with_words o v.items padded) taken' quota now (fs ++ made ∷ [])
   made_works = record {
@@ -126,12 +126,12 @@ module _ (o : Option (List (List ℕ))) (taken taken' : List Bool) (quota used n
     whole = whole_so o reaches h.once h.whole;
   }
 
-  others_so : (o : Option (List (List ℕ))) → WhereTold o (λ rows. length taken ≤ length rows) → ((t : ℕ) → occurs t fs ≤ bit taken t) → (others : ℕ → ℕ) → StandBeside others taken fs
-      → WhereTold o (λ was. WhereTold (with_words o v.items padded) (λ now. (t : ℕ) → 1 ≤ others t → row now t ≡ row was t))
+  others_so : (o : Option (List (List ℕ))) → WhereTold o (λ contents. length taken ≤ length contents) → ((t : ℕ) → occurs t fs ≤ bit taken t) → (others : ℕ → ℕ) → StandBeside others taken fs
+      → WhereTold o (λ was. WhereTold (with_words o v.items padded) (λ now. (t : ℕ) → 1 ≤ others t → record_at now t ≡ record_at was t))
   others_so None e once others beside = tt
-  others_so (Some rows) e once others beside =
-      subst (λ (p : Option (List (List ℕ))). WhereTold p (λ now. (t : ℕ) → 1 ≤ others t → row now t ≡ row rows t)) (sym (with_words_is rows v.items padded))
-      (made_elsewhere rows taken taken' fs made padded once bits (reach_le rows e) long others beside)
+  others_so (Some contents) e once others beside =
+      subst (λ (p : Option (List (List ℕ))). WhereTold p (λ now. (t : ℕ) → 1 ≤ others t → record_at now t ≡ record_at contents t)) (sym (with_words_is contents v.items padded))
+      (made_elsewhere contents taken taken' fs made padded once bits (reach_le contents e) long others beside)
 
   pub made_others : (others : ℕ → ℕ) → StandBeside others taken fs → LeavesOthers o (with_words o v.items padded) taken taken' fs (fs ++ made ∷ []) others
   made_others others beside = record {
@@ -141,10 +141,10 @@ module _ (o : Option (List (List ℕ))) (taken taken' : List Bool) (quota used n
 
   may_be : (o : Option (List (List ℕ))) (was : List (List ℕ)) → MayBe o was → MayBe (with_words o v.items padded) (set_all was v.items padded)
   may_be None was m = subst (λ (p : Option (List (List ℕ))). MayBe p (set_all was v.items padded)) (sym (no_rows v.items padded)) tt
-  may_be (Some rows) was m =
-      subst (λ (p : Option (List (List ℕ))). MayBe p (set_all was v.items padded)) (sym (with_words_is rows v.items padded)) (ap (λ (x : List (List ℕ)). set_all x v.items padded) m)
+  may_be (Some contents) was m =
+      subst (λ (p : Option (List (List ℕ))). MayBe p (set_all was v.items padded)) (sym (with_words_is contents v.items padded)) (ap (λ (x : List (List ℕ)). set_all x v.items padded) m)
 
-  -- whatever rows the disk had, it may have others now that hold the new words
+  -- whatever contents the disk had, it may have others now that hold the new words
   pub made_any : (was : List (List ℕ)) → MayBe o was → length taken ≤ length was → All (IsWhole was) fs
       → (after : List (List ℕ)) × (MayBe (with_words o v.items padded) after × (All (IsWhole after) (fs ++ made ∷ []) × (if_they_fit quota (with_new name ws (files_on was fs)) ≡ Ok (files_on after (fs ++ made ∷ [])))))
   made_any was may reach whole =
@@ -166,10 +166,10 @@ module _ (o : Option (List (List ℕ))) (taken taken' : List Bool) (quota used n
 
 -- words that would pass the quota
 pub made_passes : (o : Option (List (List ℕ))) (taken : List Bool) (quota used n : ℕ) (fs : List Filed) (ws : List ℕ) (name : NamePair) → IsDirectory o taken quota used fs → n ≡ tracks_of_words (length ws) → quota < used + n
-    → (rows : List (List ℕ)) → All (IsWhole rows) fs → if_they_fit quota (with_new name ws (files_on rows fs)) ≡ Err Quota
-made_passes o taken quota used n fs ws name h tracks lt rows whole =
+    → (contents : List (List ℕ)) → All (IsWhole contents) fs → if_they_fit quota (with_new name ws (files_on contents fs)) ≡ Err Quota
+made_passes o taken quota used n fs ws name h tracks lt contents whole =
     let b : FileBody = record { name = name; mode = 1; words = ws } in
-    let e = tracks-push (files_on rows fs) b in
-    let t = tracks_are rows fs h.tracked whole in
+    let e = tracks-push (files_on contents fs) b in
+    let t = tracks_are contents fs h.tracked whole in
     let c = h.counted in
-    over quota (with_new name ws (files_on rows fs)) (omega (arith, e, t, c, tracks, lt))
+    over quota (with_new name ws (files_on contents fs)) (omega (arith, e, t, c, tracks, lt))

@@ -3,27 +3,27 @@ use Rattle.std.specs.Prelude.{take, drop}
 use Rattle.std.proofs.Common.{◌≡◌, ℕ, ◌+◌, ◌-◌, ◌*◌, ◌/◌, ◌<◌, ◌≤◌, List, ◌++◌, length, sym, ◌∙◌, ap, arith, length-take, length-drop}
 use Rattle.std.proofs.lemmas.List.{take-append-drop, take-take, drop-take, take-append-le, drop-append-le}
 use Rattle.std.proofs.Math.Seq.{drop-append-add}
-use Rattle.track_store.specs.Words.{row, joined}
+use Rattle.track_store.specs.Words.{record_at, joined}
 use Rattle.file_tracks.specs.Places.{count_in}
 use Rattle.file_tracks.proofs.Joined.{joined-append, joined-length}
 use Rattle.file_tracks.proofs.Changes.{count_take, count_drop}
 
-pub read_part : (rows : List (List ℕ)) (ts : List ℕ) (w place count from to r : ℕ) → ((t : ℕ) → 1 ≤ count_in t ts → length (row rows t) ≡ 432) → w ≤ 432 * length ts → place + count ≤ w
+pub read_part : (contents : List (List ℕ)) (ts : List ℕ) (w place count from to r : ℕ) → ((t : ℕ) → 1 ≤ count_in t ts → length (record_at contents t) ≡ 432) → w ≤ 432 * length ts → place + count ≤ w
     → place ≡ 432 * from + r → r < 432 → to ≡ (place + count + 431) / 432
-    → take count (drop r (joined rows (take (to - from) (drop from ts)))) ≡ take count (drop place (take w (joined rows ts)))
-read_part rows ts w place count from to r whole enough inside at small last =
-    let ja : List ℕ = joined rows (take from ts) in
-    let m : List ℕ = joined rows (take (to - from) (drop from ts)) in
-    let c : List ℕ = joined rows (drop (to - from) (drop from ts)) in
-    let j : List ℕ = joined rows ts in
+    → take count (drop r (joined contents (take (to - from) (drop from ts)))) ≡ take count (drop place (take w (joined contents ts)))
+read_part contents ts w place count from to r whole enough inside at small last =
+    let ja : List ℕ = joined contents (take from ts) in
+    let m : List ℕ = joined contents (take (to - from) (drop from ts)) in
+    let c : List ℕ = joined contents (drop (to - from) (drop from ts)) in
+    let j : List ℕ = joined contents ts in
     let parts : j ≡ ja ++ (m ++ c) =
-    ap (joined rows) (sym (take-append-drop from ts) ∙ ap (λ (us : List ℕ). take from ts ++ us) (sym (take-append-drop (to - from) (drop from ts))))
-    ∙ joined-append rows (take from ts) (take (to - from) (drop from ts) ++ drop (to - from) (drop from ts))
-    ∙ ap (λ (xs : List ℕ). ja ++ xs) (joined-append rows (take (to - from) (drop from ts)) (drop (to - from) (drop from ts))) in
+    ap (joined contents) (sym (take-append-drop from ts) ∙ ap (λ (us : List ℕ). take from ts ++ us) (sym (take-append-drop (to - from) (drop from ts))))
+    ∙ joined-append contents (take from ts) (take (to - from) (drop from ts) ++ drop (to - from) (drop from ts))
+    ∙ ap (λ (xs : List ℕ). ja ++ xs) (joined-append contents (take (to - from) (drop from ts)) (drop (to - from) (drop from ts))) in
     let la : length ja ≡ 432 * from =
-    (let a = joined-length rows (take from ts) (λ t some. whole t (let p = count_take t from ts in omega (arith, p, some))) in let l = length-take from ts in omega (arith, a, l, at, inside, enough)) in
+    (let a = joined-length contents (take from ts) (λ t some. whole t (let p = count_take t from ts in omega (arith, p, some))) in let l = length-take from ts in omega (arith, a, l, at, inside, enough)) in
     let lm : length m ≡ 432 * (to - from) =
-    (let a = joined-length rows (take (to - from) (drop from ts)) (λ t some. whole t (let p = count_take t (to - from) (drop from ts) in let q = count_drop t from ts in omega (arith, p, q, some))) in
+    (let a = joined-length contents (take (to - from) (drop from ts)) (λ t some. whole t (let p = count_take t (to - from) (drop from ts) in let q = count_drop t from ts in omega (arith, p, q, some))) in
     let l = length-take (to - from) (drop from ts) in let d = length-drop from ts in omega (arith, a, l, d, at, inside, enough, last)) in
     let places : place ≡ length ja + r = omega (arith, la, at) in
     let room : r ≤ length m = omega (arith, lm, at, small, last) in

@@ -14,7 +14,7 @@ use Rattle.file_map.specs.Directory.{IsCounted}
 use Rattle.file_map.proofs.Operations.{put_done, put_over}
 use Rattle.file_map.proofs.Counts.{too_many}
 use Rattle.track_store.specs.Tracks.{count_taken}
-use Rattle.track_store.specs.Words.{row, with_words}
+use Rattle.track_store.specs.Words.{record_at, with_words}
 use Rattle.file_tracks.specs.Places.{count_in, bit}
 use Rattle.file_tracks.specs.Stored.{content, body_on, files_on, occurs, HasTracks, HasMode, IsWhole, MayBe, IsDirectory, StandBeside, LeavesOthers}
 use Rattle.file_tracks.specs.declared.table.Filed.{Filed}
@@ -23,7 +23,7 @@ use Rattle.file_tracks.proofs.Tables.{used_at, used-set, occurs_at, occurs-set, 
 use Rattle.file_tracks.proofs.Found.{is_found}
 use Rattle.file_tracks.proofs.Replaced.{Swaps, whole_still, elsewhere, replaced}
 
-module _ (rows : Option (List (List ℕ))) (taken : List Bool) (quota used : ℕ) (fs : List Filed) (h : IsDirectory rows taken quota used fs) where
+module _ (contents : Option (List (List ℕ))) (taken : List Bool) (quota used : ℕ) (fs : List Filed) (h : IsDirectory contents taken quota used fs) where
   pub within_used : (i : ℕ) (d : Filed) → i < length fs → length (get_or fs i d).tracks.items ≤ used
   within_used i d low = let a = used_at fs i d low in let b = h.counted in omega (arith, a, b)
 
@@ -39,7 +39,7 @@ no_rows (t ∷ ts) ws = no_rows ts (drop 432 ws)
 
 -- other words for the file at a place, in other tracks
 module _ (o : Option (List (List ℕ))) (taken taken' : List Bool) (quota used now n : ℕ) (fs : List Filed) (i : ℕ) (f : Filed) (v : Vec ℕ Global) (ws padded : List ℕ)
-    (h : IsDirectory o taken quota used fs) (low : i < length fs) (is : f ≡ get_or fs i f) (reaches : WhereTold o (λ rows. length taken ≤ length rows))
+    (h : IsDirectory o taken quota used fs) (low : i < length fs) (is : f ≡ get_or fs i f) (reaches : WhereTold o (λ contents. length taken ≤ length contents))
     (swaps : (t : ℕ) → count_in t v.items + bit taken t ≡ count_in t f.tracks.items + bit taken' t) (many : length taken' ≡ length taken)
     (len : length v.items ≡ n) (tracks : n ≡ tracks_of_words (length ws)) (plen : length padded ≡ 432 * n) (cut : take (length ws) padded ≡ ws)
     (sum : now + length f.tracks.items ≡ used + n) (fits : now ≤ quota) (counts : count_taken taken' + length f.tracks.items ≡ count_taken taken + n) where
@@ -49,17 +49,17 @@ module _ (o : Option (List (List ℕ))) (taken taken' : List Bool) (quota used n
   swaps_at : Swaps taken taken' (get_or fs i f).tracks.items v.items
   swaps_at = record { bits = λ t. swaps t ∙ ap (λ (x : Filed). count_in t x.tracks.items + bit taken' t) is }
 
-  many_le : (rows : List (List ℕ)) → length taken ≤ length rows → length taken' ≤ length rows
-  many_le rows e = omega (arith, e, many)
+  many_le : (contents : List (List ℕ)) → length taken ≤ length contents → length taken' ≤ length contents
+  many_le contents e = omega (arith, e, many)
 
   long : length padded ≡ 432 * length v.items
   long = plen ∙ ap (λ (k : ℕ). 432 * k) (sym len)
 
-  whole_so : (o : Option (List (List ℕ))) → WhereTold o (λ rows. length taken ≤ length rows) → ((t : ℕ) → occurs t fs ≤ bit taken t) → WhereTold o (λ rows. All (IsWhole rows) fs) → WhereTold (with_words o v.items padded) (λ rows. All (IsWhole rows) (set fs i g))
-  whole_so None e once all = subst (λ (p : Option (List (List ℕ))). WhereTold p (λ rows. All (IsWhole rows) (set fs i g))) (sym (no_rows v.items padded)) tt
-  whole_so (Some rows) e once all =
-      subst (λ (p : Option (List (List ℕ))). WhereTold p (λ rows. All (IsWhole rows) (set fs i g))) (sym (with_words_is rows v.items padded))
-      (whole_still rows taken taken' fs i f g padded low once swaps_at (many_le rows e) long all)
+  whole_so : (o : Option (List (List ℕ))) → WhereTold o (λ contents. length taken ≤ length contents) → ((t : ℕ) → occurs t fs ≤ bit taken t) → WhereTold o (λ contents. All (IsWhole contents) fs) → WhereTold (with_words o v.items padded) (λ contents. All (IsWhole contents) (set fs i g))
+  whole_so None e once all = subst (λ (p : Option (List (List ℕ))). WhereTold p (λ contents. All (IsWhole contents) (set fs i g))) (sym (no_rows v.items padded)) tt
+  whole_so (Some contents) e once all =
+      subst (λ (p : Option (List (List ℕ))). WhereTold p (λ contents. All (IsWhole contents) (set fs i g))) (sym (with_words_is contents v.items padded))
+      (whole_still contents taken taken' fs i f g padded low once swaps_at (many_le contents e) long all)
 
   pub put_works : IsDirectory (with_words o v.items padded) taken' quota now (set fs i g)
   put_works = record {
@@ -73,12 +73,12 @@ module _ (o : Option (List (List ℕ))) (taken taken' : List Bool) (quota used n
     whole = whole_so o reaches h.once h.whole;
   }
 
-  others_so : (o : Option (List (List ℕ))) → WhereTold o (λ rows. length taken ≤ length rows) → ((t : ℕ) → occurs t fs ≤ bit taken t) → (others : ℕ → ℕ) → StandBeside others taken fs
-      → WhereTold o (λ was. WhereTold (with_words o v.items padded) (λ now. (t : ℕ) → 1 ≤ others t → row now t ≡ row was t))
+  others_so : (o : Option (List (List ℕ))) → WhereTold o (λ contents. length taken ≤ length contents) → ((t : ℕ) → occurs t fs ≤ bit taken t) → (others : ℕ → ℕ) → StandBeside others taken fs
+      → WhereTold o (λ was. WhereTold (with_words o v.items padded) (λ now. (t : ℕ) → 1 ≤ others t → record_at now t ≡ record_at was t))
   others_so None e once others beside = tt
-  others_so (Some rows) e once others beside =
-      subst (λ (p : Option (List (List ℕ))). WhereTold p (λ now. (t : ℕ) → 1 ≤ others t → row now t ≡ row rows t)) (sym (with_words_is rows v.items padded))
-      (elsewhere rows taken taken' fs i f g padded low once swaps_at (many_le rows e) long others beside)
+  others_so (Some contents) e once others beside =
+      subst (λ (p : Option (List (List ℕ))). WhereTold p (λ now. (t : ℕ) → 1 ≤ others t → record_at now t ≡ record_at contents t)) (sym (with_words_is contents v.items padded))
+      (elsewhere contents taken taken' fs i f g padded low once swaps_at (many_le contents e) long others beside)
 
   pub put_others : (others : ℕ → ℕ) → StandBeside others taken fs → LeavesOthers o (with_words o v.items padded) taken taken' fs (set fs i g) others
   put_others others beside = record {
@@ -86,9 +86,9 @@ module _ (o : Option (List (List ℕ))) (taken taken' : List Bool) (quota used n
     held = others_so o reaches h.once others beside;
   }
 
-  module _ (name : NamePair) (found : (rows : List (List ℕ)) (d : Filed) → file_named name (files_on rows fs) ≡ Some (body_on rows (get_or fs i d))) (free : f.mode < 2) where
-    found_is : (rows : List (List ℕ)) → file_named name (files_on rows fs) ≡ Some (body_on rows f)
-    found_is rows = found rows f ∙ ap (λ (x : Filed). Some (body_on rows x)) (sym is)
+  module _ (name : NamePair) (found : (contents : List (List ℕ)) (d : Filed) → file_named name (files_on contents fs) ≡ Some (body_on contents (get_or fs i d))) (free : f.mode < 2) where
+    found_is : (contents : List (List ℕ)) → file_named name (files_on contents fs) ≡ Some (body_on contents f)
+    found_is contents = found contents f ∙ ap (λ (x : Filed). Some (body_on contents x)) (sym is)
 
     not_kept : false ≡ nat_le 2 f.mode
     not_kept = test f.mode free
@@ -96,18 +96,18 @@ module _ (o : Option (List (List ℕ))) (taken taken' : List Bool) (quota used n
         test : (m : ℕ) → m < 2 → false ≡ nat_le 2 m
         test m k = grind (arith, nat_tests)
 
-    done_so : (o : Option (List (List ℕ))) → WhereTold o (λ rows. length taken ≤ length rows) → IsDirectory o taken quota used fs → IsDirectory (with_words o v.items padded) taken' quota now (set fs i g)
+    done_so : (o : Option (List (List ℕ))) → WhereTold o (λ contents. length taken ≤ length contents) → IsDirectory o taken quota used fs → IsDirectory (with_words o v.items padded) taken' quota now (set fs i g)
         → WhereTold o (λ was. WhereTold (with_words o v.items padded) (λ after. put name ws quota (files_on was fs) ≡ Ok (files_on after (set fs i g))))
     done_so None e d w = tt
-    done_so (Some rows) e d w =
-        let rows' : List (List ℕ) = set_all rows v.items padded in
-        let whole : All (IsWhole rows') (set fs i g) = subst (λ (p : Option (List (List ℕ))). WhereTold p (λ rows. All (IsWhole rows) (set fs i g))) (with_words_is rows v.items padded) w.whole in
-        let after : files_on rows' (set fs i g) ≡ with_change name (λ (x : FileBody). record x { words = ws }) (files_on rows fs) =
-        replaced rows taken taken' fs i f g padded low d.once swaps_at (many_le rows e) long name (names_differ rows fs d.differ)
-        (is_found name (files_on rows fs) (body_on rows (get_or fs i f)) (found rows f)) (ap (λ (x : Filed). x.name) is) (ap (λ (x : Filed). x.mode) is)
-        ∙ ap (λ (zs : List ℕ). with_change name (λ (x : FileBody). record x { words = zs }) (files_on rows fs)) cut in
-        subst (λ (p : Option (List (List ℕ))). WhereTold p (λ after. put name ws quota (files_on rows fs) ≡ Ok (files_on after (set fs i g)))) (sym (with_words_is rows v.items padded))
-        (put_done name ws quota (files_on rows fs) (body_on rows f) (found_is rows) not_kept (files_on rows' (set fs i g)) now after
+    done_so (Some contents) e d w =
+        let rows' : List (List ℕ) = set_all contents v.items padded in
+        let whole : All (IsWhole rows') (set fs i g) = subst (λ (p : Option (List (List ℕ))). WhereTold p (λ contents. All (IsWhole contents) (set fs i g))) (with_words_is contents v.items padded) w.whole in
+        let after : files_on rows' (set fs i g) ≡ with_change name (λ (x : FileBody). record x { words = ws }) (files_on contents fs) =
+        replaced contents taken taken' fs i f g padded low d.once swaps_at (many_le contents e) long name (names_differ contents fs d.differ)
+        (is_found name (files_on contents fs) (body_on contents (get_or fs i f)) (found contents f)) (ap (λ (x : Filed). x.name) is) (ap (λ (x : Filed). x.mode) is)
+        ∙ ap (λ (zs : List ℕ). with_change name (λ (x : FileBody). record x { words = zs }) (files_on contents fs)) cut in
+        subst (λ (p : Option (List (List ℕ))). WhereTold p (λ after. put name ws quota (files_on contents fs) ≡ Ok (files_on after (set fs i g)))) (sym (with_words_is contents v.items padded))
+        (put_done name ws quota (files_on contents fs) (body_on contents f) (found_is contents) not_kept (files_on rows' (set fs i g)) now after
         (record { count = w.counted ∙ sym (tracks_are rows' (set fs i g) w.tracked whole); most = fits }))
 
     pub put_is_done : WhereTold o (λ was. WhereTold (with_words o v.items padded) (λ after. put name ws quota (files_on was fs) ≡ Ok (files_on after (set fs i g))))
@@ -115,10 +115,10 @@ module _ (o : Option (List (List ℕ))) (taken taken' : List Bool) (quota used n
 
     may_be : (o : Option (List (List ℕ))) (was : List (List ℕ)) → MayBe o was → MayBe (with_words o v.items padded) (set_all was v.items padded)
     may_be None was m = subst (λ (p : Option (List (List ℕ))). MayBe p (set_all was v.items padded)) (sym (no_rows v.items padded)) tt
-    may_be (Some rows) was m =
-        subst (λ (p : Option (List (List ℕ))). MayBe p (set_all was v.items padded)) (sym (with_words_is rows v.items padded)) (ap (λ (x : List (List ℕ)). set_all x v.items padded) m)
+    may_be (Some contents) was m =
+        subst (λ (p : Option (List (List ℕ))). MayBe p (set_all was v.items padded)) (sym (with_words_is contents v.items padded)) (ap (λ (x : List (List ℕ)). set_all x v.items padded) m)
 
-    -- whatever rows the disk had, it may have others now that hold the new words
+    -- whatever contents the disk had, it may have others now that hold the new words
     pub put_any : (was : List (List ℕ)) → MayBe o was → length taken ≤ length was → All (IsWhole was) fs
         → (after : List (List ℕ)) × (MayBe (with_words o v.items padded) after × (All (IsWhole after) (set fs i g) × (put name ws quota (files_on was fs) ≡ Ok (files_on after (set fs i g)))))
     put_any was may few whole =
@@ -130,7 +130,7 @@ module _ (o : Option (List (List ℕ))) (taken taken' : List Bool) (quota used n
           (
             may_be o was may,
             (
-              subst (λ (p : Option (List (List ℕ))). WhereTold p (λ rows. All (IsWhole rows) (set fs i g))) (with_words_is was v.items padded) w.whole,
+              subst (λ (p : Option (List (List ℕ))). WhereTold p (λ contents. All (IsWhole contents) (set fs i g))) (with_words_is was v.items padded) w.whole,
               subst (λ (p : Option (List (List ℕ))). WhereTold p (λ after. put name ws quota (files_on was fs) ≡ Ok (files_on after (set fs i g)))) (with_words_is was v.items padded) (done_so (Some was) few d w),
             ),
           ),
@@ -138,16 +138,16 @@ module _ (o : Option (List (List ℕ))) (taken taken' : List Bool) (quota used n
 
 -- words that would pass the quota
 pub put_passes : (o : Option (List (List ℕ))) (taken : List Bool) (quota used n : ℕ) (fs : List Filed) (i : ℕ) (f : Filed) (ws : List ℕ) (name : NamePair) → IsDirectory o taken quota used fs → i < length fs → f ≡ get_or fs i f
-    → ((rows : List (List ℕ)) (d : Filed) → file_named name (files_on rows fs) ≡ Some (body_on rows (get_or fs i d))) → f.mode < 2 → n ≡ tracks_of_words (length ws) → quota + length f.tracks.items < used + n
-    → (rows : List (List ℕ)) → All (IsWhole rows) fs → put name ws quota (files_on rows fs) ≡ Err Quota
-put_passes o taken quota used n fs i f ws name h low is found free tracks lt rows whole =
-    let here : file_named name (files_on rows fs) ≡ Some (body_on rows f) = found rows f ∙ ap (λ (x : Filed). Some (body_on rows x)) (sym is) in
-    let counted : IsCounted (files_on rows fs) quota used = record { count = h.counted ∙ sym (tracks_are rows fs h.tracked whole); most = h.few } in
+    → ((contents : List (List ℕ)) (d : Filed) → file_named name (files_on contents fs) ≡ Some (body_on contents (get_or fs i d))) → f.mode < 2 → n ≡ tracks_of_words (length ws) → quota + length f.tracks.items < used + n
+    → (contents : List (List ℕ)) → All (IsWhole contents) fs → put name ws quota (files_on contents fs) ≡ Err Quota
+put_passes o taken quota used n fs i f ws name h low is found free tracks lt contents whole =
+    let here : file_named name (files_on contents fs) ≡ Some (body_on contents f) = found contents f ∙ ap (λ (x : Filed). Some (body_on contents x)) (sym is) in
+    let counted : IsCounted (files_on contents fs) quota used = record { count = h.counted ∙ sym (tracks_are contents fs h.tracked whole); most = h.few } in
     let tf : HasTracks f = subst HasTracks (sym is) (All-get_or HasTracks fs i f low h.tracked) in
-    let wf : IsWhole rows f = subst (IsWhole rows) (sym is) (All-get_or (IsWhole rows) fs i f low whole) in
-    let s : length f.tracks.items ≡ tracks_of_words (length (content rows f)) = tf ∙ ap tracks_of_words (sym (content-length rows f tf wf)) in
-    put_over name ws quota (files_on rows fs) (body_on rows f) here (test f.mode free)
-    (too_many name (files_on rows fs) quota used counted (λ (x : FileBody). record x { words = ws }) (body_on rows f) (length f.tracks.items) n (names_differ rows fs h.differ) here s tracks lt)
+    let wf : IsWhole contents f = subst (IsWhole contents) (sym is) (All-get_or (IsWhole contents) fs i f low whole) in
+    let s : length f.tracks.items ≡ tracks_of_words (length (content contents f)) = tf ∙ ap tracks_of_words (sym (content-length contents f tf wf)) in
+    put_over name ws quota (files_on contents fs) (body_on contents f) here (test f.mode free)
+    (too_many name (files_on contents fs) quota used counted (λ (x : FileBody). record x { words = ws }) (body_on contents f) (length f.tracks.items) n (names_differ contents fs h.differ) here s tracks lt)
   where
     test : (m : ℕ) → m < 2 → false ≡ nat_le 2 m
     test m k = grind (arith, nat_tests)

@@ -24,7 +24,7 @@ use Rattle.file_tracks.proofs.Told.{told_map}
 
 -- a refused call
 pub any_refused : (told : List FileBody → Result (List FileBody) Refusal) (r : Refusal) (o : Option (List (List ℕ))) (n : ℕ) (fs : List Filed)
-    → ((rows : List (List ℕ)) → All (IsWhole rows) fs → told (files_on rows fs) ≡ Err r) → LeavesAny {T = Unit {0}} (Err (Refused r)) told o o n fs fs
+    → ((contents : List (List ℕ)) → All (IsWhole contents) fs → told (files_on contents fs) ≡ Err r) → LeavesAny {T = Unit {0}} (Err (Refused r)) told o o n fs fs
 any_refused told r o n fs h = λ was may few whole. (was, (may, (whole, (h was whole, refl))))
 
 -- a call for which memory lacked
@@ -37,20 +37,20 @@ any_same told o o' n fs same = λ was may few whole. (was, (subst (λ (p : Optio
 
 -- another definition that tells the same
 pub any_told : (result : Result (Unit {0}) PortFault) (told told' : List FileBody → Result (List FileBody) Refusal) (o o' : Option (List (List ℕ))) (n : ℕ) (fs fs' : List Filed)
-    → ((rows : List (List ℕ)) → All (IsWhole rows) fs → told' (files_on rows fs) ≡ told (files_on rows fs)) → LeavesAny result told o o' n fs fs' → LeavesAny result told' o o' n fs fs'
+    → ((contents : List (List ℕ)) → All (IsWhole contents) fs → told' (files_on contents fs) ≡ told (files_on contents fs)) → LeavesAny result told o o' n fs fs' → LeavesAny result told' o o' n fs fs'
 any_told result told told' o o' n fs fs' same h = λ was may few whole.
     let a = h was may few whole in
     (a.0, (a.1.0, (a.1.1.0, subst (λ (r : Result (List FileBody) Refusal). Leaves result r (files_on was fs) (files_on a.0 fs')) (sym (same was whole)) a.1.1.1)))
 
 -- the told records reach to the last track
-pub reaches : (o : Option (List (List ℕ))) (count n : ℕ) → HasShape o count → n ≤ count → WhereTold o (λ rows. n ≤ length rows)
-reaches o count n shape within = told_map o (λ rows. length rows ≡ count) (λ rows. n ≤ length rows) (λ rows is. omega (arith, is, within)) shape
+pub reaches : (o : Option (List (List ℕ))) (count n : ℕ) → HasShape o count → n ≤ count → WhereTold o (λ contents. n ≤ length contents)
+reaches o count n shape within = told_map o (λ contents. length contents ≡ count) (λ contents. n ≤ length contents) (λ contents is. omega (arith, is, within)) shape
 
 -- a disk that is written tells as before
 pub tells_still : (o : Option (List (List ℕ))) (ts ws : List ℕ) → tells_of (with_words o ts ws) ≡ tells_of o
 unfolding tells_of
 tells_still None ts ws = ap tells_of (no_rows ts ws)
-tells_still (Some rows) ts ws = ap tells_of (with_words_is rows ts ws)
+tells_still (Some contents) ts ws = ap tells_of (with_words_is contents ts ws)
 
 kept : (m : ℕ) → 2 ≤ m → nat_le 2 m ≡ true
 kept m h = grind (arith, nat_tests)

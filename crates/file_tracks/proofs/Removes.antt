@@ -40,11 +40,11 @@ files-remove name (f ∷ fs) (suc i) d h differ is =
     ap₂ (λ (b : Bool) (xs : List FileBody). cond (not b) (f ∷ xs) xs) (other_head name f fs i d (omega arith) differ is)
     (files-remove name fs i d (omega arith) (IsDistinct-tail same_name f.name (map (λ (g : FileBody). g.name) fs) differ) is)
 
-pub map-remove : (rows : List (List ℕ)) (fs : List Filed) (i : ℕ) → files_on rows (remove fs i) ≡ remove (files_on rows fs) i
-map-remove rows [] zero = refl
-map-remove rows [] (suc i) = refl
-map-remove rows (f ∷ fs) zero = refl
-map-remove rows (f ∷ fs) (suc i) = ap (λ (xs : List FileBody). body_on rows f ∷ xs) (map-remove rows fs i)
+pub map-remove : (contents : List (List ℕ)) (fs : List Filed) (i : ℕ) → files_on contents (remove fs i) ≡ remove (files_on contents fs) i
+map-remove contents [] zero = refl
+map-remove contents [] (suc i) = refl
+map-remove contents (f ∷ fs) zero = refl
+map-remove contents (f ∷ fs) (suc i) = ap (λ (xs : List FileBody). body_on contents f ∷ xs) (map-remove contents fs i)
 
 pub names-remove : (fs : List Filed) (i : ℕ) → map (λ (f : Filed). f.name) (remove fs i) ≡ remove (map (λ (f : Filed). f.name) fs) i
 names-remove [] zero = refl

@@ -12,7 +12,7 @@ use Rattle.ctss_types.specs.declared.file.FileBody.{FileBody}
 use Rattle.ctss_types.specs.declared.file.Refusal.TheVariants.{ReadOnly, NameUsed, BadMode}
 use Rattle.file_model.specs.Files.{same_name, is_named, file_named, with_change, tracks_of_words, renamed, renamed_of, moded, moded_of}
 use Rattle.file_map.proofs.Names.{same_comm, without_head}
-use Rattle.track_store.specs.Words.{row}
+use Rattle.track_store.specs.Words.{record_at}
 use Rattle.file_tracks.specs.Places.{count_in}
 use Rattle.file_tracks.specs.Stored.{body_on, files_on, occurs, HasTracks, HasMode, IsWhole, IsDirectory}
 use Rattle.file_tracks.specs.declared.table.Filed.{Filed}
@@ -28,10 +28,10 @@ module _ (fs : List Filed) (i : ℕ) (f g : Filed) (low : i < length fs) (is : f
   pub same_places : (t : ℕ) → occurs t (set fs i g) ≡ occurs t fs
   same_places t = let a = occurs-set t fs i g f low in let b = ap (λ (v : Vec ℕ Global). count_in t v.items) tracks_at in omega (arith, a, b)
 
-  retold : (rows : List (List ℕ)) → All (IsWhole rows) fs → All (IsWhole rows) (set fs i g)
-  retold rows all =
-      All-set (IsWhole rows) fs i g
-      (subst (λ (v : Vec ℕ Global). (t : ℕ) → 1 ≤ count_in t v.items → length (row rows t) ≡ 432) (sym tracks_at) (All-get_or (IsWhole rows) fs i f low all)) all
+  retold : (contents : List (List ℕ)) → All (IsWhole contents) fs → All (IsWhole contents) (set fs i g)
+  retold contents all =
+      All-set (IsWhole contents) fs i g
+      (subst (λ (v : Vec ℕ Global). (t : ℕ) → 1 ≤ count_in t v.items → length (record_at contents t) ≡ 432) (sym tracks_at) (All-get_or (IsWhole contents) fs i f low all)) all
 
   pub still_works : (o : Option (List (List ℕ))) (taken : List Bool) (quota used : ℕ) → IsDirectory o taken quota used fs → g.mode ≤ 3
       → IsDistinct same_name (map (λ (x : Filed). x.name) (set fs i g)) → IsDirectory o taken quota used (set fs i g)
@@ -46,26 +46,26 @@ module _ (fs : List Filed) (i : ℕ) (f g : Filed) (low : i < length fs) (is : f
         tracked = All-set HasTracks fs i g had h.tracked;
         modes = All-set HasMode fs i g mode h.modes;
         differ = differ;
-        whole = told_map o (λ rows. All (IsWhole rows) fs) (λ rows. All (IsWhole rows) (set fs i g)) retold h.whole;
+        whole = told_map o (λ contents. All (IsWhole contents) fs) (λ contents. All (IsWhole contents) (set fs i g)) retold h.whole;
       }
 
-files-set : (rows : List (List ℕ)) (fs : List Filed) (i : ℕ) (g : Filed) → files_on rows (set fs i g) ≡ set (files_on rows fs) i (body_on rows g)
-files-set rows [] zero g = refl
-files-set rows [] (suc i) g = refl
-files-set rows (f ∷ fs) zero g = refl
-files-set rows (f ∷ fs) (suc i) g = ap (λ (xs : List FileBody). body_on rows f ∷ xs) (files-set rows fs i g)
+files-set : (contents : List (List ℕ)) (fs : List Filed) (i : ℕ) (g : Filed) → files_on contents (set fs i g) ≡ set (files_on contents fs) i (body_on contents g)
+files-set contents [] zero g = refl
+files-set contents [] (suc i) g = refl
+files-set contents (f ∷ fs) zero g = refl
+files-set contents (f ∷ fs) (suc i) g = ap (λ (xs : List FileBody). body_on contents f ∷ xs) (files-set contents fs i g)
 
 -- in the list of files it is a change of the file of the name
-pub retold_file : (rows : List (List ℕ)) (fs : List Filed) (i : ℕ) (f g : Filed) (name : NamePair) (change : FileBody → FileBody) → i < length fs → f ≡ get_or fs i f
-    → IsDistinct same_name (map (λ (x : Filed). x.name) fs) → file_named name (files_on rows fs) ≡ Some (body_on rows (get_or fs i f)) → change (body_on rows f) ≡ body_on rows g
-    → files_on rows (set fs i g) ≡ with_change name change (files_on rows fs)
-retold_file rows fs i f g name change low is differ found changes =
-    let at : get_or (files_on rows fs) i (body_on rows f) ≡ body_on rows (get_or fs i f) = get_or-map (body_on rows) fs i f (body_on rows f) low in
-    let inside : i < length (files_on rows fs) = (let l = length-map fs (body_on rows) in omega (arith, l, low)) in
-    let named : is_named name (get_or (files_on rows fs) i (body_on rows f)) ≡ true = ap (is_named name) at ∙ is_found name (files_on rows fs) (body_on rows (get_or fs i f)) found in
-    files-set rows fs i g
-    ∙ ap (set (files_on rows fs) i) (sym changes ∙ ap (λ (x : Filed). change (body_on rows x)) is ∙ ap change (sym at))
-    ∙ sym (change_at name change (files_on rows fs) i (body_on rows f) inside (names_differ rows fs differ) named)
+pub retold_file : (contents : List (List ℕ)) (fs : List Filed) (i : ℕ) (f g : Filed) (name : NamePair) (change : FileBody → FileBody) → i < length fs → f ≡ get_or fs i f
+    → IsDistinct same_name (map (λ (x : Filed). x.name) fs) → file_named name (files_on contents fs) ≡ Some (body_on contents (get_or fs i f)) → change (body_on contents f) ≡ body_on contents g
+    → files_on contents (set fs i g) ≡ with_change name change (files_on contents fs)
+retold_file contents fs i f g name change low is differ found changes =
+    let at : get_or (files_on contents fs) i (body_on contents f) ≡ body_on contents (get_or fs i f) = get_or-map (body_on contents) fs i f (body_on contents f) low in
+    let inside : i < length (files_on contents fs) = (let l = length-map fs (body_on contents) in omega (arith, l, low)) in
+    let named : is_named name (get_or (files_on contents fs) i (body_on contents f)) ≡ true = ap (is_named name) at ∙ is_found name (files_on contents fs) (body_on contents (get_or fs i f)) found in
+    files-set contents fs i g
+    ∙ ap (set (files_on contents fs) i) (sym changes ∙ ap (λ (x : Filed). change (body_on contents x)) is ∙ ap change (sym at))
+    ∙ sym (change_at name change (files_on contents fs) i (body_on contents f) inside (names_differ contents fs differ) named)
 
 -- names
 

@@ -10,7 +10,7 @@ use Rattle.file_map.specs.Directory.{NamesDiffer}
 use Rattle.std.specs.List.{AllByRecursion, IsDistinct}
 use Rattle.std.proofs.lemmas.Map.Keys.{IsDistinct-head, IsDistinct-tail}
 use Rattle.file_map.proofs.Names.{IsWithout, unchanged, same_comm, same_is}
-use Rattle.track_store.specs.Words.{row, joined}
+use Rattle.track_store.specs.Words.{record_at, joined}
 use Rattle.file_tracks.specs.Places.{count_in}
 use Rattle.file_tracks.specs.Stored.{content, body_on, files_on, occurs, used_by, HasTracks, IsWhole}
 use Rattle.file_tracks.specs.declared.table.Filed.{Filed}
@@ -18,15 +18,15 @@ use Rattle.file_map.proofs.Tracks.{tracks-cons}
 use Rattle.std.proofs.lemmas.List.{length-take-le}
 use Rattle.file_tracks.proofs.Joined.{joined_other, joined-length}
 
-pub content_same : (rows rows' : List (List ℕ)) (f : Filed) → ((t : ℕ) → 1 ≤ count_in t f.tracks.items → row rows' t ≡ row rows t) → content rows' f ≡ content rows f
-content_same rows rows' f h = ap (take f.words) (joined_other rows rows' f.tracks.items h)
+pub content_same : (contents rows' : List (List ℕ)) (f : Filed) → ((t : ℕ) → 1 ≤ count_in t f.tracks.items → record_at rows' t ≡ record_at contents t) → content rows' f ≡ content contents f
+content_same contents rows' f h = ap (take f.words) (joined_other contents rows' f.tracks.items h)
 
 -- files of which no track changed
-pub files_same : (rows rows' : List (List ℕ)) (fs : List Filed) → ((t : ℕ) → 1 ≤ occurs t fs → row rows' t ≡ row rows t) → files_on rows' fs ≡ files_on rows fs
-files_same rows rows' [] h = refl
-files_same rows rows' (f ∷ fs) h =
-    (λ j. record { name = f.name; mode = f.mode; words = content_same rows rows' f (λ t some. h t (omega (arith, some))) j }
-    ∷ files_same rows rows' fs (λ t some. h t (omega (arith, some))) j)
+pub files_same : (contents rows' : List (List ℕ)) (fs : List Filed) → ((t : ℕ) → 1 ≤ occurs t fs → record_at rows' t ≡ record_at contents t) → files_on rows' fs ≡ files_on contents fs
+files_same contents rows' [] h = refl
+files_same contents rows' (f ∷ fs) h =
+    (λ j. record { name = f.name; mode = f.mode; words = content_same contents rows' f (λ t some. h t (omega (arith, some))) j }
+    ∷ files_same contents rows' fs (λ t some. h t (omega (arith, some))) j)
 
 pub occurs_at : (t : ℕ) (fs : List Filed) (i : ℕ) (d : Filed) → i < length fs → count_in t (get_or fs i d).tracks.items ≤ occurs t fs
 occurs_at t [] i d h = absurd (omega arith)
@@ -52,19 +52,19 @@ occurs-append t [] gs = omega arith
 occurs-append t (f ∷ fs) gs = let k = occurs-append t fs gs in omega (arith, k)
 
 -- one file has changed, and no track of another
-pub files_set : (rows rows' : List (List ℕ)) (fs : List Filed) (i : ℕ) (g d : Filed) → i < length fs → ((t : ℕ) → occurs t fs ≤ 1)
-    → ((t : ℕ) → 1 ≤ occurs t fs → count_in t (get_or fs i d).tracks.items ≡ 0 → row rows' t ≡ row rows t)
-    → files_on rows' (set fs i g) ≡ set (files_on rows fs) i (body_on rows' g)
-files_set rows rows' [] i g d h once same = absurd (omega arith)
-files_set rows rows' (f ∷ fs) zero g d h once same =
-    ap (λ (xs : List FileBody). body_on rows' g ∷ xs) (files_same rows rows' fs (λ t some. same t (omega (arith, some)) (let k = once t in omega (arith, k, some))))
-files_set rows rows' (f ∷ fs) (suc i) g d h once same =
+pub files_set : (contents rows' : List (List ℕ)) (fs : List Filed) (i : ℕ) (g d : Filed) → i < length fs → ((t : ℕ) → occurs t fs ≤ 1)
+    → ((t : ℕ) → 1 ≤ occurs t fs → count_in t (get_or fs i d).tracks.items ≡ 0 → record_at rows' t ≡ record_at contents t)
+    → files_on rows' (set fs i g) ≡ set (files_on contents fs) i (body_on rows' g)
+files_set contents rows' [] i g d h once same = absurd (omega arith)
+files_set contents rows' (f ∷ fs) zero g d h once same =
+    ap (λ (xs : List FileBody). body_on rows' g ∷ xs) (files_same contents rows' fs (λ t some. same t (omega (arith, some)) (let k = once t in omega (arith, k, some))))
+files_set contents rows' (f ∷ fs) (suc i) g d h once same =
     let inside : i < length fs = omega arith in
     (λ j. record {
       name = f.name;
       mode = f.mode;
-      words = content_same rows rows' f (λ t some. same t (omega (arith, some)) (let k = once t in let l = occurs_at t fs i d inside in omega (arith, k, l, some))) j;
-    } ∷ files_set rows rows' fs i g d inside (λ t. let k = once t in omega (arith, k)) (λ t some none. same t (omega (arith, some)) none) j)
+      words = content_same contents rows' f (λ t some. same t (omega (arith, some)) (let k = once t in let l = occurs_at t fs i d inside in omega (arith, k, l, some))) j;
+    } ∷ files_set contents rows' fs i g d inside (λ t. let k = once t in omega (arith, k)) (λ t some none. same t (omega (arith, some)) none) j)
 
 -- the file of a name changed, by its place
 
@@ -100,15 +100,6 @@ change_at name change (f ∷ fs) (suc i) d h differ is =
     ap₂ (λ (b : Bool) (xs : List FileBody). cond b (change f) f ∷ xs) (other_head name f fs i d inside differ is)
     (change_at name change fs i d inside (IsDistinct-tail same_name f.name (map (λ (g : FileBody). g.name) fs) differ) is)
 
--- a file's name stays in a directory where its place is another file's of the same name
-pub differ_set : (fs : List FileBody) (i : ℕ) (g d : FileBody) → i < length fs → g.name ≡ (get_or fs i d).name → NamesDiffer fs → NamesDiffer (set fs i g)
-differ_set fs i g d h same differ = subst (λ (ns : List NamePair). IsDistinct same_name ns) (sym (names_same fs i h same)) differ
-  where
-    names_same : (fs : List FileBody) (i : ℕ) → i < length fs → g.name ≡ (get_or fs i d).name → map (λ (f : FileBody). f.name) (set fs i g) ≡ map (λ (f : FileBody). f.name) fs
-    names_same [] i h e = refl
-    names_same (f ∷ fs) zero h e = ap (λ (n : NamePair). n ∷ map (λ (f : FileBody). f.name) fs) e
-    names_same (f ∷ fs) (suc i) h e = ap (λ (ns : List NamePair). f.name ∷ ns) (names_same fs i (omega arith) e)
-
 -- tracks in use
 
 pub used-set : (fs : List Filed) (i : ℕ) (g d : Filed) → i < length fs → used_by (set fs i g) + length (get_or fs i d).tracks.items ≡ used_by fs + length g.tracks.items
@@ -122,27 +113,27 @@ used_at (f ∷ fs) zero d h = omega arith
 used_at (f ∷ fs) (suc i) d h = let k = used_at fs i d (omega arith) in omega (arith, k)
 
 -- a file's words are as many as it says
-pub content-length : (rows : List (List ℕ)) (f : Filed) → HasTracks f → IsWhole rows f → length (content rows f) ≡ f.words
-content-length rows f tracks whole =
-    length-take-le f.words (joined rows f.tracks.items) (enough _ _ _ (joined-length rows f.tracks.items whole) tracks)
+pub content-length : (contents : List (List ℕ)) (f : Filed) → HasTracks f → IsWhole contents f → length (content contents f) ≡ f.words
+content-length contents f tracks whole =
+    length-take-le f.words (joined contents f.tracks.items) (enough _ _ _ (joined-length contents f.tracks.items whole) tracks)
   where
     enough : (n k w : ℕ) → n ≡ 432 * k → k ≡ tracks_of_words w → w ≤ n
     enough n k w e t = omega (arith, e, t)
 
-pub tracks_are : (rows : List (List ℕ)) (fs : List Filed) → All HasTracks fs → All (IsWhole rows) fs → tracks_of (files_on rows fs) ≡ used_by fs
-tracks_are rows [] tracks whole = refl
-tracks_are rows (f ∷ fs) tracks whole =
-    let here : tracks_of_words (length (content rows f)) ≡ length f.tracks.items =
-    ap tracks_of_words (content-length rows f (All-head HasTracks f fs tracks) (All-head (IsWhole rows) f fs whole)) ∙ sym (All-head HasTracks f fs tracks) in
-    let more = tracks_are rows fs (All-tail HasTracks f fs tracks) (All-tail (IsWhole rows) f fs whole) in
-    tracks-cons (body_on rows f) (files_on rows fs) ∙ (λ j. here j + more j)
+pub tracks_are : (contents : List (List ℕ)) (fs : List Filed) → All HasTracks fs → All (IsWhole contents) fs → tracks_of (files_on contents fs) ≡ used_by fs
+tracks_are contents [] tracks whole = refl
+tracks_are contents (f ∷ fs) tracks whole =
+    let here : tracks_of_words (length (content contents f)) ≡ length f.tracks.items =
+    ap tracks_of_words (content-length contents f (All-head HasTracks f fs tracks) (All-head (IsWhole contents) f fs whole)) ∙ sym (All-head HasTracks f fs tracks) in
+    let more = tracks_are contents fs (All-tail HasTracks f fs tracks) (All-tail (IsWhole contents) f fs whole) in
+    tracks-cons (body_on contents f) (files_on contents fs) ∙ (λ j. here j + more j)
 
-pub names_are : (rows : List (List ℕ)) (fs : List Filed) → map (λ (f : FileBody). f.name) (files_on rows fs) ≡ map (λ (f : Filed). f.name) fs
-names_are rows [] = refl
-names_are rows (f ∷ fs) = ap (λ (ns : List NamePair). f.name ∷ ns) (names_are rows fs)
+pub names_are : (contents : List (List ℕ)) (fs : List Filed) → map (λ (f : FileBody). f.name) (files_on contents fs) ≡ map (λ (f : Filed). f.name) fs
+names_are contents [] = refl
+names_are contents (f ∷ fs) = ap (λ (ns : List NamePair). f.name ∷ ns) (names_are contents fs)
 
-pub names_differ : (rows : List (List ℕ)) (fs : List Filed) → IsDistinct same_name (map (λ (f : Filed). f.name) fs) → NamesDiffer (files_on rows fs)
-names_differ rows fs d = subst (λ (ns : List NamePair). IsDistinct same_name ns) (sym (names_are rows fs)) d
+pub names_differ : (contents : List (List ℕ)) (fs : List Filed) → IsDistinct same_name (map (λ (f : Filed). f.name) fs) → NamesDiffer (files_on contents fs)
+names_differ contents fs d = subst (λ (ns : List NamePair). IsDistinct same_name ns) (sym (names_are contents fs)) d
 
 pub names_set : (fs : List Filed) (i : ℕ) (g d : Filed) → i < length fs → g.name ≡ (get_or fs i d).name → map (λ (f : Filed). f.name) (set fs i g) ≡ map (λ (f : Filed). f.name) fs
 names_set [] i g d h e = refl

@@ -3,7 +3,7 @@ use Rattle.std.specs.Prelude.{Option, None, Some, drop}
 use Rattle.std.proofs.Common.{◌≡◌, ℕ, ◌+◌, ◌<◌, ◌≤◌, List, [], ◌∷◌, ◌++◌, length, get_or, refl, sym, ap, subst, ◌∙◌, append_assoc}
 use Rattle.std.proofs.lemmas.List.{drop_more, drop_all}
 use Rattle.faults.specs.Faults.{WhereTold}
-use Rattle.track_store.specs.Words.{row, joined}
+use Rattle.track_store.specs.Words.{record_at, joined}
 
 pub told_all : {X : Type 0} (o : Option X) (P : X → Type 0) → ((x : X) → P x) → WhereTold o P
 told_all None P h = tt
@@ -18,27 +18,22 @@ told_both None P Q R h p q = tt
 told_both (Some x) P Q R h p q = h x p q
 
 -- the words of tracks, one track on
-pub joined_more : (rows : List (List ℕ)) (ts : List ℕ) (i : ℕ) (xs ys : List ℕ) → i < length ts → ys ≡ xs ++ row rows (get_or ts i 0) → joined rows ts ≡ xs ++ joined rows (drop i ts)
-    → joined rows ts ≡ ys ++ joined rows (drop (i + 1) ts)
-joined_more rows ts i xs ys inside more is =
+pub joined_more : (contents : List (List ℕ)) (ts : List ℕ) (i : ℕ) (xs ys : List ℕ) → i < length ts → ys ≡ xs ++ record_at contents (get_or ts i 0) → joined contents ts ≡ xs ++ joined contents (drop i ts)
+    → joined contents ts ≡ ys ++ joined contents (drop (i + 1) ts)
+joined_more contents ts i xs ys inside more is =
     is
-    ∙ ap (λ (us : List ℕ). xs ++ joined rows us) (drop_more ts i 0 inside)
-    ∙ sym (append_assoc xs (row rows (get_or ts i 0)) (joined rows (drop (i + 1) ts)))
-    ∙ ap (λ (zs : List ℕ). zs ++ joined rows (drop (i + 1) ts)) (sym more)
+    ∙ ap (λ (us : List ℕ). xs ++ joined contents us) (drop_more ts i 0 inside)
+    ∙ sym (append_assoc xs (record_at contents (get_or ts i 0)) (joined contents (drop (i + 1) ts)))
+    ∙ ap (λ (zs : List ℕ). zs ++ joined contents (drop (i + 1) ts)) (sym more)
 
 append-nil : (xs : List ℕ) → xs ++ [] ≡ xs
 append-nil [] = refl
 append-nil (x ∷ xs) = ap (λ (ys : List ℕ). x ∷ ys) (append-nil xs)
 
-pub joined_end : (rows : List (List ℕ)) (ts : List ℕ) (i : ℕ) (xs : List ℕ) → length ts ≤ i → joined rows ts ≡ xs ++ joined rows (drop i ts) → xs ≡ joined rows ts
-joined_end rows ts i xs past is = sym (is ∙ ap (λ (us : List ℕ). xs ++ joined rows us) (drop_all i ts past) ∙ append-nil xs)
+pub joined_end : (contents : List (List ℕ)) (ts : List ℕ) (i : ℕ) (xs : List ℕ) → length ts ≤ i → joined contents ts ≡ xs ++ joined contents (drop i ts) → xs ≡ joined contents ts
+joined_end contents ts i xs past is = sym (is ∙ ap (λ (us : List ℕ). xs ++ joined contents us) (drop_all i ts past) ∙ append-nil xs)
 
--- what was told is told again
-pub told_twice : {X : Type 0} (o : Option X) (P : X → X → Type 0) → WhereTold o (λ x. P x x) → WhereTold o (λ x. WhereTold o (P x))
-told_twice None P h = tt
-told_twice (Some x) P h = h
-
--- what holds with some rows that a disk may have holds with those that it tells
-pub where_told : (o : Option (List (List ℕ))) (Q P : List (List ℕ) → Type 0) → ((rows : List (List ℕ)) × (WhereTold o (λ r. r ≡ rows) × (Q rows × P rows))) → WhereTold o P
+-- what holds with some contents that a disk may have holds with those that it tells
+pub where_told : (o : Option (List (List ℕ))) (Q P : List (List ℕ) → Type 0) → ((contents : List (List ℕ)) × (WhereTold o (λ r. r ≡ contents) × (Q contents × P contents))) → WhereTold o P
 where_told None Q P a = tt
 where_told (Some r) Q P a = subst P (sym a.1.0) a.1.1.1

@@ -7,7 +7,7 @@ use Rattle.std.proofs.lemmas.List.{take-append-drop, take-take, take_all, nil_fr
 use Rattle.file_model.specs.Files.{overwritten, tracks_of_words}
 use Rattle.file_map.proofs.Operations.{length-overwritten}
 use Rattle.track_store.specs.Tracks.{is_taken}
-use Rattle.track_store.specs.Words.{row, joined}
+use Rattle.track_store.specs.Words.{record_at, joined}
 use Rattle.file_tracks.specs.Places.{count_in, bit}
 use Rattle.file_tracks.proofs.Found.{all_taken}
 use Rattle.file_tracks.proofs.Joined.{set_all, joined_same, joined_other, other_row, joined-append, joined-length}
@@ -22,19 +22,19 @@ append-nil : (xs : List ℕ) → xs ++ [] ≡ xs
 append-nil [] = refl
 append-nil (x ∷ xs) = ap (λ (ys : List ℕ). x ∷ ys) (append-nil xs)
 
-module _ (rows : List (List ℕ)) (ts v ws patch : List ℕ) (w place from to : ℕ)
-    (whole : (t : ℕ) → 1 ≤ count_in t ts → length (row rows t) ≡ 432)
-    (once : (t : ℕ) → count_in t v ≤ 1) (within : (t : ℕ) → 1 ≤ count_in t v → t < length rows)
+module _ (contents : List (List ℕ)) (ts v ws patch : List ℕ) (w place from to : ℕ)
+    (whole : (t : ℕ) → 1 ≤ count_in t ts → length (record_at contents t) ≡ 432)
+    (once : (t : ℕ) → count_in t v ≤ 1) (within : (t : ℕ) → 1 ≤ count_in t v → t < length contents)
     (front : take (length ts) v ≡ ts)
     (has : length ts ≡ tracks_of_words w) (len : length v ≡ tracks_of_words (max w (place + length ws)))
     (below : place ≤ w) (first : from ≡ place / 432) (last : to ≡ (place + length ws + 431) / 432)
     (long : length patch ≡ 432 * (to - from))
-    (is : patch ≡ overwritten (place - 432 * from) ws (joined rows (take (min to (length ts) - from) (drop from ts)) ++ replicate (432 * (to - from) - 432 * length (take (min to (length ts) - from) (drop from ts))) 0)) where
+    (is : patch ≡ overwritten (place - 432 * from) ws (joined contents (take (min to (length ts) - from) (drop from ts)) ++ replicate (432 * (to - from) - 432 * length (take (min to (length ts) - from) (drop from ts))) 0)) where
   abbrev b : List ℕ
   b = take (to - from) (drop from v)
 
   abbrev rows' : List (List ℕ)
-  rows' = set_all rows b patch
+  rows' = set_all contents b patch
 
   abbrev c : List ℕ
   c = drop (to - from) (drop from v)
@@ -61,85 +61,85 @@ module _ (rows : List (List ℕ)) (ts v ws patch : List ℕ) (w place from to : 
   not_in : (t n : ℕ) → count_in t (take from v) + n ≤ 1 → 1 ≤ count_in t (take from v) → n ≡ 0
   not_in t n most some = omega (arith, most, some)
 
-  before_same : joined rows' (take from v) ≡ joined rows (take from v)
-  before_same = joined_other rows rows' (take from v) (λ t some.
+  before_same : joined rows' (take from v) ≡ joined contents (take from v)
+  before_same = joined_other contents rows' (take from v) (λ t some.
       let p = count_split t from v in let q = count_take t (to - from) (drop from v) in let o = once t in
-      other_row rows b patch t (omega (arith, p, q, o, some)))
+      other_row contents b patch t (omega (arith, p, q, o, some)))
 
-  behind_same : joined rows' c ≡ joined rows c
-  behind_same = joined_other rows rows' c (λ t some.
+  behind_same : joined rows' c ≡ joined contents c
+  behind_same = joined_other contents rows' c (λ t some.
       let p = count_drop t from v in let q = count_split t (to - from) (drop from v) in let o = once t in
-      other_row rows b patch t (omega (arith, p, q, o, some)))
+      other_row contents b patch t (omega (arith, p, q, o, some)))
 
   pub b_once : (t : ℕ) → count_in t b ≤ 1
   b_once t = let p = count_drop t from v in let q = count_take t (to - from) (drop from v) in let o = once t in omega (arith, p, q, o)
 
-  pub b_within : (t : ℕ) → 1 ≤ count_in t b → t < length rows
+  pub b_within : (t : ℕ) → 1 ≤ count_in t b → t < length contents
   b_within t some = within t (let p = count_drop t from v in let q = count_take t (to - from) (drop from v) in omega (arith, p, q, some))
 
   pub b_long : length b ≡ to - from
   b_long = let p = length-take (to - from) (drop from v) in let q = length-drop from v in let t = to_le in omega (arith, p, q, t)
 
   here_is : joined rows' b ≡ patch
-  here_is = joined_same rows b patch b_once b_within (long ∙ ap (λ (n : ℕ). 432 * n) (sym b_long))
+  here_is = joined_same contents b patch b_once b_within (long ∙ ap (λ (n : ℕ). 432 * n) (sym b_long))
 
-  parts : joined rows' v ≡ joined rows (take from ts) ++ (patch ++ joined rows c)
+  parts : joined rows' v ≡ joined contents (take from ts) ++ (patch ++ joined contents c)
   parts =
       ap (joined rows') (sym (take-append-drop from v) ∙ ap (λ (us : List ℕ). take from v ++ us) (sym (take-append-drop (to - from) (drop from v))))
       ∙ joined-append rows' (take from v) (b ++ c)
       ∙ (λ j. before_same j ++ joined-append rows' b c j)
-      ∙ (λ j. joined rows (front_is j) ++ (here_is j ++ behind_same j))
+      ∙ (λ j. joined contents (front_is j) ++ (here_is j ++ behind_same j))
 
   m_long : length m ≡ min to (length ts) - from
   m_long = let p = length-take (min to (length ts) - from) (drop from ts) in let q = length-drop from ts in omega (arith, p, q)
 
-  part_whole : (a n : ℕ) (t : ℕ) → 1 ≤ count_in t (take n (drop a ts)) → length (row rows t) ≡ 432
+  part_whole : (a n : ℕ) (t : ℕ) → 1 ≤ count_in t (take n (drop a ts)) → length (record_at contents t) ≡ 432
   part_whole a n t some = whole t (let p = count_take t n (drop a ts) in let q = count_drop t a ts in omega (arith, p, q, some))
 
-  front_long : length (joined rows (take from ts)) ≡ 432 * from
+  front_long : length (joined contents (take from ts)) ≡ 432 * from
   front_long =
-      joined-length rows (take from ts) (λ t some. whole t (let p = count_take t from ts in omega (arith, p, some)))
+      joined-length contents (take from ts) (λ t some. whole t (let p = count_take t from ts in omega (arith, p, some)))
       ∙ ap (λ (n : ℕ). 432 * n) (let p = length-take from ts in let f = from_le in let e : length (take from ts) ≡ from = omega (arith, p, f) in e)
 
-  x_long : length (joined rows m ++ z) ≡ 432 * (to - from)
+  x_long : length (joined contents m ++ z) ≡ 432 * (to - from)
   x_long =
-      let p = length-append (joined rows m) z in
-      let q = joined-length rows m (part_whole from (min to (length ts) - from)) in
+      let p = length-append (joined contents m) z in
+      let q = joined-length contents m (part_whole from (min to (length ts) - from)) in
       let r = length-replicate {A = ℕ} (432 * (to - from) - 432 * length m) 0 in
       let l = m_long in
       omega (arith, p, q, r, l)
 
-  all_words : joined rows (take from ts) ++ ((joined rows m ++ z) ++ joined rows c) ≡ joined rows ts ++ z
+  all_words : joined contents (take from ts) ++ ((joined contents m ++ z) ++ joined contents c) ≡ joined contents ts ++ z
   all_words = elim (cases_lt (length ts) to) [
     | inl past ↦
         let none : c ≡ [] = nil_from_length c (let p = length-drop (to - from) (drop from v) in let q = length-drop from v in omega (arith, p, q, len, has, last, past, below)) in
         let rest : m ≡ drop from ts = ap (λ (n : ℕ). take n (drop from ts)) (let e : min to (length ts) - from ≡ length ts - from = omega (arith, past) in e) ∙ take_all (length ts - from) (drop from ts) (let q = length-drop from ts in omega (arith, q)) in
-        (λ j. joined rows (take from ts) ++ ((joined rows m ++ z) ++ joined rows (none j)))
-        ∙ ap (λ (xs : List ℕ). joined rows (take from ts) ++ xs) (append-nil (joined rows m ++ z))
-        ∙ sym (append_assoc (joined rows (take from ts)) (joined rows m) z)
-        ∙ ap (λ (xs : List ℕ). xs ++ z) (ap (λ (us : List ℕ). joined rows (take from ts) ++ joined rows us) rest ∙ sym (joined-append rows (take from ts) (drop from ts)) ∙ ap (joined rows) (take-append-drop from ts))
+        (λ j. joined contents (take from ts) ++ ((joined contents m ++ z) ++ joined contents (none j)))
+        ∙ ap (λ (xs : List ℕ). joined contents (take from ts) ++ xs) (append-nil (joined contents m ++ z))
+        ∙ sym (append_assoc (joined contents (take from ts)) (joined contents m) z)
+        ∙ ap (λ (xs : List ℕ). xs ++ z) (ap (λ (us : List ℕ). joined contents (take from ts) ++ joined contents us) rest ∙ sym (joined-append contents (take from ts) (drop from ts)) ∙ ap (joined contents) (take-append-drop from ts))
     | inr within_ts ↦
         let same : v ≡ ts = sym (take_all (length ts) v (omega (arith, len, has, last, below, within_ts))) ∙ front in
         let empty : z ≡ [] = nil_from_length z (length-replicate {A = ℕ} (432 * (to - from) - 432 * length m) 0 ∙ (let l = m_long in let e : 432 * (to - from) - 432 * length m ≡ 0 = omega (arith, l, within_ts) in e)) in
         let mid : m ≡ take (to - from) (drop from ts) = ap (λ (n : ℕ). take n (drop from ts)) (let e : min to (length ts) - from ≡ to - from = omega (arith, within_ts) in e) in
-        (λ j. joined rows (take from ts) ++ ((joined rows m ++ empty j) ++ joined rows (drop (to - from) (drop from (same j)))))
-        ∙ ap (λ (xs : List ℕ). joined rows (take from ts) ++ (xs ++ joined rows (drop (to - from) (drop from ts)))) (append-nil (joined rows m) ∙ ap (joined rows) mid)
-        ∙ ap (λ (xs : List ℕ). joined rows (take from ts) ++ xs) (sym (joined-append rows (take (to - from) (drop from ts)) (drop (to - from) (drop from ts))) ∙ ap (joined rows) (take-append-drop (to - from) (drop from ts)))
-        ∙ sym (joined-append rows (take from ts) (drop from ts)) ∙ ap (joined rows) (take-append-drop from ts)
-        ∙ sym (append-nil (joined rows ts)) ∙ ap (λ (xs : List ℕ). joined rows ts ++ xs) (sym empty)
+        (λ j. joined contents (take from ts) ++ ((joined contents m ++ empty j) ++ joined contents (drop (to - from) (drop from (same j)))))
+        ∙ ap (λ (xs : List ℕ). joined contents (take from ts) ++ (xs ++ joined contents (drop (to - from) (drop from ts)))) (append-nil (joined contents m) ∙ ap (joined contents) mid)
+        ∙ ap (λ (xs : List ℕ). joined contents (take from ts) ++ xs) (sym (joined-append contents (take (to - from) (drop from ts)) (drop (to - from) (drop from ts))) ∙ ap (joined contents) (take-append-drop (to - from) (drop from ts)))
+        ∙ sym (joined-append contents (take from ts) (drop from ts)) ∙ ap (joined contents) (take-append-drop from ts)
+        ∙ sym (append-nil (joined contents ts)) ∙ ap (λ (xs : List ℕ). joined contents ts ++ xs) (sym empty)
   ]
 
-  pub written_content : take (max w (place + length ws)) (joined (set_all rows (take (to - from) (drop from v)) patch) v) ≡ overwritten place ws (take w (joined rows ts))
+  pub written_content : take (max w (place + length ws)) (joined (set_all contents (take (to - from) (drop from v)) patch) v) ≡ overwritten place ws (take w (joined contents ts))
   written_content =
-      let enough : w ≤ length (joined rows ts) = (let p = joined-length rows ts whole in omega (arith, p, has)) in
-      let at : place ≡ length (joined rows (take from ts)) + (place - 432 * from) = (let p = front_long in omega (arith, p, first)) in
-      let fits : (place - 432 * from) + length ws ≤ length (joined rows m ++ z) = (let p = x_long in let o = from_to in omega (arith, p, first, last, o)) in
+      let enough : w ≤ length (joined contents ts) = (let p = joined-length contents ts whole in omega (arith, p, has)) in
+      let at : place ≡ length (joined contents (take from ts)) + (place - 432 * from) = (let p = front_long in omega (arith, p, first)) in
+      let fits : (place - 432 * from) + length ws ≤ length (joined contents m ++ z) = (let p = x_long in let o = from_to in omega (arith, p, first, last, o)) in
       ap (take (max w (place + length ws)))
       (parts
-      ∙ ap (λ (xs : List ℕ). joined rows (take from ts) ++ (xs ++ joined rows c)) is
-      ∙ over_mid (joined rows (take from ts)) (joined rows m ++ z) (joined rows c) ws place (place - 432 * from) at fits
+      ∙ ap (λ (xs : List ℕ). joined contents (take from ts) ++ (xs ++ joined contents c)) is
+      ∙ over_mid (joined contents (take from ts)) (joined contents m ++ z) (joined contents c) ws place (place - 432 * from) at fits
       ∙ ap (overwritten place ws) all_words)
-      ∙ over_cut (joined rows ts) z ws w place (max w (place + length ws) - (place + length ws)) enough below (omega arith)
+      ∙ over_cut (joined contents ts) z ws w place (max w (place + length ws) - (place + length ws)) enough below (omega arith)
 
   -- a track of the file is an old one, or one of those that are written
   pub in_part : (t : ℕ) → count_in t v ≤ count_in t ts + count_in t (take (to - from) (drop from v))
@@ -159,23 +159,23 @@ module _ (rows : List (List ℕ)) (ts v ws patch : List ℕ) (w place from to : 
   ]
 
 -- words laid over kept tracks and zeros fill the tracks that are written
-module _ (rows : List (List ℕ)) (ts ws : List ℕ) (place from to : ℕ) (whole : (t : ℕ) → 1 ≤ count_in t ts → length (row rows t) ≡ 432)
+module _ (contents : List (List ℕ)) (ts ws : List ℕ) (place from to : ℕ) (whole : (t : ℕ) → 1 ≤ count_in t ts → length (record_at contents t) ≡ 432)
     (first : from ≡ place / 432) (last : to ≡ (place + length ws + 431) / 432) where
   abbrev mm : List ℕ
   mm = take (min to (length ts) - from) (drop from ts)
 
   abbrev under : List ℕ
-  under = joined rows mm ++ replicate (432 * (to - from) - 432 * length mm) 0
+  under = joined contents mm ++ replicate (432 * (to - from) - 432 * length mm) 0
 
   under_long : length under ≡ 432 * (to - from)
   under_long =
-      let p = length-append (joined rows mm) (replicate (432 * (to - from) - 432 * length mm) 0) in
-      let q = joined-length rows mm (λ t some. whole t (let a = count_take t (min to (length ts) - from) (drop from ts) in let b = count_drop t from ts in omega (arith, a, b, some))) in
+      let p = length-append (joined contents mm) (replicate (432 * (to - from) - 432 * length mm) 0) in
+      let q = joined-length contents mm (λ t some. whole t (let a = count_take t (min to (length ts) - from) (drop from ts) in let b = count_drop t from ts in omega (arith, a, b, some))) in
       let r = length-replicate {A = ℕ} (432 * (to - from) - 432 * length mm) 0 in
       let l = length-take (min to (length ts) - from) (drop from ts) in
       omega (arith, p, q, r, l)
 
-  pub patch_long : length (overwritten (place - 432 * from) ws (joined rows (take (min to (length ts) - from) (drop from ts)) ++ replicate (432 * (to - from) - 432 * length (take (min to (length ts) - from) (drop from ts))) 0)) ≡ 432 * (to - from)
+  pub patch_long : length (overwritten (place - 432 * from) ws (joined contents (take (min to (length ts) - from) (drop from ts)) ++ replicate (432 * (to - from) - 432 * length (take (min to (length ts) - from) (drop from ts))) 0)) ≡ 432 * (to - from)
   patch_long =
       let p = under_long in
       let inside : place - 432 * from ≤ length under = omega (arith, p, first, last) in

@@ -17,7 +17,7 @@ use Rattle.file_map.proofs.Operations.{written_done, written_over, length-overwr
 use Rattle.file_map.proofs.Counts.{too_many}
 use Rattle.track_store.specs.Tracks.{count_taken}
 use Rattle.track_store.proofs.Taken.{taken_below}
-use Rattle.track_store.specs.Words.{row, joined, with_words}
+use Rattle.track_store.specs.Words.{record_at, joined, with_words}
 use Rattle.file_tracks.specs.Places.{count_in, bit}
 use Rattle.file_tracks.specs.Stored.{content, body_on, files_on, HasTracks, HasMode, IsWhole, MayBe, IsDirectory, StandBeside, LeavesOthers}
 use Rattle.file_tracks.specs.declared.table.Filed.{Filed}
@@ -30,13 +30,13 @@ use Rattle.file_tracks.proofs.Writes.{written_content, in_part, b_once, b_within
 use Rattle.file_tracks.proofs.Puts.{no_rows}
 
 module _ (o : Option (List (List ℕ))) (taken taken' : List Bool) (quota used now n : ℕ) (fs : List Filed) (i : ℕ) (f : Filed) (v : Vec ℕ Global) (ws patch : List ℕ) (place from to : ℕ)
-    (h : IsDirectory o taken quota used fs) (low : i < length fs) (is : f ≡ get_or fs i f) (reaches : WhereTold o (λ rows. length taken ≤ length rows))
+    (h : IsDirectory o taken quota used fs) (low : i < length fs) (is : f ≡ get_or fs i f) (reaches : WhereTold o (λ contents. length taken ≤ length contents))
     (swaps : (t : ℕ) → count_in t v.items + bit taken t ≡ count_in t f.tracks.items + bit taken' t) (many : length taken' ≡ length taken)
     (len : length v.items ≡ n) (tracks : n ≡ tracks_of_words (max f.words (place + length ws)))
     (front : take (length f.tracks.items) v.items ≡ f.tracks.items)
     (below : place ≤ f.words) (first : from ≡ place / 432) (last : to ≡ (place + length ws + 431) / 432)
     (long : length patch ≡ 432 * (to - from))
-    (told : WhereTold o (λ rows. patch ≡ overwritten (place - 432 * from) ws (joined rows (take (min to (length f.tracks.items) - from) (drop from f.tracks.items)) ++ replicate (432 * (to - from) - 432 * length (take (min to (length f.tracks.items) - from) (drop from f.tracks.items))) 0)))
+    (told : WhereTold o (λ contents. patch ≡ overwritten (place - 432 * from) ws (joined contents (take (min to (length f.tracks.items) - from) (drop from f.tracks.items)) ++ replicate (432 * (to - from) - 432 * length (take (min to (length f.tracks.items) - from) (drop from f.tracks.items))) 0)))
     (sum : now + length f.tracks.items ≡ used + n) (fits : now ≤ quota) (counts : count_taken taken' + length f.tracks.items ≡ count_taken taken + n) where
   abbrev pub g : Filed
   g = record { name = f.name; mode = f.mode; words = max f.words (place + length ws); tracks = v }
@@ -60,62 +60,62 @@ module _ (o : Option (List (List ℕ))) (taken taken' : List Bool) (quota used n
   new_one t = let a = new_once t in let p = bit_le taken' t in omega (arith, a, p)
 
   -- for records that are told
-  module _ (rows : List (List ℕ)) (reach : length taken ≤ length rows) (whole : All (IsWhole rows) fs)
-      (patch_is : patch ≡ overwritten (place - 432 * from) ws (joined rows (take (min to (length f.tracks.items) - from) (drop from f.tracks.items)) ++ replicate (432 * (to - from) - 432 * length (take (min to (length f.tracks.items) - from) (drop from f.tracks.items))) 0)) where
+  module _ (contents : List (List ℕ)) (reach : length taken ≤ length contents) (whole : All (IsWhole contents) fs)
+      (patch_is : patch ≡ overwritten (place - 432 * from) ws (joined contents (take (min to (length f.tracks.items) - from) (drop from f.tracks.items)) ++ replicate (432 * (to - from) - 432 * length (take (min to (length f.tracks.items) - from) (drop from f.tracks.items))) 0)) where
     abbrev rows' : List (List ℕ)
-    rows' = set_all rows b patch
+    rows' = set_all contents b patch
 
-    new_within : (t : ℕ) → 1 ≤ count_in t v.items → t < length rows
+    new_within : (t : ℕ) → 1 ≤ count_in t v.items → t < length contents
     new_within t some =
         let a = new_once t in
         let p = taken_below taken' t (bit_taken taken' t (omega (arith, a, some))) in
         omega (arith, p, many, reach)
 
-    whole_f : IsWhole rows f
-    whole_f = subst (IsWhole rows) (sym is) (All-get_or (IsWhole rows) fs i f low whole)
+    whole_f : IsWhole contents f
+    whole_f = subst (IsWhole contents) (sym is) (All-get_or (IsWhole contents) fs i f low whole)
 
-    same : (t : ℕ) → count_in t v.items ≡ 0 → row rows' t ≡ row rows t
-    same t none = other_row rows b patch t (let p = count_take t (to - from) (drop from v.items) in let q = count_drop t from v.items in omega (arith, p, q, none))
+    same : (t : ℕ) → count_in t v.items ≡ 0 → record_at rows' t ≡ record_at contents t
+    same t none = other_row contents b patch t (let p = count_take t (to - from) (drop from v.items) in let q = count_drop t from v.items in omega (arith, p, q, none))
 
-    words_are : content rows' g ≡ overwritten place ws (content rows f)
-    words_are = written_content rows f.tracks.items v.items ws patch f.words place from to whole_f new_one new_within front has new_len below first last long patch_is
+    words_are : content rows' g ≡ overwritten place ws (content contents f)
+    words_are = written_content contents f.tracks.items v.items ws patch f.words place from to whole_f new_one new_within front has new_len below first last long patch_is
 
     whole_g : IsWhole rows' g
     whole_g t some = elim (cases_eq (count_in t b) 0) [
       | inl none ↦
-          let p = in_part rows f.tracks.items v.items ws patch f.words place from to whole_f new_one new_within front has new_len below first last long patch_is t in
-          ap length (other_row rows b patch t none) ∙ whole_f t (omega (arith, p, none, some))
+          let p = in_part contents f.tracks.items v.items ws patch f.words place from to whole_f new_one new_within front has new_len below first last long patch_is t in
+          ap length (other_row contents b patch t none) ∙ whole_f t (omega (arith, p, none, some))
       | inr there ↦
-          whole_rows rows b patch
-          (b_once rows f.tracks.items v.items ws patch f.words place from to whole_f new_one new_within front has new_len below first last long patch_is)
-          (b_within rows f.tracks.items v.items ws patch f.words place from to whole_f new_one new_within front has new_len below first last long patch_is)
-          (long ∙ ap (λ (k : ℕ). 432 * k) (sym (b_long rows f.tracks.items v.items ws patch f.words place from to whole_f new_one new_within front has new_len below first last long patch_is)))
+          whole_rows contents b patch
+          (b_once contents f.tracks.items v.items ws patch f.words place from to whole_f new_one new_within front has new_len below first last long patch_is)
+          (b_within contents f.tracks.items v.items ws patch f.words place from to whole_f new_one new_within front has new_len below first last long patch_is)
+          (long ∙ ap (λ (k : ℕ). 432 * k) (sym (b_long contents f.tracks.items v.items ws patch f.words place from to whole_f new_one new_within front has new_len below first last long patch_is)))
           t (omega (arith, there))
     ]
 
     pub all_whole : All (IsWhole rows') (set fs i g)
-    all_whole = changed_whole rows rows' taken taken' fs i f g low h.once swaps_at same whole whole_g
+    all_whole = changed_whole contents rows' taken taken' fs i f g low h.once swaps_at same whole whole_g
 
-    pub elsewhere_too : (others : ℕ → ℕ) → StandBeside others taken fs → (t : ℕ) → 1 ≤ others t → row rows' t ≡ row rows t
-    elsewhere_too others beside = changed_elsewhere rows rows' taken taken' fs i f g low h.once swaps_at same others beside
+    pub elsewhere_too : (others : ℕ → ℕ) → StandBeside others taken fs → (t : ℕ) → 1 ≤ others t → record_at rows' t ≡ record_at contents t
+    elsewhere_too others beside = changed_elsewhere contents rows' taken taken' fs i f g low h.once swaps_at same others beside
 
-    pub file_is : (name : NamePair) → file_named name (files_on rows fs) ≡ Some (body_on rows (get_or fs i f)) →
-        files_on rows' (set fs i g) ≡ with_change name (λ (x : FileBody). record x { words = overwritten place ws x.words }) (files_on rows fs)
+    pub file_is : (name : NamePair) → file_named name (files_on contents fs) ≡ Some (body_on contents (get_or fs i f)) →
+        files_on rows' (set fs i g) ≡ with_change name (λ (x : FileBody). record x { words = overwritten place ws x.words }) (files_on contents fs)
     file_is name found =
-        let named = is_found name (files_on rows fs) (body_on rows (get_or fs i f)) found in
-        let at : get_or (files_on rows fs) i (body_on rows f) ≡ body_on rows (get_or fs i f) = get_or-map (body_on rows) fs i f (body_on rows f) low in
-        let inside : i < length (files_on rows fs) = let l = length-map fs (body_on rows) in omega (arith, l, low) in
-        changed_file rows rows' taken taken' fs i f g low h.once swaps_at same name (overwritten place ws (content rows f)) (names_differ rows fs h.differ) named (ap (λ (x : Filed). x.name) is) (ap (λ (x : Filed). x.mode) is) words_are
-        ∙ ap (λ (x : Filed). set (files_on rows fs) i (record (body_on rows (get_or fs i f)) { words = overwritten place ws (content rows x) })) is
-        ∙ ap (λ (x : FileBody). set (files_on rows fs) i (record x { words = overwritten place ws x.words })) (sym at)
-        ∙ sym (change_at name (λ (x : FileBody). record x { words = overwritten place ws x.words }) (files_on rows fs) i (body_on rows f) inside (names_differ rows fs h.differ) (ap (is_named name) at ∙ named))
+        let named = is_found name (files_on contents fs) (body_on contents (get_or fs i f)) found in
+        let at : get_or (files_on contents fs) i (body_on contents f) ≡ body_on contents (get_or fs i f) = get_or-map (body_on contents) fs i f (body_on contents f) low in
+        let inside : i < length (files_on contents fs) = let l = length-map fs (body_on contents) in omega (arith, l, low) in
+        changed_file contents rows' taken taken' fs i f g low h.once swaps_at same name (overwritten place ws (content contents f)) (names_differ contents fs h.differ) named (ap (λ (x : Filed). x.name) is) (ap (λ (x : Filed). x.mode) is) words_are
+        ∙ ap (λ (x : Filed). set (files_on contents fs) i (record (body_on contents (get_or fs i f)) { words = overwritten place ws (content contents x) })) is
+        ∙ ap (λ (x : FileBody). set (files_on contents fs) i (record x { words = overwritten place ws x.words })) (sym at)
+        ∙ sym (change_at name (λ (x : FileBody). record x { words = overwritten place ws x.words }) (files_on contents fs) i (body_on contents f) inside (names_differ contents fs h.differ) (ap (is_named name) at ∙ named))
 
-  whole_so : (p : Option (List (List ℕ))) → p ≡ o → WhereTold (with_words p b patch) (λ rows. All (IsWhole rows) (set fs i g))
-  whole_so None e = subst (λ (q : Option (List (List ℕ))). WhereTold q (λ rows. All (IsWhole rows) (set fs i g))) (sym (no_rows b patch)) tt
-  whole_so (Some rows) e =
-      subst (λ (q : Option (List (List ℕ))). WhereTold q (λ rows. All (IsWhole rows) (set fs i g))) (sym (with_words_is rows b patch))
-      (all_whole rows (subst (λ (q : Option (List (List ℕ))). WhereTold q (λ rows. length taken ≤ length rows)) (sym e) reaches) (subst (λ (q : Option (List (List ℕ))). WhereTold q (λ rows. All (IsWhole rows) fs)) (sym e) h.whole)
-      (subst (λ (q : Option (List (List ℕ))). WhereTold q (λ rows. patch ≡ overwritten (place - 432 * from) ws (joined rows (take (min to (length f.tracks.items) - from) (drop from f.tracks.items)) ++ replicate (432 * (to - from) - 432 * length (take (min to (length f.tracks.items) - from) (drop from f.tracks.items))) 0))) (sym e) told))
+  whole_so : (p : Option (List (List ℕ))) → p ≡ o → WhereTold (with_words p b patch) (λ contents. All (IsWhole contents) (set fs i g))
+  whole_so None e = subst (λ (q : Option (List (List ℕ))). WhereTold q (λ contents. All (IsWhole contents) (set fs i g))) (sym (no_rows b patch)) tt
+  whole_so (Some contents) e =
+      subst (λ (q : Option (List (List ℕ))). WhereTold q (λ contents. All (IsWhole contents) (set fs i g))) (sym (with_words_is contents b patch))
+      (all_whole contents (subst (λ (q : Option (List (List ℕ))). WhereTold q (λ contents. length taken ≤ length contents)) (sym e) reaches) (subst (λ (q : Option (List (List ℕ))). WhereTold q (λ contents. All (IsWhole contents) fs)) (sym e) h.whole)
+      (subst (λ (q : Option (List (List ℕ))). WhereTold q (λ contents. patch ≡ overwritten (place - 432 * from) ws (joined contents (take (min to (length f.tracks.items) - from) (drop from f.tracks.items)) ++ replicate (432 * (to - from) - 432 * length (take (min to (length f.tracks.items) - from) (drop from f.tracks.items))) 0))) (sym e) told))
 
   pub write_works : IsDirectory (with_words o b patch) taken' quota now (set fs i g)
   write_works = record {
@@ -129,20 +129,20 @@ module _ (o : Option (List (List ℕ))) (taken taken' : List Bool) (quota used n
     whole = whole_so o refl;
   }
 
-  reach_of : (rows : List (List ℕ)) → Some rows ≡ o → length taken ≤ length rows
-  reach_of rows e = subst (λ (q : Option (List (List ℕ))). WhereTold q (λ rows. length taken ≤ length rows)) (sym e) reaches
+  reach_of : (contents : List (List ℕ)) → Some contents ≡ o → length taken ≤ length contents
+  reach_of contents e = subst (λ (q : Option (List (List ℕ))). WhereTold q (λ contents. length taken ≤ length contents)) (sym e) reaches
 
-  whole_of : (rows : List (List ℕ)) → Some rows ≡ o → All (IsWhole rows) fs
-  whole_of rows e = subst (λ (q : Option (List (List ℕ))). WhereTold q (λ rows. All (IsWhole rows) fs)) (sym e) h.whole
+  whole_of : (contents : List (List ℕ)) → Some contents ≡ o → All (IsWhole contents) fs
+  whole_of contents e = subst (λ (q : Option (List (List ℕ))). WhereTold q (λ contents. All (IsWhole contents) fs)) (sym e) h.whole
 
-  others_so : (p : Option (List (List ℕ))) → p ≡ o → (others : ℕ → ℕ) → StandBeside others taken fs → WhereTold p (λ was. WhereTold (with_words p b patch) (λ after. (t : ℕ) → 1 ≤ others t → row after t ≡ row was t))
+  others_so : (p : Option (List (List ℕ))) → p ≡ o → (others : ℕ → ℕ) → StandBeside others taken fs → WhereTold p (λ was. WhereTold (with_words p b patch) (λ after. (t : ℕ) → 1 ≤ others t → record_at after t ≡ record_at was t))
   others_so None e others beside = tt
-  others_so (Some rows) e others beside =
-      subst (λ (q : Option (List (List ℕ))). WhereTold q (λ after. (t : ℕ) → 1 ≤ others t → row after t ≡ row rows t)) (sym (with_words_is rows b patch))
-      (elsewhere_too rows (reach_of rows e) (whole_of rows e) (patch_of rows e) others beside)
+  others_so (Some contents) e others beside =
+      subst (λ (q : Option (List (List ℕ))). WhereTold q (λ after. (t : ℕ) → 1 ≤ others t → record_at after t ≡ record_at contents t)) (sym (with_words_is contents b patch))
+      (elsewhere_too contents (reach_of contents e) (whole_of contents e) (patch_of contents e) others beside)
     where
-      patch_of : (rows : List (List ℕ)) → Some rows ≡ o → patch ≡ overwritten (place - 432 * from) ws (joined rows (take (min to (length f.tracks.items) - from) (drop from f.tracks.items)) ++ replicate (432 * (to - from) - 432 * length (take (min to (length f.tracks.items) - from) (drop from f.tracks.items))) 0)
-      patch_of rows e = subst (λ (q : Option (List (List ℕ))). WhereTold q (λ rows. patch ≡ overwritten (place - 432 * from) ws (joined rows (take (min to (length f.tracks.items) - from) (drop from f.tracks.items)) ++ replicate (432 * (to - from) - 432 * length (take (min to (length f.tracks.items) - from) (drop from f.tracks.items))) 0))) (sym e) told
+      patch_of : (contents : List (List ℕ)) → Some contents ≡ o → patch ≡ overwritten (place - 432 * from) ws (joined contents (take (min to (length f.tracks.items) - from) (drop from f.tracks.items)) ++ replicate (432 * (to - from) - 432 * length (take (min to (length f.tracks.items) - from) (drop from f.tracks.items))) 0)
+      patch_of contents e = subst (λ (q : Option (List (List ℕ))). WhereTold q (λ contents. patch ≡ overwritten (place - 432 * from) ws (joined contents (take (min to (length f.tracks.items) - from) (drop from f.tracks.items)) ++ replicate (432 * (to - from) - 432 * length (take (min to (length f.tracks.items) - from) (drop from f.tracks.items))) 0))) (sym e) told
 
   pub write_others : (others : ℕ → ℕ) → StandBeside others taken fs → LeavesOthers o (with_words o b patch) taken taken' fs (set fs i g) others
   write_others others beside = record {
@@ -150,38 +150,38 @@ module _ (o : Option (List (List ℕ))) (taken taken' : List Bool) (quota used n
     held = others_so o refl others beside;
   }
 
-  pub write_is_done : (name : NamePair) → ((rows : List (List ℕ)) (d : Filed) → file_named name (files_on rows fs) ≡ Some (body_on rows (get_or fs i d))) → f.mode < 2
+  pub write_is_done : (name : NamePair) → ((contents : List (List ℕ)) (d : Filed) → file_named name (files_on contents fs) ≡ Some (body_on contents (get_or fs i d))) → f.mode < 2
       → WhereTold o (λ was. WhereTold (with_words o b patch) (λ after. written name place ws quota (files_on was fs) ≡ Ok (files_on after (set fs i g))))
   write_is_done name found free = done_so o refl write_works
     where
-      patch_of : (rows : List (List ℕ)) → Some rows ≡ o → patch ≡ overwritten (place - 432 * from) ws (joined rows (take (min to (length f.tracks.items) - from) (drop from f.tracks.items)) ++ replicate (432 * (to - from) - 432 * length (take (min to (length f.tracks.items) - from) (drop from f.tracks.items))) 0)
-      patch_of rows e = subst (λ (q : Option (List (List ℕ))). WhereTold q (λ rows. patch ≡ overwritten (place - 432 * from) ws (joined rows (take (min to (length f.tracks.items) - from) (drop from f.tracks.items)) ++ replicate (432 * (to - from) - 432 * length (take (min to (length f.tracks.items) - from) (drop from f.tracks.items))) 0))) (sym e) told
+      patch_of : (contents : List (List ℕ)) → Some contents ≡ o → patch ≡ overwritten (place - 432 * from) ws (joined contents (take (min to (length f.tracks.items) - from) (drop from f.tracks.items)) ++ replicate (432 * (to - from) - 432 * length (take (min to (length f.tracks.items) - from) (drop from f.tracks.items))) 0)
+      patch_of contents e = subst (λ (q : Option (List (List ℕ))). WhereTold q (λ contents. patch ≡ overwritten (place - 432 * from) ws (joined contents (take (min to (length f.tracks.items) - from) (drop from f.tracks.items)) ++ replicate (432 * (to - from) - 432 * length (take (min to (length f.tracks.items) - from) (drop from f.tracks.items))) 0))) (sym e) told
 
       test : (m : ℕ) → m < 2 → false ≡ nat_le 2 m
       test m k = grind (arith, nat_tests)
 
       done_so : (p : Option (List (List ℕ))) → p ≡ o → IsDirectory (with_words p b patch) taken' quota now (set fs i g) → WhereTold p (λ was. WhereTold (with_words p b patch) (λ after. written name place ws quota (files_on was fs) ≡ Ok (files_on after (set fs i g))))
       done_so None e w = tt
-      done_so (Some rows) e w =
-          let all : All (IsWhole (set_all rows b patch)) (set fs i g) = all_whole rows (reach_of rows e) (whole_of rows e) (patch_of rows e) in
-          let here : file_named name (files_on rows fs) ≡ Some (body_on rows f) = found rows f ∙ ap (λ (x : Filed). Some (body_on rows x)) (sym is) in
-          let wf : IsWhole rows f = subst (IsWhole rows) (sym is) (All-get_or (IsWhole rows) fs i f low (whole_of rows e)) in
-          let words : length (content rows f) ≡ f.words = content-length rows f has wf in
-          subst (λ (q : Option (List (List ℕ))). WhereTold q (λ after. written name place ws quota (files_on rows fs) ≡ Ok (files_on after (set fs i g)))) (sym (with_words_is rows b patch))
-          (written_done name ws quota (files_on rows fs) (body_on rows f) here (test f.mode free) place (omega (arith, words, below)) (files_on (set_all rows b patch) (set fs i g)) now
-          (file_is rows (reach_of rows e) (whole_of rows e) (patch_of rows e) name (found rows f))
-          (record { count = w.counted ∙ sym (tracks_are (set_all rows b patch) (set fs i g) w.tracked all); most = fits }))
+      done_so (Some contents) e w =
+          let all : All (IsWhole (set_all contents b patch)) (set fs i g) = all_whole contents (reach_of contents e) (whole_of contents e) (patch_of contents e) in
+          let here : file_named name (files_on contents fs) ≡ Some (body_on contents f) = found contents f ∙ ap (λ (x : Filed). Some (body_on contents x)) (sym is) in
+          let wf : IsWhole contents f = subst (IsWhole contents) (sym is) (All-get_or (IsWhole contents) fs i f low (whole_of contents e)) in
+          let words : length (content contents f) ≡ f.words = content-length contents f has wf in
+          subst (λ (q : Option (List (List ℕ))). WhereTold q (λ after. written name place ws quota (files_on contents fs) ≡ Ok (files_on after (set fs i g)))) (sym (with_words_is contents b patch))
+          (written_done name ws quota (files_on contents fs) (body_on contents f) here (test f.mode free) place (omega (arith, words, below)) (files_on (set_all contents b patch) (set fs i g)) now
+          (file_is contents (reach_of contents e) (whole_of contents e) (patch_of contents e) name (found contents f))
+          (record { count = w.counted ∙ sym (tracks_are (set_all contents b patch) (set fs i g) w.tracked all); most = fits }))
 
--- whatever rows the disk had, it may have others now that hold the new words
+-- whatever contents the disk had, it may have others now that hold the new words
 module _ (o : Option (List (List ℕ))) (taken taken' : List Bool) (quota used now n : ℕ) (fs : List Filed) (i : ℕ) (f : Filed) (v : Vec ℕ Global) (ws patch : List ℕ) (place from to : ℕ)
     (h : IsDirectory o taken quota used fs) (low : i < length fs) (is : f ≡ get_or fs i f)
     (swaps : (t : ℕ) → count_in t v.items + bit taken t ≡ count_in t f.tracks.items + bit taken' t) (many : length taken' ≡ length taken)
     (len : length v.items ≡ n) (tracks : n ≡ tracks_of_words (max f.words (place + length ws)))
     (front : take (length f.tracks.items) v.items ≡ f.tracks.items)
     (below : place ≤ f.words) (first : from ≡ place / 432) (last : to ≡ (place + length ws + 431) / 432)
-    (told : WhereTold o (λ rows. patch ≡ overwritten (place - 432 * from) ws (joined rows (take (min to (length f.tracks.items) - from) (drop from f.tracks.items)) ++ replicate (432 * (to - from) - 432 * length (take (min to (length f.tracks.items) - from) (drop from f.tracks.items))) 0)))
+    (told : WhereTold o (λ contents. patch ≡ overwritten (place - 432 * from) ws (joined contents (take (min to (length f.tracks.items) - from) (drop from f.tracks.items)) ++ replicate (432 * (to - from) - 432 * length (take (min to (length f.tracks.items) - from) (drop from f.tracks.items))) 0)))
     (sum : now + length f.tracks.items ≡ used + n) (fits : now ≤ quota) (counts : count_taken taken' + length f.tracks.items ≡ count_taken taken + n)
-    (name : NamePair) (found : (rows : List (List ℕ)) (d : Filed) → file_named name (files_on rows fs) ≡ Some (body_on rows (get_or fs i d))) (free : f.mode < 2)
+    (name : NamePair) (found : (contents : List (List ℕ)) (d : Filed) → file_named name (files_on contents fs) ≡ Some (body_on contents (get_or fs i d))) (free : f.mode < 2)
     (was : List (List ℕ)) (may : MayBe o was) (few : length taken ≤ length was) (whole : All (IsWhole was) fs) where
   abbrev pub gg : Filed
   gg = record { name = f.name; mode = f.mode; words = max f.words (place + length ws); tracks = v }
@@ -189,7 +189,7 @@ module _ (o : Option (List (List ℕ))) (taken taken' : List Bool) (quota used n
   abbrev pub bb : List ℕ
   bb = take (to - from) (drop from v.items)
 
-  -- what would have been written, had the disk told these rows
+  -- what would have been written, had the disk told these contents
   abbrev pub pp : List ℕ
   pp = overwritten (place - 432 * from) ws (joined was (take (min to (length f.tracks.items) - from) (drop from f.tracks.items)) ++ replicate (432 * (to - from) - 432 * length (take (min to (length f.tracks.items) - from) (drop from f.tracks.items))) 0)
 
@@ -207,10 +207,10 @@ module _ (o : Option (List (List ℕ))) (taken taken' : List Bool) (quota used n
   done_p : WhereTold (with_words (Some was) bb pp) (λ after. written name place ws quota (files_on was fs) ≡ Ok (files_on after (set fs i gg)))
   done_p = write_is_done (Some was) taken taken' quota used now n fs i f v ws pp place from to d low is few swaps many len tracks front below first last long_p refl sum fits counts name found free
 
-  may_p : (q : Option (List (List ℕ))) → MayBe q was → WhereTold q (λ rows. patch ≡ overwritten (place - 432 * from) ws (joined rows (take (min to (length f.tracks.items) - from) (drop from f.tracks.items)) ++ replicate (432 * (to - from) - 432 * length (take (min to (length f.tracks.items) - from) (drop from f.tracks.items))) 0)) → MayBe (with_words q bb patch) (set_all was bb pp)
+  may_p : (q : Option (List (List ℕ))) → MayBe q was → WhereTold q (λ contents. patch ≡ overwritten (place - 432 * from) ws (joined contents (take (min to (length f.tracks.items) - from) (drop from f.tracks.items)) ++ replicate (432 * (to - from) - 432 * length (take (min to (length f.tracks.items) - from) (drop from f.tracks.items))) 0)) → MayBe (with_words q bb patch) (set_all was bb pp)
   may_p None m e = subst (λ (q : Option (List (List ℕ))). MayBe q (set_all was bb pp)) (sym (no_rows bb patch)) tt
   may_p (Some r) m e =
-      let same : patch ≡ pp = e ∙ ap (λ (rows : List (List ℕ)). overwritten (place - 432 * from) ws (joined rows (take (min to (length f.tracks.items) - from) (drop from f.tracks.items)) ++ replicate (432 * (to - from) - 432 * length (take (min to (length f.tracks.items) - from) (drop from f.tracks.items))) 0)) m in
+      let same : patch ≡ pp = e ∙ ap (λ (contents : List (List ℕ)). overwritten (place - 432 * from) ws (joined contents (take (min to (length f.tracks.items) - from) (drop from f.tracks.items)) ++ replicate (432 * (to - from) - 432 * length (take (min to (length f.tracks.items) - from) (drop from f.tracks.items))) 0)) m in
       subst (λ (q : Option (List (List ℕ))). MayBe q (set_all was bb pp)) (sym (with_words_is r bb patch)) (λ j. set_all (m j) bb (same j))
 
   pub write_any : (after : List (List ℕ)) × (MayBe (with_words o bb patch) after × (All (IsWhole after) (set fs i gg) × (written name place ws quota (files_on was fs) ≡ Ok (files_on after (set fs i gg)))))
@@ -219,7 +219,7 @@ module _ (o : Option (List (List ℕ))) (taken taken' : List Bool) (quota used n
     (
       may_p o may told,
       (
-        subst (λ (q : Option (List (List ℕ))). WhereTold q (λ rows. All (IsWhole rows) (set fs i gg))) (with_words_is was bb pp) works_p.whole,
+        subst (λ (q : Option (List (List ℕ))). WhereTold q (λ contents. All (IsWhole contents) (set fs i gg))) (with_words_is was bb pp) works_p.whole,
         subst (λ (q : Option (List (List ℕ))). WhereTold q (λ after. written name place ws quota (files_on was fs) ≡ Ok (files_on after (set fs i gg)))) (with_words_is was bb pp) done_p,
       ),
     ),
@@ -227,20 +227,20 @@ module _ (o : Option (List (List ℕ))) (taken taken' : List Bool) (quota used n
 
 -- words that would pass the quota
 pub write_passes : (o : Option (List (List ℕ))) (taken : List Bool) (quota used n : ℕ) (fs : List Filed) (i : ℕ) (f : Filed) (ws : List ℕ) (place : ℕ) (name : NamePair) → IsDirectory o taken quota used fs → i < length fs → f ≡ get_or fs i f
-    → ((rows : List (List ℕ)) (d : Filed) → file_named name (files_on rows fs) ≡ Some (body_on rows (get_or fs i d))) → f.mode < 2 → place ≤ f.words → n ≡ tracks_of_words (max f.words (place + length ws)) → quota + length f.tracks.items < used + n
-    → (rows : List (List ℕ)) → All (IsWhole rows) fs → written name place ws quota (files_on rows fs) ≡ Err Quota
-write_passes o taken quota used n fs i f ws place name h low is found free below tracks lt rows whole =
-    let here : file_named name (files_on rows fs) ≡ Some (body_on rows f) = found rows f ∙ ap (λ (x : Filed). Some (body_on rows x)) (sym is) in
-    let counted : IsCounted (files_on rows fs) quota used = record { count = h.counted ∙ sym (tracks_are rows fs h.tracked whole); most = h.few } in
+    → ((contents : List (List ℕ)) (d : Filed) → file_named name (files_on contents fs) ≡ Some (body_on contents (get_or fs i d))) → f.mode < 2 → place ≤ f.words → n ≡ tracks_of_words (max f.words (place + length ws)) → quota + length f.tracks.items < used + n
+    → (contents : List (List ℕ)) → All (IsWhole contents) fs → written name place ws quota (files_on contents fs) ≡ Err Quota
+write_passes o taken quota used n fs i f ws place name h low is found free below tracks lt contents whole =
+    let here : file_named name (files_on contents fs) ≡ Some (body_on contents f) = found contents f ∙ ap (λ (x : Filed). Some (body_on contents x)) (sym is) in
+    let counted : IsCounted (files_on contents fs) quota used = record { count = h.counted ∙ sym (tracks_are contents fs h.tracked whole); most = h.few } in
     let tf : HasTracks f = subst HasTracks (sym is) (All-get_or HasTracks fs i f low h.tracked) in
-    let wf : IsWhole rows f = subst (IsWhole rows) (sym is) (All-get_or (IsWhole rows) fs i f low whole) in
-    let words : length (content rows f) ≡ f.words = content-length rows f tf wf in
-    let inside : place ≤ length (content rows f) = omega (arith, words, below) in
-    let s : length f.tracks.items ≡ tracks_of_words (length (content rows f)) = tf ∙ ap tracks_of_words (sym words) in
-    let t : n ≡ tracks_of_words (length (overwritten place ws (content rows f))) =
-    tracks ∙ ap tracks_of_words (ap (λ (k : ℕ). max k (place + length ws)) (sym words) ∙ sym (length-overwritten place ws (content rows f) inside)) in
-    written_over name ws quota (files_on rows fs) (body_on rows f) here (test f.mode free) place inside
-    (too_many name (files_on rows fs) quota used counted (λ (x : FileBody). record x { words = overwritten place ws x.words }) (body_on rows f) (length f.tracks.items) n (names_differ rows fs h.differ) here s t lt)
+    let wf : IsWhole contents f = subst (IsWhole contents) (sym is) (All-get_or (IsWhole contents) fs i f low whole) in
+    let words : length (content contents f) ≡ f.words = content-length contents f tf wf in
+    let inside : place ≤ length (content contents f) = omega (arith, words, below) in
+    let s : length f.tracks.items ≡ tracks_of_words (length (content contents f)) = tf ∙ ap tracks_of_words (sym words) in
+    let t : n ≡ tracks_of_words (length (overwritten place ws (content contents f))) =
+    tracks ∙ ap tracks_of_words (ap (λ (k : ℕ). max k (place + length ws)) (sym words) ∙ sym (length-overwritten place ws (content contents f) inside)) in
+    written_over name ws quota (files_on contents fs) (body_on contents f) here (test f.mode free) place inside
+    (too_many name (files_on contents fs) quota used counted (λ (x : FileBody). record x { words = overwritten place ws x.words }) (body_on contents f) (length f.tracks.items) n (names_differ contents fs h.differ) here s t lt)
   where
     test : (m : ℕ) → m < 2 → false ≡ nat_le 2 m
     test m k = grind (arith, nat_tests)

@@ -23,17 +23,17 @@ quota_all [] = 0
 quota_all (d ∷ ds) = d.quota + quota_all ds
 
 -- what holds of one directory by itself
-pub record IsOne (rows : Option (List (List ℕ))) (d : TrackTable) : Type 0 where
+pub record IsOne (contents : Option (List (List ℕ))) (d : TrackTable) : Type 0 where
   pub few : d.used ≤ d.quota
   pub counted : d.used ≡ used_by d.files.items
   pub tracked : All HasTracks d.files.items
   pub modes : All HasMode d.files.items
   pub differ : IsDistinct same_name (map (λ (f : Filed). f.name) d.files.items)
-  pub whole : WhereTold rows (λ rows. All (IsWhole rows) d.files.items)
+  pub whole : WhereTold contents (λ contents. All (IsWhole contents) d.files.items)
 
 -- what holds of all: each track that is taken stands in just one place, no other does, and all quotas fit together
-pub record AreDirectories (rows : Option (List (List ℕ))) (taken : List Bool) (ds : List TrackTable) : Type 0 where
+pub record AreDirectories (contents : Option (List (List ℕ))) (taken : List Bool) (ds : List TrackTable) : Type 0 where
   pub once : (t : ℕ) → total t ds ≡ bit taken t
   pub counted : count_taken taken ≡ used_all ds
   pub fits : quota_all ds ≤ length taken
-  pub each : (d : ℕ) (e : TrackTable) → d < length ds → IsOne rows (get_or ds d e)
+  pub each : (d : ℕ) (e : TrackTable) → d < length ds → IsOne contents (get_or ds d e)

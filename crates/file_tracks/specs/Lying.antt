@@ -6,16 +6,16 @@ use Rattle.track_store.specs.Words.{joined}
 use Rattle.file_tracks.specs.Places.{count_in}
 
 -- a file lies on these tracks: as many as its words take, and their words, joined and cut, are the file's
-pub record LiesOn (rows : List (List ℕ)) (f : FileBody) (tracks : List ℕ) : Type 0 where
+pub record LiesOn (contents : List (List ℕ)) (f : FileBody) (tracks : List ℕ) : Type 0 where
   pub many : length tracks ≡ tracks_of_words (length f.words)
-  pub words : f.words ≡ take (length f.words) (joined rows tracks)
+  pub words : f.words ≡ take (length f.words) (joined contents tracks)
 
 -- each of these files lies on the tracks at its place
 abbrev pub EachLiesOn : List (List ℕ) → List FileBody → List (List ℕ) → Type 0
-EachLiesOn rows [] [] = Unit {0}
-EachLiesOn rows (f ∷ fs) (ts ∷ tracks) = LiesOn rows f ts × EachLiesOn rows fs tracks
-EachLiesOn rows [] (ts ∷ tracks) = ⊥
-EachLiesOn rows (f ∷ fs) [] = ⊥
+EachLiesOn contents [] [] = Unit {0}
+EachLiesOn contents (f ∷ fs) (ts ∷ tracks) = LiesOn contents f ts × EachLiesOn contents fs tracks
+EachLiesOn contents [] (ts ∷ tracks) = ⊥
+EachLiesOn contents (f ∷ fs) [] = ⊥
 
 -- how often a track is among these
 abbrev pub count_all : ℕ → List (List ℕ) → ℕ
@@ -28,7 +28,7 @@ all_files [] common = common
 all_files (files ∷ own) common = files ++ all_files own common
 
 -- each file lies on tracks of its own: no track is one of two files, or twice one of a file
-pub record LieOn (rows : List (List ℕ)) (own : List (List FileBody)) (common : List FileBody) : Type 0 where
+pub record LieOn (contents : List (List ℕ)) (own : List (List FileBody)) (common : List FileBody) : Type 0 where
   pub tracks : List (List ℕ)
-  pub each : EachLiesOn rows (all_files own common) tracks
+  pub each : EachLiesOn contents (all_files own common) tracks
   pub once : (t : ℕ) → count_all t tracks ≤ 1

@@ -11,10 +11,10 @@ use Rattle.file_tracks.specs.declared.port.TrackPort.{TrackPort}
 module _ {F : Type 0} (g : Ghosts F) where
   -- its files, as the disk tells them; whether the disk tells its records, its calls where told, and how many failed
   abbrev pub files_in : TrackPort F → List FileBody
-  files_in p = seen (g.rows p.store.now.disk.now) p.table.now.files.items
+  files_in p = seen (g.contents p.store.now.disk.now) p.table.now.files.items
 
   abbrev pub tells_in : TrackPort F → Bool
-  tells_in p = tells_of (g.rows p.store.now.disk.now)
+  tells_in p = tells_of (g.contents p.store.now.disk.now)
 
   abbrev pub calls_in : TrackPort F → Option CallList
   calls_in p = g.calls p.store.now.disk.now
@@ -23,14 +23,14 @@ module _ {F : Type 0} (g : Ghosts F) where
   faults_in p = g.faults p.store.now.disk.now
 
   -- no call has failed at the disk
-  abbrev pub Works : TrackPort F → Type 0
-  Works p = IsPort (g.rows p.store.now.disk.now) (g.record_count p.store.now.disk.now) (g.words_each p.store.now.disk.now) p.store.now.tracks.taken.items p.table.now p.has_failed
+  abbrev pub Usable : TrackPort F → Type 0
+  Usable p = IsPort (g.contents p.store.now.disk.now) (g.record_count p.store.now.disk.now) (g.words_each p.store.now.disk.now) p.store.now.tracks.taken.items p.table.now p.has_failed
 
   -- the second stands over the same table, store and disk, after calls
   abbrev pub Keeps : TrackPort F → TrackPort F → Type 0
   Keeps a b =
       (a.table.ghost_name ≡ b.table.ghost_name) × (a.store.ghost_name ≡ b.store.ghost_name) × (a.store.now.disk.ghost_name ≡ b.store.now.disk.ghost_name)
-      × Goes (g.rows a.store.now.disk.now) (g.rows b.store.now.disk.now) a.store.now.tracks.taken.items b.store.now.tracks.taken.items
+      × Goes (g.contents a.store.now.disk.now) (g.contents b.store.now.disk.now) a.store.now.tracks.taken.items b.store.now.tracks.taken.items
       (g.faults a.store.now.disk.now) (g.faults b.store.now.disk.now) a.table.now b.table.now a.has_failed b.has_failed
 
 -- all words of a file are the first that the disk's reads gave between two moments

@@ -9,7 +9,7 @@ use Rattle.file_tracks.specs.declared.table.Filed.{Filed}
 -- whether a disk tells its records
 unfoldable pub tells_of : Option (List (List ℕ)) → Bool
 tells_of None = false
-tells_of (Some rows) = true
+tells_of (Some contents) = true
 
 -- a file each word of which stands as 0
 abbrev pub blank_of : Filed → FileBody
@@ -17,7 +17,7 @@ blank_of f = record { name = f.name; mode = f.mode; words = replicate f.words 0 
 
 unfoldable pub seen : Option (List (List ℕ)) → List Filed → List FileBody
 seen None fs = map blank_of fs
-seen (Some rows) fs = files_on rows fs
+seen (Some contents) fs = files_on contents fs
 
 blanks_stay : (fs : List Filed) → map blank (map blank_of fs) ≡ map blank_of fs
 blanks_stay [] = refl
@@ -27,4 +27,4 @@ blanks_stay (f ∷ fs) = λ j. record { name = f.name; mode = f.mode; words = re
 pub seen_is_known : (told : Option (List (List ℕ))) (fs : List Filed) → known (tells_of told) (seen told fs) ≡ seen told fs
 unfolding known tells_of seen
 seen_is_known None fs = blanks_stay fs
-seen_is_known (Some rows) fs = refl
+seen_is_known (Some contents) fs = refl

@@ -10,19 +10,19 @@ use Rattle.file_map.specs.declared.fault.PortFault.{PortFault}
 use Rattle.file_map.specs.declared.port.ListingRow.{ListingRow}
 use Rattle.file_map.specs.Answers.{Leaves}
 use Rattle.track_store.specs.Tracks.{count_taken}
-use Rattle.track_store.specs.Words.{row, joined}
+use Rattle.track_store.specs.Words.{record_at, joined}
 use Rattle.file_tracks.specs.Places.{count_in, bit}
 use Rattle.file_tracks.specs.declared.table.Filed.{Filed}
 
 -- the words of a file: those of its tracks, joined and cut
 abbrev pub content : List (List ℕ) → Filed → List ℕ
-content rows f = take f.words (joined rows f.tracks.items)
+content contents f = take f.words (joined contents f.tracks.items)
 
 abbrev pub body_on : List (List ℕ) → Filed → FileBody
-body_on rows f = record { name = f.name; mode = f.mode; words = content rows f }
+body_on contents f = record { name = f.name; mode = f.mode; words = content contents f }
 
 abbrev pub files_on : List (List ℕ) → List Filed → List FileBody
-files_on rows fs = map (body_on rows) fs
+files_on contents fs = map (body_on contents) fs
 
 -- what a listing shows of a file
 abbrev pub row_for : Filed → ListingRow
@@ -48,10 +48,10 @@ HasMode f = f.mode ≤ 3
 
 -- the tracks of a file hold 432 words each
 abbrev pub IsWhole : List (List ℕ) → Filed → Type 0
-IsWhole rows f = (t : ℕ) → 1 ≤ count_in t f.tracks.items → length (row rows t) ≡ 432
+IsWhole contents f = (t : ℕ) → 1 ≤ count_in t f.tracks.items → length (record_at contents t) ≡ 432
 
 -- what holds of a directory: no track stands twice, all are taken, and there is room for as many as the quota still allows
-pub record IsDirectory (rows : Option (List (List ℕ))) (taken : List Bool) (quota used : ℕ) (fs : List Filed) : Type 0 where
+pub record IsDirectory (contents : Option (List (List ℕ))) (taken : List Bool) (quota used : ℕ) (fs : List Filed) : Type 0 where
   pub once : (t : ℕ) → occurs t fs ≤ bit taken t
   pub few : used ≤ quota
   pub room : count_taken taken + quota ≤ length taken + used
@@ -59,22 +59,22 @@ pub record IsDirectory (rows : Option (List (List ℕ))) (taken : List Bool) (qu
   pub tracked : All HasTracks fs
   pub modes : All HasMode fs
   pub differ : IsDistinct same_name (map (λ (f : Filed). f.name) fs)
-  pub whole : WhereTold rows (λ rows. All (IsWhole rows) fs)
+  pub whole : WhereTold contents (λ contents. All (IsWhole contents) fs)
 
 -- tracks that stand elsewhere, so often, beside these files
 abbrev pub StandBeside : (others : ℕ → ℕ) → List Bool → List Filed → Type 0
 StandBeside others taken fs = (t : ℕ) → others t + occurs t fs ≡ bit taken t
 
 -- what a call does to tracks elsewhere: they stand beside the files as before, and hold what they held
-pub record LeavesOthers (rows rows' : Option (List (List ℕ))) (taken taken' : List Bool) (fs fs' : List Filed) (others : ℕ → ℕ) : Type 0 where
+pub record LeavesOthers (contents rows' : Option (List (List ℕ))) (taken taken' : List Bool) (fs fs' : List Filed) (others : ℕ → ℕ) : Type 0 where
   pub beside : StandBeside others taken' fs'
-  pub held : WhereTold rows (λ was. WhereTold rows' (λ now. (t : ℕ) → 1 ≤ others t → row now t ≡ row was t))
+  pub held : WhereTold contents (λ was. WhereTold rows' (λ now. (t : ℕ) → 1 ≤ others t → record_at now t ≡ record_at was t))
 
--- rows that may be those of a disk: the told ones, where it tells
+-- contents that may be those of a disk: the told ones, where it tells
 abbrev pub MayBe : Option (List (List ℕ)) → List (List ℕ) → Type 0
-MayBe told rows = WhereTold told (λ r. r ≡ rows)
+MayBe told contents = WhereTold told (λ r. r ≡ contents)
 
--- whatever rows a disk with so many tracks may have had, there are rows that it may have now, with which the files are left as the
+-- whatever contents a disk with so many tracks may have had, there are contents that it may have now, with which the files are left as the
 -- definition tells
 abbrev pub LeavesAny : {T : Type 0} → Result T PortFault → (List FileBody → Result (List FileBody) Refusal) → (old new : Option (List (List ℕ))) → ℕ → (had has : List Filed) → Type 0
 LeavesAny result told old new tracks had has =

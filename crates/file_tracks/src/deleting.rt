@@ -16,14 +16,14 @@ use track_store::TrackStore;
 
 /// Takes the file at a place out, and gives its tracks back.
 fn remove_at<F: Medium>(table: &mut TrackTable, store: &mut TrackStore<'_, F>, at: usize)
-    requires works { IsDirectory (F.rows store.old.disk.now) store.old.tracks.taken.items
+    requires usable { IsDirectory (F.contents store.old.disk.now) store.old.tracks.taken.items
         table.old.quota table.old.used table.old.files.items }
     requires at { at < length table.old.files.items }
     requires small { table.old.used < 2 ^ 32 }
     ensures items { table.new.files.items ≡ remove table.old.files.items at }
     ensures others { (others : ℕ → ℕ) → StandBeside others store.old.tracks.taken.items table.old.files.items
         → StandBeside others store.new.tracks.taken.items table.new.files.items }
-    ensures works { IsDirectory (F.rows store.new.disk.now) store.new.tracks.taken.items
+    ensures usable { IsDirectory (F.contents store.new.disk.now) store.new.tracks.taken.items
         table.new.quota table.new.used table.new.files.items }
     ensures quota { table.new.quota ≡ table.old.quota }
     ensures less { table.new.used ≤ table.old.used }
@@ -46,14 +46,14 @@ pub(crate) fn delete_in<F: Medium>(
     store: &mut TrackStore<'_, F>,
     name: FileName,
 ) -> Result<(), PortFault>
-    requires works { IsDirectory (F.rows store.old.disk.now) store.old.tracks.taken.items
+    requires usable { IsDirectory (F.contents store.old.disk.now) store.old.tracks.taken.items
         table.old.quota table.old.used table.old.files.items }
     requires small { table.old.used < 2 ^ 32 }
-    ensures left { (rows : List (List ℕ)) → Leaves result (deleted name (files_on rows table.old.files.items))
-        (files_on rows table.old.files.items) (files_on rows table.new.files.items) }
+    ensures left { (contents : List (List ℕ)) → Leaves result (deleted name (files_on contents table.old.files.items))
+        (files_on contents table.old.files.items) (files_on contents table.new.files.items) }
     ensures others { (others : ℕ → ℕ) → StandBeside others store.old.tracks.taken.items table.old.files.items
         → StandBeside others store.new.tracks.taken.items table.new.files.items }
-    ensures works { IsDirectory (F.rows store.new.disk.now) store.new.tracks.taken.items
+    ensures usable { IsDirectory (F.contents store.new.disk.now) store.new.tracks.taken.items
         table.new.quota table.new.used table.new.files.items }
     ensures quota { table.new.quota ≡ table.old.quota }
     ensures counts { count_taken store.new.tracks.taken.items + table.old.used
@@ -77,7 +77,7 @@ pub(crate) fn delete_in<F: Medium>(
 
 /// Takes the file at a place out if it is temporary.
 fn drop_at<F: Medium>(table: &mut TrackTable, store: &mut TrackStore<'_, F>, at: usize)
-    requires works { IsDirectory (F.rows store.old.disk.now) store.old.tracks.taken.items
+    requires usable { IsDirectory (F.contents store.old.disk.now) store.old.tracks.taken.items
         table.old.quota table.old.used table.old.files.items }
     requires at { at < length table.old.files.items }
     requires small { table.old.used < 2 ^ 32 }
@@ -86,7 +86,7 @@ fn drop_at<F: Medium>(table: &mut TrackTable, store: &mut TrackStore<'_, F>, at:
         then remove table.old.files.items at else table.old.files.items) }
     ensures others { (others : ℕ → ℕ) → StandBeside others store.old.tracks.taken.items table.old.files.items
         → StandBeside others store.new.tracks.taken.items table.new.files.items }
-    ensures works { IsDirectory (F.rows store.new.disk.now) store.new.tracks.taken.items
+    ensures usable { IsDirectory (F.contents store.new.disk.now) store.new.tracks.taken.items
         table.new.quota table.new.used table.new.files.items }
     ensures quota { table.new.quota ≡ table.old.quota }
     ensures less { table.new.used ≤ table.old.used }
@@ -106,14 +106,14 @@ fn drop_at<F: Medium>(table: &mut TrackTable, store: &mut TrackStore<'_, F>, at:
 impl TrackTable {
     /// Takes the files of mode 0 out. No call of the disk is made.
     pub fn drop_temporary<F: Medium>(&mut self, store: &mut TrackStore<'_, F>)
-        requires works { IsDirectory (F.rows store.old.disk.now) store.old.tracks.taken.items
+        requires usable { IsDirectory (F.contents store.old.disk.now) store.old.tracks.taken.items
             self.old.quota self.old.used self.old.files.items }
         requires small { self.old.used < 2 ^ 32 }
-        ensures left { (rows : List (List ℕ)) → files_on rows self.new.files.items
-            ≡ lasting (files_on rows self.old.files.items) }
+        ensures left { (contents : List (List ℕ)) → files_on contents self.new.files.items
+            ≡ lasting (files_on contents self.old.files.items) }
         ensures others { (others : ℕ → ℕ) → StandBeside others store.old.tracks.taken.items self.old.files.items
             → StandBeside others store.new.tracks.taken.items self.new.files.items }
-        ensures works { IsDirectory (F.rows store.new.disk.now) store.new.tracks.taken.items
+        ensures usable { IsDirectory (F.contents store.new.disk.now) store.new.tracks.taken.items
             self.new.quota self.new.used self.new.files.items }
         ensures quota { self.new.quota ≡ self.old.quota }
         ensures counts { count_taken store.new.tracks.taken.items + self.old.used

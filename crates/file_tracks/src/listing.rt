@@ -21,15 +21,15 @@ fn read_file<F: Medium>(
 ) -> Result<FileBody, StepFault>
     requires taken { All (λ t. is_taken store.old.tracks.taken.items t ≡ true) file.now.tracks.items }
     requires tracks { HasTracks file.now }
-    requires serves { Serves (F.rows store.old.disk.now) (F.record_count store.old.disk.now)
+    requires serves { Serves (F.contents store.old.disk.now) (F.record_count store.old.disk.now)
         (F.words_each store.old.disk.now) (length store.old.tracks.taken.items) }
-    ensures file { WhereTold (F.rows store.old.disk.now) (λ rows. IfOk result (λ f. f ≡ body_on rows file.now)) }
+    ensures file { WhereTold (F.contents store.old.disk.now) (λ contents. IfOk result (λ f. f ≡ body_on contents file.now)) }
     ensures same { store.new.disk.ghost_name ≡ store.old.disk.ghost_name }
     ensures tracks { store.new.tracks ≡ store.old.tracks }
-    ensures rows { OnOk result (F.rows store.new.disk.now ≡ F.rows store.old.disk.now) }
-    ensures serves { Serves (F.rows store.new.disk.now) (F.record_count store.new.disk.now)
+    ensures contents { OnOk result (F.contents store.new.disk.now ≡ F.contents store.old.disk.now) }
+    ensures serves { Serves (F.contents store.new.disk.now) (F.record_count store.new.disk.now)
         (F.words_each store.new.disk.now) (length store.new.tracks.taken.items) }
-    ensures kept { F.faults store.old.disk.now ≤ F.faults store.new.disk.now }
+    ensures faults_grow { F.faults store.old.disk.now ≤ F.faults store.new.disk.now }
     ensures cause { IsErrOf result StepFault.Disk → Rose (F.faults store.old.disk.now) (F.faults store.new.disk.now) }
 {
     let span = read_span(alloc, store, &file.tracks)?;
@@ -49,18 +49,18 @@ impl TrackTable {
         alloc: Global,
         store: &mut TrackStore<'_, F>,
     ) -> Result<FileList, StepFault>
-        requires works { IsDirectory (F.rows store.old.disk.now) store.old.tracks.taken.items
+        requires usable { IsDirectory (F.contents store.old.disk.now) store.old.tracks.taken.items
             self.now.quota self.now.used self.now.files.items }
-        requires serves { Serves (F.rows store.old.disk.now) (F.record_count store.old.disk.now)
+        requires serves { Serves (F.contents store.old.disk.now) (F.record_count store.old.disk.now)
             (F.words_each store.old.disk.now) (length store.old.tracks.taken.items) }
-        ensures files { WhereTold (F.rows store.old.disk.now)
-            (λ rows. IfOk result (λ files. files ≡ files_on rows self.now.files.items)) }
+        ensures files { WhereTold (F.contents store.old.disk.now)
+            (λ contents. IfOk result (λ files. files ≡ files_on contents self.now.files.items)) }
         ensures same { store.new.disk.ghost_name ≡ store.old.disk.ghost_name }
         ensures tracks { store.new.tracks ≡ store.old.tracks }
-        ensures rows { OnOk result (F.rows store.new.disk.now ≡ F.rows store.old.disk.now) }
-        ensures serves { Serves (F.rows store.new.disk.now) (F.record_count store.new.disk.now)
+        ensures contents { OnOk result (F.contents store.new.disk.now ≡ F.contents store.old.disk.now) }
+        ensures serves { Serves (F.contents store.new.disk.now) (F.record_count store.new.disk.now)
             (F.words_each store.new.disk.now) (length store.new.tracks.taken.items) }
-        ensures kept { F.faults store.old.disk.now ≤ F.faults store.new.disk.now }
+        ensures faults_grow { F.faults store.old.disk.now ≤ F.faults store.new.disk.now }
         ensures cause { IsErrOf result StepFault.Disk
             → Rose (F.faults store.old.disk.now) (F.faults store.new.disk.now) }
     {

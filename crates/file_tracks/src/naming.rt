@@ -17,11 +17,11 @@ pub(crate) fn rename_in(
     to: FileName,
 ) -> Result<(), PortFault>
     requires { IsDistinct same_name (map (λ (f : Filed). f.name) table.old.files.items) }
-    ensures left { (rows : List (List ℕ)) → Leaves result (renamed name to (files_on rows table.old.files.items))
-        (files_on rows table.old.files.items) (files_on rows table.new.files.items) }
-    ensures works { (rows : Option (List (List ℕ))) (taken : List Bool)
-        → IsDirectory rows taken table.old.quota table.old.used table.old.files.items
-        → IsDirectory rows taken table.new.quota table.new.used table.new.files.items }
+    ensures left { (contents : List (List ℕ)) → Leaves result (renamed name to (files_on contents table.old.files.items))
+        (files_on contents table.old.files.items) (files_on contents table.new.files.items) }
+    ensures usable { (contents : Option (List (List ℕ))) (taken : List Bool)
+        → IsDirectory contents taken table.old.quota table.old.used table.old.files.items
+        → IsDirectory contents taken table.new.quota table.new.used table.new.files.items }
     ensures places { (t : ℕ) → occurs t table.new.files.items ≡ occurs t table.old.files.items }
     ensures quota { table.new.quota ≡ table.old.quota }
     ensures used { table.new.used ≡ table.old.used }
@@ -49,11 +49,11 @@ pub(crate) fn rename_in(
 /// Gives a file another mode.
 pub(crate) fn chmode_in(table: &mut TrackTable, name: FileName, mode: u8) -> Result<(), PortFault>
     requires { IsDistinct same_name (map (λ (f : Filed). f.name) table.old.files.items) }
-    ensures left { (rows : List (List ℕ)) → Leaves result (moded name mode (files_on rows table.old.files.items))
-        (files_on rows table.old.files.items) (files_on rows table.new.files.items) }
-    ensures works { (rows : Option (List (List ℕ))) (taken : List Bool)
-        → IsDirectory rows taken table.old.quota table.old.used table.old.files.items
-        → IsDirectory rows taken table.new.quota table.new.used table.new.files.items }
+    ensures left { (contents : List (List ℕ)) → Leaves result (moded name mode (files_on contents table.old.files.items))
+        (files_on contents table.old.files.items) (files_on contents table.new.files.items) }
+    ensures usable { (contents : Option (List (List ℕ))) (taken : List Bool)
+        → IsDirectory contents taken table.old.quota table.old.used table.old.files.items
+        → IsDirectory contents taken table.new.quota table.new.used table.new.files.items }
     ensures places { (t : ℕ) → occurs t table.new.files.items ≡ occurs t table.old.files.items }
     ensures quota { table.new.quota ≡ table.old.quota }
     ensures used { table.new.used ≡ table.old.used }

@@ -32,10 +32,10 @@ pub(crate) fn swap_tracks<F: Medium>(
         ≤ length store.old.tracks.taken.items + length old.now }
     requires whole { length words.now ≡ 432 * tracks }
     requires words { AreWords words.now }
-    requires serves { Serves (F.rows store.old.disk.now) (F.record_count store.old.disk.now)
+    requires serves { Serves (F.contents store.old.disk.now) (F.record_count store.old.disk.now)
         (F.words_each store.old.disk.now) (length store.old.tracks.taken.items) }
     ensures same { store.new.disk.ghost_name ≡ store.old.disk.ghost_name }
-    ensures serves { Serves (F.rows store.new.disk.now) (F.record_count store.new.disk.now)
+    ensures serves { Serves (F.contents store.new.disk.now) (F.record_count store.new.disk.now)
         (F.words_each store.new.disk.now) (length store.new.tracks.taken.items) }
     ensures many { length store.new.tracks.taken.items ≡ length store.old.tracks.taken.items }
     ensures len { IfOk result (λ v. length v.items ≡ tracks) }
@@ -43,9 +43,9 @@ pub(crate) fn swap_tracks<F: Medium>(
         ≡ count_in t old.now + bit store.new.tracks.taken.items t) }
     ensures counts { OnOk result (count_taken store.new.tracks.taken.items + length old.now
         ≡ count_taken store.old.tracks.taken.items + tracks) }
-    ensures rows { IfOk result (λ v. F.rows store.new.disk.now
-        ≡ with_words (F.rows store.old.disk.now) v.items words.now) }
-    ensures kept { F.faults store.old.disk.now ≤ F.faults store.new.disk.now }
+    ensures contents { IfOk result (λ v. F.contents store.new.disk.now
+        ≡ with_words (F.contents store.old.disk.now) v.items words.now) }
+    ensures faults_grow { F.faults store.old.disk.now ≤ F.faults store.new.disk.now }
     ensures cause { OnErr result (Rose (F.faults store.old.disk.now) (F.faults store.new.disk.now)) }
 {
     give_all(store, old);
@@ -65,23 +65,23 @@ pub(crate) fn patched<F: Medium>(
     words: &[Word],
 ) -> Result<Vec<u64>, StepFault>
     requires taken { All (λ t. is_taken store.old.tracks.taken.items t ≡ true) tracks.now }
-    requires serves { Serves (F.rows store.old.disk.now) (F.record_count store.old.disk.now)
+    requires serves { Serves (F.contents store.old.disk.now) (F.record_count store.old.disk.now)
         (F.words_each store.old.disk.now) (length store.old.tracks.taken.items) }
     requires more { length tracks.now ≤ count }
     requires small { 432 * count < 2 ^ 64 }
     requires inside { place + length words.now ≤ 432 * count }
     ensures same { store.new.disk.ghost_name ≡ store.old.disk.ghost_name }
     ensures tracks { store.new.tracks ≡ store.old.tracks }
-    ensures serves { Serves (F.rows store.new.disk.now) (F.record_count store.new.disk.now)
+    ensures serves { Serves (F.contents store.new.disk.now) (F.record_count store.new.disk.now)
         (F.words_each store.new.disk.now) (length store.new.tracks.taken.items) }
     ensures words { IfOk result (λ v. AreWords v.items) }
     ensures len { IfOk result (λ v. length v.items ≡ 432 * count) }
-    ensures told { IfOk result (λ v. WhereTold (F.rows store.old.disk.now) (λ rows.
+    ensures told { IfOk result (λ v. WhereTold (F.contents store.old.disk.now) (λ contents.
         v.items ≡ overwritten place words.now
-        (joined rows tracks.now ++ replicate (432 * count - 432 * length tracks.now) 0))) }
-    ensures rows { ¬ IsErrOf result StepFault.Disk → F.rows store.new.disk.now ≡ F.rows store.old.disk.now }
-    ensures kept_rows { OnOk result (F.rows store.new.disk.now ≡ F.rows store.old.disk.now) }
-    ensures kept { F.faults store.old.disk.now ≤ F.faults store.new.disk.now }
+        (joined contents tracks.now ++ replicate (432 * count - 432 * length tracks.now) 0))) }
+    ensures contents { ¬ IsErrOf result StepFault.Disk → F.contents store.new.disk.now ≡ F.contents store.old.disk.now }
+    ensures kept_rows { OnOk result (F.contents store.new.disk.now ≡ F.contents store.old.disk.now) }
+    ensures faults_grow { F.faults store.old.disk.now ≤ F.faults store.new.disk.now }
     ensures cause { IsErrOf result StepFault.Disk → Rose (F.faults store.old.disk.now) (F.faults store.new.disk.now) }
 {
     let mut span = read_span(alloc, store, tracks)?;
@@ -109,10 +109,10 @@ pub(crate) fn extend_tracks<F: Medium>(
     requires inside { to ≤ vec_len tracks + fresh }
     requires whole { length words.now ≡ 432 * (to - from) }
     requires words { AreWords words.now }
-    requires serves { Serves (F.rows store.old.disk.now) (F.record_count store.old.disk.now)
+    requires serves { Serves (F.contents store.old.disk.now) (F.record_count store.old.disk.now)
         (F.words_each store.old.disk.now) (length store.old.tracks.taken.items) }
     ensures same { store.new.disk.ghost_name ≡ store.old.disk.ghost_name }
-    ensures serves { Serves (F.rows store.new.disk.now) (F.record_count store.new.disk.now)
+    ensures serves { Serves (F.contents store.new.disk.now) (F.record_count store.new.disk.now)
         (F.words_each store.new.disk.now) (length store.new.tracks.taken.items) }
     ensures many { length store.new.tracks.taken.items ≡ length store.old.tracks.taken.items }
     ensures len { IfOk result (λ v. length v.items ≡ length tracks.items + fresh) }
@@ -121,9 +121,9 @@ pub(crate) fn extend_tracks<F: Medium>(
         ≡ count_in t tracks.items + bit store.new.tracks.taken.items t) }
     ensures counts { OnOk result (count_taken store.new.tracks.taken.items
         ≡ count_taken store.old.tracks.taken.items + fresh) }
-    ensures rows { IfOk result (λ v. F.rows store.new.disk.now
-        ≡ with_words (F.rows store.old.disk.now) (take (to - from) (drop from v.items)) words.now) }
-    ensures kept { F.faults store.old.disk.now ≤ F.faults store.new.disk.now }
+    ensures contents { IfOk result (λ v. F.contents store.new.disk.now
+        ≡ with_words (F.contents store.old.disk.now) (take (to - from) (drop from v.items)) words.now) }
+    ensures faults_grow { F.faults store.old.disk.now ≤ F.faults store.new.disk.now }
     ensures cause { OnErr result (Rose (F.faults store.old.disk.now) (F.faults store.new.disk.now)) }
 {
     let mut tracks = tracks;

@@ -4,7 +4,7 @@ ghost use Rattle.faults.specs.Faults.{Rose};
 ghost use Rattle.file_model.specs.Files.{got, read};
 ghost use Rattle.file_map.specs.Known.{AnswersOver};
 ghost use Rattle.file_tracks.specs.Ported.{files_in, tells_in, calls_in, faults_in, GaveFirst, GavePart};
-ghost use Rattle.file_tracks.specs.Ported.{Works as Sound, Keeps as Stands};
+ghost use Rattle.file_tracks.specs.Ported.{Usable as Sound, Keeps as Stands};
 
 use crate::deleting::delete_in;
 use crate::naming::{chmode_in, rename_in};
@@ -46,7 +46,7 @@ impl<F: Medium> FilePort for TrackPort<'_, '_, F> {
     ghost use Rattle.std.proofs.Common.{◌∙◌};
     ghost use Rattle.file_tracks.specs.Seen.{seen_is_known};
     ghost use Rattle.file_tracks.specs.Kept.{goes_stays, goes_both};
-    ghost use Rattle.file_tracks.specs.Ported.{files_in, tells_in, faults_in, Works as Sound, Keeps as Stands};
+    ghost use Rattle.file_tracks.specs.Ported.{files_in, tells_in, faults_in, Usable as Sound, Keeps as Stands};
 
     ghost files = { λ p. files_in F.Medium p };
 
@@ -56,7 +56,7 @@ impl<F: Medium> FilePort for TrackPort<'_, '_, F> {
 
     ghost faults = { λ p. faults_in F.Medium p };
 
-    ghost Works = { λ p. Sound F.Medium p };
+    ghost Usable = { λ p. Sound F.Medium p };
 
     ghost Keeps = { λ a b. Stands F.Medium a b };
 
@@ -65,11 +65,11 @@ impl<F: Medium> FilePort for TrackPort<'_, '_, F> {
     }
 
     fn read(&mut self, name: FileName, place: u64, count: u16) -> Result<WordList, PortFault>
-        requires works { Sound F.Medium self.old }
+        requires usable { Sound F.Medium self.old }
         ensures answer { AnswersOver (tells_in F.Medium self.old) (files_in F.Medium self.old) result (read name place count) }
         ensures left { ¬ IsErrOf result PortFault.Disk → files_in F.Medium self.new ≡ files_in F.Medium self.old }
-        ensures told { ¬ IsErrOf result PortFault.Disk → tells_in F.Medium self.new ≡ tells_in F.Medium self.old }
-        ensures works { ¬ IsErrOf result PortFault.Disk → Sound F.Medium self.new }
+        ensures telling { ¬ IsErrOf result PortFault.Disk → tells_in F.Medium self.new ≡ tells_in F.Medium self.old }
+        ensures usable { ¬ IsErrOf result PortFault.Disk → Sound F.Medium self.new }
         ensures keeps { Stands F.Medium self.old self.new }
         ensures cause { IsErrOf result PortFault.Disk → Rose (faults_in F.Medium self.old) (faults_in F.Medium self.new) }
 
@@ -82,11 +82,11 @@ impl<F: Medium> FilePort for TrackPort<'_, '_, F> {
     }
 
     fn get(&mut self, name: FileName) -> Result<WordList, PortFault>
-        requires works { Sound F.Medium self.old }
+        requires usable { Sound F.Medium self.old }
         ensures answer { AnswersOver (tells_in F.Medium self.old) (files_in F.Medium self.old) result (got name) }
         ensures left { ¬ IsErrOf result PortFault.Disk → files_in F.Medium self.new ≡ files_in F.Medium self.old }
-        ensures told { ¬ IsErrOf result PortFault.Disk → tells_in F.Medium self.new ≡ tells_in F.Medium self.old }
-        ensures works { ¬ IsErrOf result PortFault.Disk → Sound F.Medium self.new }
+        ensures telling { ¬ IsErrOf result PortFault.Disk → tells_in F.Medium self.new ≡ tells_in F.Medium self.old }
+        ensures usable { ¬ IsErrOf result PortFault.Disk → Sound F.Medium self.new }
         ensures keeps { Stands F.Medium self.old self.new }
         ensures cause { IsErrOf result PortFault.Disk → Rose (faults_in F.Medium self.old) (faults_in F.Medium self.new) }
 
@@ -144,13 +144,13 @@ impl<F: Medium> FilePort for TrackPort<'_, '_, F> {
         self.table.drop_temporary(self.store);
     }
 
-    ghost is_known = { λ a works. seen_is_known (F.rows a.store.now.disk.now) a.table.now.files.items };
+    ghost is_known = { λ a usable. seen_is_known (F.contents a.store.now.disk.now) a.table.now.files.items };
 
     ghost stays = { λ a. (
       refl,
       refl,
       refl,
-      goes_stays (F.rows a.store.now.disk.now) a.store.now.tracks.taken.items (F.faults a.store.now.disk.now)
+      goes_stays (F.contents a.store.now.disk.now) a.store.now.tracks.taken.items (F.faults a.store.now.disk.now)
           a.table.now a.has_failed,
     ) };
 

@@ -23,8 +23,8 @@ use track_store::TrackStore;
 /// How many words a file has, and its mode.
 pub(crate) fn stat_in(table: &TrackTable, name: FileName) -> Result<Stat, PortFault>
     requires sound { IsOne None table.now }
-    ensures answer { (rows : List (List ℕ)) → All (IsWhole rows) table.now.files.items
-        → Answers result (stat name (files_on rows table.now.files.items)) }
+    ensures answer { (contents : List (List ℕ)) → All (IsWhole contents) table.now.files.items
+        → Answers result (stat name (files_on contents table.now.files.items)) }
     ensures mode { IfOk result (λ s. s.mode ≤ 3) }
     ensures words { IfOk result (λ s. s.words < 2 ^ 32) }
     ensures disk { ¬ IsErrOf result PortFault.Disk }
@@ -50,23 +50,23 @@ pub(crate) fn get_in<F: Medium>(
     store: &mut TrackStore<'_, F>,
     name: FileName,
 ) -> Result<WordList, PortFault>
-    requires works { IsDirectory (F.rows store.old.disk.now) store.old.tracks.taken.items
+    requires usable { IsDirectory (F.contents store.old.disk.now) store.old.tracks.taken.items
         table.now.quota table.now.used table.now.files.items }
-    requires serves { Serves (F.rows store.old.disk.now) (F.record_count store.old.disk.now)
+    requires serves { Serves (F.contents store.old.disk.now) (F.record_count store.old.disk.now)
         (F.words_each store.old.disk.now) (length store.old.tracks.taken.items) }
-    ensures answer { WhereTold (F.rows store.old.disk.now)
-        (λ rows. Answers result (got name (files_on rows table.now.files.items))) }
-    ensures any { (rows : List (List ℕ)) × (MayBe (F.rows store.old.disk.now) rows
-        × (All (IsWhole rows) table.now.files.items
-        × Answers result (got name (files_on rows table.now.files.items)))) }
+    ensures answer { WhereTold (F.contents store.old.disk.now)
+        (λ contents. Answers result (got name (files_on contents table.now.files.items))) }
+    ensures any { (contents : List (List ℕ)) × (MayBe (F.contents store.old.disk.now) contents
+        × (All (IsWhole contents) table.now.files.items
+        × Answers result (got name (files_on contents table.now.files.items)))) }
     ensures gave { IfOk result (λ ws. (more : List ℕ)
         × Gave (F.calls store.old.disk.now) (F.calls store.new.disk.now) (ws ++ more)) }
     ensures same { store.new.disk.ghost_name ≡ store.old.disk.ghost_name }
     ensures tracks { store.new.tracks ≡ store.old.tracks }
-    ensures rows { ¬ IsErrOf result PortFault.Disk → F.rows store.new.disk.now ≡ F.rows store.old.disk.now }
-    ensures serves { Serves (F.rows store.new.disk.now) (F.record_count store.new.disk.now)
+    ensures contents { ¬ IsErrOf result PortFault.Disk → F.contents store.new.disk.now ≡ F.contents store.old.disk.now }
+    ensures serves { Serves (F.contents store.new.disk.now) (F.record_count store.new.disk.now)
         (F.words_each store.new.disk.now) (length store.new.tracks.taken.items) }
-    ensures kept { F.faults store.old.disk.now ≤ F.faults store.new.disk.now }
+    ensures faults_grow { F.faults store.old.disk.now ≤ F.faults store.new.disk.now }
     ensures cause { IsErrOf result PortFault.Disk
         → Rose (F.faults store.old.disk.now) (F.faults store.new.disk.now) }
 {
@@ -95,26 +95,26 @@ pub(crate) fn read_in<F: Medium>(
     place: u64,
     count: u16,
 ) -> Result<WordList, PortFault>
-    requires works { IsDirectory (F.rows store.old.disk.now) store.old.tracks.taken.items
+    requires usable { IsDirectory (F.contents store.old.disk.now) store.old.tracks.taken.items
         table.now.quota table.now.used table.now.files.items }
     requires small { table.now.used < 2 ^ 32 }
-    requires serves { Serves (F.rows store.old.disk.now) (F.record_count store.old.disk.now)
+    requires serves { Serves (F.contents store.old.disk.now) (F.record_count store.old.disk.now)
         (F.words_each store.old.disk.now) (length store.old.tracks.taken.items) }
-    ensures answer { WhereTold (F.rows store.old.disk.now)
-        (λ rows. Answers result (read name place count (files_on rows table.now.files.items))) }
-    ensures any { (rows : List (List ℕ)) × (MayBe (F.rows store.old.disk.now) rows
-        × (All (IsWhole rows) table.now.files.items
-        × Answers result (read name place count (files_on rows table.now.files.items)))) }
+    ensures answer { WhereTold (F.contents store.old.disk.now)
+        (λ contents. Answers result (read name place count (files_on contents table.now.files.items))) }
+    ensures any { (contents : List (List ℕ)) × (MayBe (F.contents store.old.disk.now) contents
+        × (All (IsWhole contents) table.now.files.items
+        × Answers result (read name place count (files_on contents table.now.files.items)))) }
     ensures gave { IfOk result (λ ws. (d : List ℕ)
         × (Gave (F.calls store.old.disk.now) (F.calls store.new.disk.now) d
         × (ws ≡ take count (drop (place % 432) d)))) }
     ensures len { IfOk result (λ ws. length ws ≡ count) }
     ensures same { store.new.disk.ghost_name ≡ store.old.disk.ghost_name }
     ensures tracks { store.new.tracks ≡ store.old.tracks }
-    ensures rows { ¬ IsErrOf result PortFault.Disk → F.rows store.new.disk.now ≡ F.rows store.old.disk.now }
-    ensures serves { Serves (F.rows store.new.disk.now) (F.record_count store.new.disk.now)
+    ensures contents { ¬ IsErrOf result PortFault.Disk → F.contents store.new.disk.now ≡ F.contents store.old.disk.now }
+    ensures serves { Serves (F.contents store.new.disk.now) (F.record_count store.new.disk.now)
         (F.words_each store.new.disk.now) (length store.new.tracks.taken.items) }
-    ensures kept { F.faults store.old.disk.now ≤ F.faults store.new.disk.now }
+    ensures faults_grow { F.faults store.old.disk.now ≤ F.faults store.new.disk.now }
     ensures cause { IsErrOf result PortFault.Disk
         → Rose (F.faults store.old.disk.now) (F.faults store.new.disk.now) }
 {
@@ -158,8 +158,8 @@ fn rows_for(alloc: Global, files: &[Filed]) -> Result<Listing, NoMemory>
 /// A row for each file, in order.
 pub(crate) fn list_in(alloc: Global, table: &TrackTable) -> Result<Listing, PortFault>
     requires { All HasTracks table.now.files.items }
-    ensures answer { (rows : List (List ℕ)) → All (IsWhole rows) table.now.files.items
-        → Answers result (Ok (listing_of (files_on rows table.now.files.items))) }
+    ensures answer { (contents : List (List ℕ)) → All (IsWhole contents) table.now.files.items
+        → Answers result (Ok (listing_of (files_on contents table.now.files.items))) }
     ensures disk { ¬ IsErrOf result PortFault.Disk }
 {
     let Ok(rows) = rows_for(alloc, &table.files) else {

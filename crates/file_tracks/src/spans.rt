@@ -4,7 +4,7 @@ ghost use Rattle.std.specs.List.{All};
 ghost use Rattle.faults.specs.Faults.{Rose, WhereTold};
 ghost use Rattle.medium.specs.Medium.{AreWords};
 ghost use Rattle.track_store.specs.Tracks.{count_taken, is_taken, Serves};
-ghost use Rattle.track_store.specs.Words.{row, joined, with_words, Gave};
+ghost use Rattle.track_store.specs.Words.{record_at, joined, with_words, Gave};
 ghost use Rattle.file_tracks.specs.Places.{count_in, bit};
 
 use ctss_types::StepFault;
@@ -55,25 +55,25 @@ fn read_more<F: Medium>(
     requires whole { length buffer.old ≡ 432 }
     requires buffer { AreWords buffer.old }
     requires taken { is_taken store.old.tracks.taken.items track ≡ true }
-    requires serves { Serves (F.rows store.old.disk.now) (F.record_count store.old.disk.now)
+    requires serves { Serves (F.contents store.old.disk.now) (F.record_count store.old.disk.now)
         (F.words_each store.old.disk.now) (length store.old.tracks.taken.items) }
     requires words { AreWords words.old.items }
     ensures whole { length buffer.new ≡ 432 }
     ensures buffer { AreWords buffer.new }
     ensures same { store.new.disk.ghost_name ≡ store.old.disk.ghost_name }
     ensures tracks { store.new.tracks ≡ store.old.tracks }
-    ensures serves { Serves (F.rows store.new.disk.now) (F.record_count store.new.disk.now)
+    ensures serves { Serves (F.contents store.new.disk.now) (F.record_count store.new.disk.now)
         (F.words_each store.new.disk.now) (length store.new.tracks.taken.items) }
     ensures words { OnOk result (AreWords words.new.items) }
     ensures len { OnOk result (length words.new.items ≡ length words.old.items + 432) }
     ensures front { OnOk result (take (length words.old.items) words.new.items ≡ words.old.items) }
-    ensures given { OnOk result (WhereTold (F.rows store.old.disk.now)
-        (λ rows. words.new.items ≡ words.old.items ++ row rows track)) }
+    ensures given { OnOk result (WhereTold (F.contents store.old.disk.now)
+        (λ contents. words.new.items ≡ words.old.items ++ record_at contents track)) }
     ensures gave { OnOk result (Gave (F.calls store.old.disk.now) (F.calls store.new.disk.now)
         (drop (length words.old.items) words.new.items)) }
-    ensures rows { OnOk result (F.rows store.new.disk.now ≡ F.rows store.old.disk.now) }
-    ensures memory { IsErrOf result StepFault.NoMemory → F.rows store.new.disk.now ≡ F.rows store.old.disk.now }
-    ensures kept { F.faults store.old.disk.now ≤ F.faults store.new.disk.now }
+    ensures contents { OnOk result (F.contents store.new.disk.now ≡ F.contents store.old.disk.now) }
+    ensures memory { IsErrOf result StepFault.NoMemory → F.contents store.new.disk.now ≡ F.contents store.old.disk.now }
+    ensures faults_grow { F.faults store.old.disk.now ≤ F.faults store.new.disk.now }
     ensures cause { IsErrOf result StepFault.Disk → Rose (F.faults store.old.disk.now) (F.faults store.new.disk.now) }
 {
     if store.read_track(track, buffer).is_err() {
@@ -94,20 +94,20 @@ fn read_all<F: Medium>(
     requires whole { length buffer.old ≡ 432 }
     requires buffer { AreWords buffer.old }
     requires taken { All (λ t. is_taken store.old.tracks.taken.items t ≡ true) tracks.now }
-    requires serves { Serves (F.rows store.old.disk.now) (F.record_count store.old.disk.now)
+    requires serves { Serves (F.contents store.old.disk.now) (F.record_count store.old.disk.now)
         (F.words_each store.old.disk.now) (length store.old.tracks.taken.items) }
     ensures same { store.new.disk.ghost_name ≡ store.old.disk.ghost_name }
     ensures tracks { store.new.tracks ≡ store.old.tracks }
-    ensures serves { Serves (F.rows store.new.disk.now) (F.record_count store.new.disk.now)
+    ensures serves { Serves (F.contents store.new.disk.now) (F.record_count store.new.disk.now)
         (F.words_each store.new.disk.now) (length store.new.tracks.taken.items) }
     ensures words { IfOk result (λ words. AreWords words.items) }
     ensures len { IfOk result (λ words. length words.items ≡ 432 * length tracks.now) }
-    ensures given { IfOk result (λ words. WhereTold (F.rows store.old.disk.now) (λ rows. words.items
-        ≡ joined rows tracks.now)) }
+    ensures given { IfOk result (λ words. WhereTold (F.contents store.old.disk.now) (λ contents. words.items
+        ≡ joined contents tracks.now)) }
     ensures gave { IfOk result (λ words. Gave (F.calls store.old.disk.now) (F.calls store.new.disk.now) words.items) }
-    ensures rows { OnOk result (F.rows store.new.disk.now ≡ F.rows store.old.disk.now) }
-    ensures memory { IsErrOf result StepFault.NoMemory → F.rows store.new.disk.now ≡ F.rows store.old.disk.now }
-    ensures kept { F.faults store.old.disk.now ≤ F.faults store.new.disk.now }
+    ensures contents { OnOk result (F.contents store.new.disk.now ≡ F.contents store.old.disk.now) }
+    ensures memory { IsErrOf result StepFault.NoMemory → F.contents store.new.disk.now ≡ F.contents store.old.disk.now }
+    ensures faults_grow { F.faults store.old.disk.now ≤ F.faults store.new.disk.now }
     ensures cause { IsErrOf result StepFault.Disk → Rose (F.faults store.old.disk.now) (F.faults store.new.disk.now) }
 {
     let mut words = room_for(alloc, 0)?;
@@ -124,20 +124,20 @@ pub(crate) fn read_span<F: Medium>(
     tracks: &[u16],
 ) -> Result<Vec<u64>, StepFault>
     requires taken { All (λ t. is_taken store.old.tracks.taken.items t ≡ true) tracks.now }
-    requires serves { Serves (F.rows store.old.disk.now) (F.record_count store.old.disk.now)
+    requires serves { Serves (F.contents store.old.disk.now) (F.record_count store.old.disk.now)
         (F.words_each store.old.disk.now) (length store.old.tracks.taken.items) }
     ensures same { store.new.disk.ghost_name ≡ store.old.disk.ghost_name }
     ensures tracks { store.new.tracks ≡ store.old.tracks }
-    ensures serves { Serves (F.rows store.new.disk.now) (F.record_count store.new.disk.now)
+    ensures serves { Serves (F.contents store.new.disk.now) (F.record_count store.new.disk.now)
         (F.words_each store.new.disk.now) (length store.new.tracks.taken.items) }
     ensures words { IfOk result (λ words. AreWords words.items) }
     ensures len { IfOk result (λ words. length words.items ≡ 432 * length tracks.now) }
-    ensures given { IfOk result (λ words. WhereTold (F.rows store.old.disk.now) (λ rows. words.items
-        ≡ joined rows tracks.now)) }
+    ensures given { IfOk result (λ words. WhereTold (F.contents store.old.disk.now) (λ contents. words.items
+        ≡ joined contents tracks.now)) }
     ensures gave { IfOk result (λ words. Gave (F.calls store.old.disk.now) (F.calls store.new.disk.now) words.items) }
-    ensures rows { OnOk result (F.rows store.new.disk.now ≡ F.rows store.old.disk.now) }
-    ensures memory { IsErrOf result StepFault.NoMemory → F.rows store.new.disk.now ≡ F.rows store.old.disk.now }
-    ensures kept { F.faults store.old.disk.now ≤ F.faults store.new.disk.now }
+    ensures contents { OnOk result (F.contents store.new.disk.now ≡ F.contents store.old.disk.now) }
+    ensures memory { IsErrOf result StepFault.NoMemory → F.contents store.new.disk.now ≡ F.contents store.old.disk.now }
+    ensures faults_grow { F.faults store.old.disk.now ≤ F.faults store.new.disk.now }
     ensures cause { IsErrOf result StepFault.Disk → Rose (F.faults store.old.disk.now) (F.faults store.new.disk.now) }
 {
     let mut buffer = zeros(alloc, 432)?;
@@ -154,15 +154,15 @@ pub(crate) fn write_span<F: Medium>(
     requires taken { All (λ t. is_taken store.old.tracks.taken.items t ≡ true) tracks.now }
     requires whole { length words.now ≡ 432 * length tracks.now }
     requires words { AreWords words.now }
-    requires serves { Serves (F.rows store.old.disk.now) (F.record_count store.old.disk.now)
+    requires serves { Serves (F.contents store.old.disk.now) (F.record_count store.old.disk.now)
         (F.words_each store.old.disk.now) (length store.old.tracks.taken.items) }
     ensures same { store.new.disk.ghost_name ≡ store.old.disk.ghost_name }
     ensures tracks { store.new.tracks ≡ store.old.tracks }
-    ensures serves { Serves (F.rows store.new.disk.now) (F.record_count store.new.disk.now)
+    ensures serves { Serves (F.contents store.new.disk.now) (F.record_count store.new.disk.now)
         (F.words_each store.new.disk.now) (length store.new.tracks.taken.items) }
-    ensures rows { OnOk result (F.rows store.new.disk.now
-        ≡ with_words (F.rows store.old.disk.now) tracks.now words.now) }
-    ensures kept { F.faults store.old.disk.now ≤ F.faults store.new.disk.now }
+    ensures contents { OnOk result (F.contents store.new.disk.now
+        ≡ with_words (F.contents store.old.disk.now) tracks.now words.now) }
+    ensures faults_grow { F.faults store.old.disk.now ≤ F.faults store.new.disk.now }
     ensures cause { OnErr result (Rose (F.faults store.old.disk.now) (F.faults store.new.disk.now)) }
 {
     'writing: for i in 0..tracks.len() {

@@ -29,9 +29,9 @@ pub struct TrackTable {
 #[tactic(auto, using(crate::proofs::Found::named_more, crate::proofs::Found::named_none))]
 fn find(files: &[Filed], name: FileName) -> Option<usize>
     ensures { MatchOption result
-        ((rows : List (List ℕ)) → file_named name (files_on rows files.now) ≡ None)
-        (λ i. (i < length files.now) × ((rows : List (List ℕ)) (d : Filed)
-        → file_named name (files_on rows files.now) ≡ Some (body_on rows (slice_index_or files.now i d)))) }
+        ((contents : List (List ℕ)) → file_named name (files_on contents files.now) ≡ None)
+        (λ i. (i < length files.now) × ((contents : List (List ℕ)) (d : Filed)
+        → file_named name (files_on contents files.now) ≡ Some (body_on contents (slice_index_or files.now i d)))) }
 {
     'finding: for at in 0..files.len() {
         if files[at].name == name {
@@ -58,17 +58,17 @@ impl TrackTable {
     /// The place of the file of a name.
     pub(crate) fn place(&self, name: FileName) -> Option<usize>
         ensures { MatchOption result
-            ((rows : List (List ℕ)) → file_named name (files_on rows self.now.files.items) ≡ None)
-            (λ i. (i < length self.now.files.items) × ((rows : List (List ℕ)) (d : Filed)
-            → file_named name (files_on rows self.now.files.items)
-            ≡ Some (body_on rows (slice_index_or self.now.files.items i d)))) }
+            ((contents : List (List ℕ)) → file_named name (files_on contents self.now.files.items) ≡ None)
+            (λ i. (i < length self.now.files.items) × ((contents : List (List ℕ)) (d : Filed)
+            → file_named name (files_on contents self.now.files.items)
+            ≡ Some (body_on contents (slice_index_or self.now.files.items i d)))) }
     {
         find(&self.files, name)
     }
 
     /// Whether there is a file of a name.
     pub(crate) fn has(&self, name: FileName) -> bool
-        ensures { (rows : List (List ℕ)) → result ≡ is_some (file_named name (files_on rows self.now.files.items)) }
+        ensures { (contents : List (List ℕ)) → result ≡ is_some (file_named name (files_on contents self.now.files.items)) }
     {
         self.place(name).is_some()
     }

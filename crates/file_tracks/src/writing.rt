@@ -28,37 +28,37 @@ fn replace_in<F: Medium>(
     at: usize,
     words: &[Word],
 ) -> Result<(), PortFault>
-    requires works { IsDirectory (F.rows store.old.disk.now) store.old.tracks.taken.items
+    requires usable { IsDirectory (F.contents store.old.disk.now) store.old.tracks.taken.items
         table.old.quota table.old.used table.old.files.items }
-    requires serves { Serves (F.rows store.old.disk.now) (F.record_count store.old.disk.now)
+    requires serves { Serves (F.contents store.old.disk.now) (F.record_count store.old.disk.now)
         (F.words_each store.old.disk.now) (length store.old.tracks.taken.items) }
     requires at { at < length table.old.files.items }
-    requires found { (rows : List (List ℕ)) (d : Filed) → file_named name (files_on rows table.old.files.items)
-        ≡ Some (body_on rows (slice_index_or table.old.files.items at d)) }
+    requires found { (contents : List (List ℕ)) (d : Filed) → file_named name (files_on contents table.old.files.items)
+        ≡ Some (body_on contents (slice_index_or table.old.files.items at d)) }
     requires small { table.old.used < 2 ^ 32 }
     ensures any { ¬ IsErrOf result PortFault.Disk
         → LeavesAny result (put name words.now table.old.quota)
-        (F.rows store.old.disk.now) (F.rows store.new.disk.now) (length store.old.tracks.taken.items)
+        (F.contents store.old.disk.now) (F.contents store.new.disk.now) (length store.old.tracks.taken.items)
         table.old.files.items table.new.files.items }
     ensures others { ¬ IsErrOf result PortFault.Disk → (others : ℕ → ℕ)
         → StandBeside others store.old.tracks.taken.items table.old.files.items
-        → LeavesOthers (F.rows store.old.disk.now) (F.rows store.new.disk.now) store.old.tracks.taken.items
+        → LeavesOthers (F.contents store.old.disk.now) (F.contents store.new.disk.now) store.old.tracks.taken.items
         store.new.tracks.taken.items table.old.files.items table.new.files.items others }
-    ensures works { ¬ IsErrOf result PortFault.Disk
-        → IsDirectory (F.rows store.new.disk.now) store.new.tracks.taken.items
+    ensures usable { ¬ IsErrOf result PortFault.Disk
+        → IsDirectory (F.contents store.new.disk.now) store.new.tracks.taken.items
         table.new.quota table.new.used table.new.files.items }
     ensures quota { table.new.quota ≡ table.old.quota }
     ensures refused { (r : Refusal) → IsErrOf result (PortFault.Refused r)
         → store.new.disk.now ≡ store.old.disk.now }
-    ensures told { ¬ IsErrOf result PortFault.Disk
-        → tells_of (F.rows store.new.disk.now) ≡ tells_of (F.rows store.old.disk.now) }
+    ensures telling { ¬ IsErrOf result PortFault.Disk
+        → tells_of (F.contents store.new.disk.now) ≡ tells_of (F.contents store.old.disk.now) }
     ensures counts { ¬ IsErrOf result PortFault.Disk → count_taken store.new.tracks.taken.items + table.old.used
         ≡ count_taken store.old.tracks.taken.items + table.new.used }
     ensures many { length store.new.tracks.taken.items ≡ length store.old.tracks.taken.items }
     ensures same { store.new.disk.ghost_name ≡ store.old.disk.ghost_name }
-    ensures serves { Serves (F.rows store.new.disk.now) (F.record_count store.new.disk.now)
+    ensures serves { Serves (F.contents store.new.disk.now) (F.record_count store.new.disk.now)
         (F.words_each store.new.disk.now) (length store.new.tracks.taken.items) }
-    ensures kept { F.faults store.old.disk.now ≤ F.faults store.new.disk.now }
+    ensures faults_grow { F.faults store.old.disk.now ≤ F.faults store.new.disk.now }
     ensures cause { IsErrOf result PortFault.Disk
         → Rose (F.faults store.old.disk.now) (F.faults store.new.disk.now) }
 {
@@ -97,37 +97,37 @@ fn write_at<F: Medium>(
     place: u64,
     words: &[Word],
 ) -> Result<(), PortFault>
-    requires works { IsDirectory (F.rows store.old.disk.now) store.old.tracks.taken.items
+    requires usable { IsDirectory (F.contents store.old.disk.now) store.old.tracks.taken.items
         table.old.quota table.old.used table.old.files.items }
-    requires serves { Serves (F.rows store.old.disk.now) (F.record_count store.old.disk.now)
+    requires serves { Serves (F.contents store.old.disk.now) (F.record_count store.old.disk.now)
         (F.words_each store.old.disk.now) (length store.old.tracks.taken.items) }
     requires at { at < length table.old.files.items }
-    requires found { (rows : List (List ℕ)) (d : Filed) → file_named name (files_on rows table.old.files.items)
-        ≡ Some (body_on rows (slice_index_or table.old.files.items at d)) }
+    requires found { (contents : List (List ℕ)) (d : Filed) → file_named name (files_on contents table.old.files.items)
+        ≡ Some (body_on contents (slice_index_or table.old.files.items at d)) }
     requires small { table.old.used < 2 ^ 32 }
     ensures any { ¬ IsErrOf result PortFault.Disk
         → LeavesAny result (written name place words.now table.old.quota)
-        (F.rows store.old.disk.now) (F.rows store.new.disk.now) (length store.old.tracks.taken.items)
+        (F.contents store.old.disk.now) (F.contents store.new.disk.now) (length store.old.tracks.taken.items)
         table.old.files.items table.new.files.items }
     ensures others { ¬ IsErrOf result PortFault.Disk → (others : ℕ → ℕ)
         → StandBeside others store.old.tracks.taken.items table.old.files.items
-        → LeavesOthers (F.rows store.old.disk.now) (F.rows store.new.disk.now) store.old.tracks.taken.items
+        → LeavesOthers (F.contents store.old.disk.now) (F.contents store.new.disk.now) store.old.tracks.taken.items
         store.new.tracks.taken.items table.old.files.items table.new.files.items others }
-    ensures works { ¬ IsErrOf result PortFault.Disk
-        → IsDirectory (F.rows store.new.disk.now) store.new.tracks.taken.items
+    ensures usable { ¬ IsErrOf result PortFault.Disk
+        → IsDirectory (F.contents store.new.disk.now) store.new.tracks.taken.items
         table.new.quota table.new.used table.new.files.items }
     ensures quota { table.new.quota ≡ table.old.quota }
     ensures refused { (r : Refusal) → IsErrOf result (PortFault.Refused r)
         → store.new.disk.now ≡ store.old.disk.now }
-    ensures told { ¬ IsErrOf result PortFault.Disk
-        → tells_of (F.rows store.new.disk.now) ≡ tells_of (F.rows store.old.disk.now) }
+    ensures telling { ¬ IsErrOf result PortFault.Disk
+        → tells_of (F.contents store.new.disk.now) ≡ tells_of (F.contents store.old.disk.now) }
     ensures counts { ¬ IsErrOf result PortFault.Disk → count_taken store.new.tracks.taken.items + table.old.used
         ≡ count_taken store.old.tracks.taken.items + table.new.used }
     ensures many { length store.new.tracks.taken.items ≡ length store.old.tracks.taken.items }
     ensures same { store.new.disk.ghost_name ≡ store.old.disk.ghost_name }
-    ensures serves { Serves (F.rows store.new.disk.now) (F.record_count store.new.disk.now)
+    ensures serves { Serves (F.contents store.new.disk.now) (F.record_count store.new.disk.now)
         (F.words_each store.new.disk.now) (length store.new.tracks.taken.items) }
-    ensures kept { F.faults store.old.disk.now ≤ F.faults store.new.disk.now }
+    ensures faults_grow { F.faults store.old.disk.now ≤ F.faults store.new.disk.now }
     ensures cause { IsErrOf result PortFault.Disk
         → Rose (F.faults store.old.disk.now) (F.faults store.new.disk.now) }
 {
@@ -199,35 +199,35 @@ fn make<F: Medium>(
     name: FileName,
     words: &[Word],
 ) -> Result<(), PortFault>
-    requires works { IsDirectory (F.rows store.old.disk.now) store.old.tracks.taken.items
+    requires usable { IsDirectory (F.contents store.old.disk.now) store.old.tracks.taken.items
         table.old.quota table.old.used table.old.files.items }
-    requires serves { Serves (F.rows store.old.disk.now) (F.record_count store.old.disk.now)
+    requires serves { Serves (F.contents store.old.disk.now) (F.record_count store.old.disk.now)
         (F.words_each store.old.disk.now) (length store.old.tracks.taken.items) }
-    requires absent { (rows : List (List ℕ)) → file_named name (files_on rows table.old.files.items) ≡ None }
+    requires absent { (contents : List (List ℕ)) → file_named name (files_on contents table.old.files.items) ≡ None }
     requires small { table.old.used < 2 ^ 32 }
     ensures any { ¬ IsErrOf result PortFault.Disk
         → LeavesAny result (λ files. if_they_fit table.old.quota (with_new name words.now files))
-        (F.rows store.old.disk.now) (F.rows store.new.disk.now) (length store.old.tracks.taken.items)
+        (F.contents store.old.disk.now) (F.contents store.new.disk.now) (length store.old.tracks.taken.items)
         table.old.files.items table.new.files.items }
     ensures others { ¬ IsErrOf result PortFault.Disk → (others : ℕ → ℕ)
         → StandBeside others store.old.tracks.taken.items table.old.files.items
-        → LeavesOthers (F.rows store.old.disk.now) (F.rows store.new.disk.now) store.old.tracks.taken.items
+        → LeavesOthers (F.contents store.old.disk.now) (F.contents store.new.disk.now) store.old.tracks.taken.items
         store.new.tracks.taken.items table.old.files.items table.new.files.items others }
-    ensures works { ¬ IsErrOf result PortFault.Disk
-        → IsDirectory (F.rows store.new.disk.now) store.new.tracks.taken.items
+    ensures usable { ¬ IsErrOf result PortFault.Disk
+        → IsDirectory (F.contents store.new.disk.now) store.new.tracks.taken.items
         table.new.quota table.new.used table.new.files.items }
     ensures quota { table.new.quota ≡ table.old.quota }
     ensures refused { (r : Refusal) → IsErrOf result (PortFault.Refused r)
         → store.new.disk.now ≡ store.old.disk.now }
-    ensures told { ¬ IsErrOf result PortFault.Disk
-        → tells_of (F.rows store.new.disk.now) ≡ tells_of (F.rows store.old.disk.now) }
+    ensures telling { ¬ IsErrOf result PortFault.Disk
+        → tells_of (F.contents store.new.disk.now) ≡ tells_of (F.contents store.old.disk.now) }
     ensures counts { ¬ IsErrOf result PortFault.Disk → count_taken store.new.tracks.taken.items + table.old.used
         ≡ count_taken store.old.tracks.taken.items + table.new.used }
     ensures many { length store.new.tracks.taken.items ≡ length store.old.tracks.taken.items }
     ensures same { store.new.disk.ghost_name ≡ store.old.disk.ghost_name }
-    ensures serves { Serves (F.rows store.new.disk.now) (F.record_count store.new.disk.now)
+    ensures serves { Serves (F.contents store.new.disk.now) (F.record_count store.new.disk.now)
         (F.words_each store.new.disk.now) (length store.new.tracks.taken.items) }
-    ensures kept { F.faults store.old.disk.now ≤ F.faults store.new.disk.now }
+    ensures faults_grow { F.faults store.old.disk.now ≤ F.faults store.new.disk.now }
     ensures cause { IsErrOf result PortFault.Disk
         → Rose (F.faults store.old.disk.now) (F.faults store.new.disk.now) }
 {
@@ -265,34 +265,34 @@ pub(crate) fn put_in<F: Medium>(
     name: FileName,
     words: &[Word],
 ) -> Result<(), PortFault>
-    requires works { IsDirectory (F.rows store.old.disk.now) store.old.tracks.taken.items
+    requires usable { IsDirectory (F.contents store.old.disk.now) store.old.tracks.taken.items
         table.old.quota table.old.used table.old.files.items }
-    requires serves { Serves (F.rows store.old.disk.now) (F.record_count store.old.disk.now)
+    requires serves { Serves (F.contents store.old.disk.now) (F.record_count store.old.disk.now)
         (F.words_each store.old.disk.now) (length store.old.tracks.taken.items) }
     requires small { table.old.used < 2 ^ 32 }
     ensures any { ¬ IsErrOf result PortFault.Disk
         → LeavesAny result (put name words.now table.old.quota)
-        (F.rows store.old.disk.now) (F.rows store.new.disk.now) (length store.old.tracks.taken.items)
+        (F.contents store.old.disk.now) (F.contents store.new.disk.now) (length store.old.tracks.taken.items)
         table.old.files.items table.new.files.items }
     ensures others { ¬ IsErrOf result PortFault.Disk → (others : ℕ → ℕ)
         → StandBeside others store.old.tracks.taken.items table.old.files.items
-        → LeavesOthers (F.rows store.old.disk.now) (F.rows store.new.disk.now) store.old.tracks.taken.items
+        → LeavesOthers (F.contents store.old.disk.now) (F.contents store.new.disk.now) store.old.tracks.taken.items
         store.new.tracks.taken.items table.old.files.items table.new.files.items others }
-    ensures works { ¬ IsErrOf result PortFault.Disk
-        → IsDirectory (F.rows store.new.disk.now) store.new.tracks.taken.items
+    ensures usable { ¬ IsErrOf result PortFault.Disk
+        → IsDirectory (F.contents store.new.disk.now) store.new.tracks.taken.items
         table.new.quota table.new.used table.new.files.items }
     ensures quota { table.new.quota ≡ table.old.quota }
     ensures refused { (r : Refusal) → IsErrOf result (PortFault.Refused r)
         → store.new.disk.now ≡ store.old.disk.now }
-    ensures told { ¬ IsErrOf result PortFault.Disk
-        → tells_of (F.rows store.new.disk.now) ≡ tells_of (F.rows store.old.disk.now) }
+    ensures telling { ¬ IsErrOf result PortFault.Disk
+        → tells_of (F.contents store.new.disk.now) ≡ tells_of (F.contents store.old.disk.now) }
     ensures counts { ¬ IsErrOf result PortFault.Disk → count_taken store.new.tracks.taken.items + table.old.used
         ≡ count_taken store.old.tracks.taken.items + table.new.used }
     ensures many { length store.new.tracks.taken.items ≡ length store.old.tracks.taken.items }
     ensures same { store.new.disk.ghost_name ≡ store.old.disk.ghost_name }
-    ensures serves { Serves (F.rows store.new.disk.now) (F.record_count store.new.disk.now)
+    ensures serves { Serves (F.contents store.new.disk.now) (F.record_count store.new.disk.now)
         (F.words_each store.new.disk.now) (length store.new.tracks.taken.items) }
-    ensures kept { F.faults store.old.disk.now ≤ F.faults store.new.disk.now }
+    ensures faults_grow { F.faults store.old.disk.now ≤ F.faults store.new.disk.now }
     ensures cause { IsErrOf result PortFault.Disk
         → Rose (F.faults store.old.disk.now) (F.faults store.new.disk.now) }
 {
@@ -311,34 +311,34 @@ pub(crate) fn write_in<F: Medium>(
     place: u64,
     words: &[Word],
 ) -> Result<(), PortFault>
-    requires works { IsDirectory (F.rows store.old.disk.now) store.old.tracks.taken.items
+    requires usable { IsDirectory (F.contents store.old.disk.now) store.old.tracks.taken.items
         table.old.quota table.old.used table.old.files.items }
-    requires serves { Serves (F.rows store.old.disk.now) (F.record_count store.old.disk.now)
+    requires serves { Serves (F.contents store.old.disk.now) (F.record_count store.old.disk.now)
         (F.words_each store.old.disk.now) (length store.old.tracks.taken.items) }
     requires small { table.old.used < 2 ^ 32 }
     ensures any { ¬ IsErrOf result PortFault.Disk
         → LeavesAny result (written name place words.now table.old.quota)
-        (F.rows store.old.disk.now) (F.rows store.new.disk.now) (length store.old.tracks.taken.items)
+        (F.contents store.old.disk.now) (F.contents store.new.disk.now) (length store.old.tracks.taken.items)
         table.old.files.items table.new.files.items }
     ensures others { ¬ IsErrOf result PortFault.Disk → (others : ℕ → ℕ)
         → StandBeside others store.old.tracks.taken.items table.old.files.items
-        → LeavesOthers (F.rows store.old.disk.now) (F.rows store.new.disk.now) store.old.tracks.taken.items
+        → LeavesOthers (F.contents store.old.disk.now) (F.contents store.new.disk.now) store.old.tracks.taken.items
         store.new.tracks.taken.items table.old.files.items table.new.files.items others }
-    ensures works { ¬ IsErrOf result PortFault.Disk
-        → IsDirectory (F.rows store.new.disk.now) store.new.tracks.taken.items
+    ensures usable { ¬ IsErrOf result PortFault.Disk
+        → IsDirectory (F.contents store.new.disk.now) store.new.tracks.taken.items
         table.new.quota table.new.used table.new.files.items }
     ensures quota { table.new.quota ≡ table.old.quota }
     ensures refused { (r : Refusal) → IsErrOf result (PortFault.Refused r)
         → store.new.disk.now ≡ store.old.disk.now }
-    ensures told { ¬ IsErrOf result PortFault.Disk
-        → tells_of (F.rows store.new.disk.now) ≡ tells_of (F.rows store.old.disk.now) }
+    ensures telling { ¬ IsErrOf result PortFault.Disk
+        → tells_of (F.contents store.new.disk.now) ≡ tells_of (F.contents store.old.disk.now) }
     ensures counts { ¬ IsErrOf result PortFault.Disk → count_taken store.new.tracks.taken.items + table.old.used
         ≡ count_taken store.old.tracks.taken.items + table.new.used }
     ensures many { length store.new.tracks.taken.items ≡ length store.old.tracks.taken.items }
     ensures same { store.new.disk.ghost_name ≡ store.old.disk.ghost_name }
-    ensures serves { Serves (F.rows store.new.disk.now) (F.record_count store.new.disk.now)
+    ensures serves { Serves (F.contents store.new.disk.now) (F.record_count store.new.disk.now)
         (F.words_each store.new.disk.now) (length store.new.tracks.taken.items) }
-    ensures kept { F.faults store.old.disk.now ≤ F.faults store.new.disk.now }
+    ensures faults_grow { F.faults store.old.disk.now ≤ F.faults store.new.disk.now }
     ensures cause { IsErrOf result PortFault.Disk
         → Rose (F.faults store.old.disk.now) (F.faults store.new.disk.now) }
 {
@@ -359,34 +359,34 @@ pub(crate) fn append_in<F: Medium>(
     name: FileName,
     words: &[Word],
 ) -> Result<(), PortFault>
-    requires works { IsDirectory (F.rows store.old.disk.now) store.old.tracks.taken.items
+    requires usable { IsDirectory (F.contents store.old.disk.now) store.old.tracks.taken.items
         table.old.quota table.old.used table.old.files.items }
-    requires serves { Serves (F.rows store.old.disk.now) (F.record_count store.old.disk.now)
+    requires serves { Serves (F.contents store.old.disk.now) (F.record_count store.old.disk.now)
         (F.words_each store.old.disk.now) (length store.old.tracks.taken.items) }
     requires small { table.old.used < 2 ^ 32 }
     ensures any { ¬ IsErrOf result PortFault.Disk
         → LeavesAny result (appended name words.now table.old.quota)
-        (F.rows store.old.disk.now) (F.rows store.new.disk.now) (length store.old.tracks.taken.items)
+        (F.contents store.old.disk.now) (F.contents store.new.disk.now) (length store.old.tracks.taken.items)
         table.old.files.items table.new.files.items }
     ensures others { ¬ IsErrOf result PortFault.Disk → (others : ℕ → ℕ)
         → StandBeside others store.old.tracks.taken.items table.old.files.items
-        → LeavesOthers (F.rows store.old.disk.now) (F.rows store.new.disk.now) store.old.tracks.taken.items
+        → LeavesOthers (F.contents store.old.disk.now) (F.contents store.new.disk.now) store.old.tracks.taken.items
         store.new.tracks.taken.items table.old.files.items table.new.files.items others }
-    ensures works { ¬ IsErrOf result PortFault.Disk
-        → IsDirectory (F.rows store.new.disk.now) store.new.tracks.taken.items
+    ensures usable { ¬ IsErrOf result PortFault.Disk
+        → IsDirectory (F.contents store.new.disk.now) store.new.tracks.taken.items
         table.new.quota table.new.used table.new.files.items }
     ensures quota { table.new.quota ≡ table.old.quota }
     ensures refused { (r : Refusal) → IsErrOf result (PortFault.Refused r)
         → store.new.disk.now ≡ store.old.disk.now }
-    ensures told { ¬ IsErrOf result PortFault.Disk
-        → tells_of (F.rows store.new.disk.now) ≡ tells_of (F.rows store.old.disk.now) }
+    ensures telling { ¬ IsErrOf result PortFault.Disk
+        → tells_of (F.contents store.new.disk.now) ≡ tells_of (F.contents store.old.disk.now) }
     ensures counts { ¬ IsErrOf result PortFault.Disk → count_taken store.new.tracks.taken.items + table.old.used
         ≡ count_taken store.old.tracks.taken.items + table.new.used }
     ensures many { length store.new.tracks.taken.items ≡ length store.old.tracks.taken.items }
     ensures same { store.new.disk.ghost_name ≡ store.old.disk.ghost_name }
-    ensures serves { Serves (F.rows store.new.disk.now) (F.record_count store.new.disk.now)
+    ensures serves { Serves (F.contents store.new.disk.now) (F.record_count store.new.disk.now)
         (F.words_each store.new.disk.now) (length store.new.tracks.taken.items) }
-    ensures kept { F.faults store.old.disk.now ≤ F.faults store.new.disk.now }
+    ensures faults_grow { F.faults store.old.disk.now ≤ F.faults store.new.disk.now }
     ensures cause { IsErrOf result PortFault.Disk
         → Rose (F.faults store.old.disk.now) (F.faults store.new.disk.now) }
 {

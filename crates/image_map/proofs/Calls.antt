@@ -10,7 +10,7 @@ use Rattle.drum_slots.specs.Slots.{slot_of, first_free}
 use Rattle.image_map.proofs.Moves.{eq_yes, eq_no}
 use Rattle.medium.specs.Medium.{write_call}
 use Rattle.plan_model.specs.Loads.{owner_of}
-use Rattle.image_map.specs.Loads.{Held, dumped, emptied, taken, load_one, fetch_calls, dump_calls, load_to, calls_one, calls_to, with_calls, cut, FailedIn}
+use Rattle.image_map.specs.Loads.{BlockMap, dumped, emptied, taken, load_one, fetch_calls, dump_calls, load_to, calls_one, calls_to, with_calls, cut, FailedIn}
 
 pub with_calls-append : (told : Option CallList) (one two : List Call) → with_calls told (one ++ two) ≡ with_calls (with_calls told one) two
 with_calls-append told [] two = refl
@@ -40,14 +40,14 @@ either_way (Ok x) A B P a b f g = f refl a
 either_way (Err e) A B P a b f g = g b
 
 -- a dump failed
-pub dump_failed : (quotas : List ℕ) (h : Held) (u b : ℕ) (ws : List ℕ) (old new : Option CallList) → owner_of h.owners b ≢ u → owner_of h.owners b ≢ 0
+pub dump_failed : (quotas : List ℕ) (h : BlockMap) (u b : ℕ) (ws : List ℕ) (old new : Option CallList) → owner_of h.owners b ≢ u → owner_of h.owners b ≢ 0
     → new ≡ with_call old (record { is_write = true; at = first_free h.free; failed = true; words = [] }) → FailedIn old new (calls_one quotas h u b ws)
 dump_failed quotas h u b ws old new other some is =
     let e : calls_one quotas h u b ws ≡ write_call (first_free h.free) false ∷ fetch_calls (slot_of (emptied quotas h b).slots (key quotas u b)) ws = rw (eq_no _ _ other, eq_no _ _ some) refl in
     subst (λ (l : List Call). FailedIn old new l) (sym e) (0, (omega arith, is))
 
 -- a read failed
-pub fetch_failed : (quotas : List ℕ) (h : Held) (u b at : ℕ) (ws : List ℕ) (old mid new : Option CallList) → owner_of h.owners b ≢ u
+pub fetch_failed : (quotas : List ℕ) (h : BlockMap) (u b at : ℕ) (ws : List ℕ) (old mid new : Option CallList) → owner_of h.owners b ≢ u
     → mid ≡ with_calls old (dump_calls h b) → slot_of (emptied quotas h b).slots (key quotas u b) ≡ Some at
     → new ≡ with_call mid (record { is_write = false; at = at; failed = true; words = [] }) → FailedIn old new (calls_one quotas h u b ws)
 fetch_failed quotas h u b at ws old mid new other so_far slot is =
@@ -66,7 +66,7 @@ some_from : (o : Option ℕ) → IsSome o → (at : ℕ) × (o ≡ Some at)
 some_from None is = let no : false ≡ true = is in absurd (cc)
 some_from (Some at) is = (at, refl)
 
-pub fetch_failed_from : (quotas : List ℕ) (h : Held) (u b : ℕ) (ws : List ℕ) (old mid new : Option CallList) (hm : Held) (qm : List ℕ) → owner_of h.owners b ≢ u
+pub fetch_failed_from : (quotas : List ℕ) (h : BlockMap) (u b : ℕ) (ws : List ℕ) (old mid new : Option CallList) (hm : BlockMap) (qm : List ℕ) → owner_of h.owners b ≢ u
     → hm ≡ emptied quotas h b → qm ≡ quotas → mid ≡ with_calls old (dump_calls h b) → IsSome (slot_of hm.slots (key qm u b))
     → ((at : ℕ) → slot_of hm.slots (key qm u b) ≡ Some at → new ≡ with_call mid (record { is_write = false; at = at; failed = true; words = [] }))
     → FailedIn old new (calls_one quotas h u b ws)
@@ -75,20 +75,20 @@ fetch_failed_from quotas h u b ws old mid new hm qm other held same so_far kept 
     fetch_failed quotas h u b found.0 ws old mid new other so_far ((λ j. slot_of (sym held j).slots (key (sym same j) u b)) ∙ found.1) (is found.0 found.1)
 
 -- what a dump leaves, where the block has another owner or none
-pub emptied_none : (quotas : List ℕ) (h : Held) (b : ℕ) → owner_of h.owners b ≡ 0 → emptied quotas h b ≡ h
+pub emptied_none : (quotas : List ℕ) (h : BlockMap) (b : ℕ) → owner_of h.owners b ≡ 0 → emptied quotas h b ≡ h
 emptied_none quotas h b is = rw (eq_yes _ _ is) refl
 
-pub emptied_some : (quotas : List ℕ) (h : Held) (b : ℕ) → owner_of h.owners b ≢ 0 → emptied quotas h b ≡ dumped quotas h (owner_of h.owners b) b
+pub emptied_some : (quotas : List ℕ) (h : BlockMap) (b : ℕ) → owner_of h.owners b ≢ 0 → emptied quotas h b ≡ dumped quotas h (owner_of h.owners b) b
 emptied_some quotas h b is = rw (eq_no _ _ is) refl
 
-pub dump_calls_none : (h : Held) (b : ℕ) → owner_of h.owners b ≡ 0 → dump_calls h b ≡ []
+pub dump_calls_none : (h : BlockMap) (b : ℕ) → owner_of h.owners b ≡ 0 → dump_calls h b ≡ []
 dump_calls_none h b is = rw (eq_yes _ _ is) refl
 
-pub dump_calls_some : (h : Held) (b : ℕ) → owner_of h.owners b ≢ 0 → dump_calls h b ≡ write_call (first_free h.free) false ∷ []
+pub dump_calls_some : (h : BlockMap) (b : ℕ) → owner_of h.owners b ≢ 0 → dump_calls h b ≡ write_call (first_free h.free) false ∷ []
 dump_calls_some h b is = rw (eq_no _ _ is) refl
 
 -- the calls of further blocks follow
-pub calls_more : (quotas : List ℕ) (h : Held) (u m n : ℕ) (words : ℕ → List ℕ) → m ≤ n → (rest : List Call) × (calls_to quotas h u n words ≡ calls_to quotas h u m words ++ rest)
+pub calls_more : (quotas : List ℕ) (h : BlockMap) (u m n : ℕ) (words : ℕ → List ℕ) → m ≤ n → (rest : List Call) × (calls_to quotas h u n words ≡ calls_to quotas h u m words ++ rest)
 calls_more quotas h u m zero words le =
     let e : m ≡ 0 = omega arith in
     ([], ap (λ (k : ℕ). calls_to quotas h u k words) (sym e) ∙ sym (append-nil (calls_to quotas h u m words)))
@@ -102,7 +102,7 @@ calls_more quotas h u m (suc n) words le = elim (cases_eq m (suc n)) [
 ]
 
 -- the words of blocks from b on do not matter
-pub calls_same : (quotas : List ℕ) (h : Held) (u b : ℕ) (one two : ℕ → List ℕ) → ((c : ℕ) → c < b → one c ≡ two c) → calls_to quotas h u b one ≡ calls_to quotas h u b two
+pub calls_same : (quotas : List ℕ) (h : BlockMap) (u b : ℕ) (one two : ℕ → List ℕ) → ((c : ℕ) → c < b → one c ≡ two c) → calls_to quotas h u b one ≡ calls_to quotas h u b two
 calls_same quotas h u zero one two same = refl
 calls_same quotas h u (suc b) one two same =
     let front = calls_same quotas h u b one two (λ c below. same c (omega arith)) in
@@ -110,7 +110,7 @@ calls_same quotas h u (suc b) one two same =
     λ i. front i ++ calls_one quotas (load_to quotas h u b) u b (last i)
 
 -- a fault at block b is a fault in the whole list
-pub failed_on : (quotas : List ℕ) (h : Held) (u b n : ℕ) (words : ℕ → List ℕ) (old now new : Option CallList)
+pub failed_on : (quotas : List ℕ) (h : BlockMap) (u b n : ℕ) (words : ℕ → List ℕ) (old now new : Option CallList)
     → b < n → now ≡ with_calls old (calls_to quotas h u b words) → FailedIn now new (calls_one quotas (load_to quotas h u b) u b (words b))
     → FailedIn old new (calls_to quotas h u n words)
 failed_on quotas h u b n words old now new below so_far fault =
@@ -134,12 +134,12 @@ failed_on quotas h u b n words old now new below so_far fault =
     )
 
 -- the calls so far, seen through what they hold now
-so_far_is : (quotas : List ℕ) (h : Held) (u b : ℕ) (one two : ℕ → List ℕ) (old mid : Option CallList)
+so_far_is : (quotas : List ℕ) (h : BlockMap) (u b : ℕ) (one two : ℕ → List ℕ) (old mid : Option CallList)
     → mid ≡ with_calls old (calls_to quotas h u b one) → ((c : ℕ) → c < b → two c ≡ one c) → mid ≡ with_calls old (calls_to quotas h u b two)
 so_far_is quotas h u b one two old mid so_far same = so_far ∙ ap (λ (l : List Call). with_calls old l) (sym (calls_same quotas h u b two one same))
 
 -- one more block was loaded
-pub calls_step : (quotas : List ℕ) (h : Held) (u b : ℕ) (one two : ℕ → List ℕ) (old mid new : Option CallList) (q : List ℕ) (hm : Held)
+pub calls_step : (quotas : List ℕ) (h : BlockMap) (u b : ℕ) (one two : ℕ → List ℕ) (old mid new : Option CallList) (q : List ℕ) (hm : BlockMap)
     → q ≡ quotas → hm ≡ load_to quotas h u b → mid ≡ with_calls old (calls_to quotas h u b one) → ((c : ℕ) → c < b → two c ≡ one c)
     → new ≡ with_calls mid (calls_one q hm u b (two b)) → new ≡ with_calls old (calls_to quotas h u (b + 1) two)
 calls_step quotas h u b one two old mid new q hm same held so_far words is =
@@ -149,7 +149,7 @@ calls_step quotas h u b one two old mid new q hm same held so_far words is =
     ∙ ap (λ (n : ℕ). with_calls old (calls_to quotas h u n two)) (sym (add-one b))
 
 -- the load of one more block failed
-pub failed_step : (quotas : List ℕ) (h : Held) (u b n : ℕ) (one two : ℕ → List ℕ) (old mid new : Option CallList) (q : List ℕ) (hm : Held)
+pub failed_step : (quotas : List ℕ) (h : BlockMap) (u b n : ℕ) (one two : ℕ → List ℕ) (old mid new : Option CallList) (q : List ℕ) (hm : BlockMap)
     → q ≡ quotas → hm ≡ load_to quotas h u b → mid ≡ with_calls old (calls_to quotas h u b one) → ((c : ℕ) → c < b → two c ≡ one c) → b < n
     → FailedIn mid new (calls_one q hm u b (two b)) → FailedIn old new (calls_to quotas h u n two)
 failed_step quotas h u b n one two old mid new q hm same held so_far words below fault =
@@ -159,41 +159,41 @@ failed_step quotas h u b n one two old mid new q hm same held so_far words below
     step : calls_one q hm u b (two b) ≡ calls_one quotas (load_to quotas h u b) u b (two b)
     step = λ j. calls_one (same j) (held j) u b (two b)
 
-taken_owners : (quotas : List ℕ) (h : Held) (u b : ℕ) (o : Option ℕ) → (taken quotas h u b o).owners ≡ slice_set h.owners b u
+taken_owners : (quotas : List ℕ) (h : BlockMap) (u b : ℕ) (o : Option ℕ) → (taken quotas h u b o).owners ≡ slice_set h.owners b u
 taken_owners quotas h u b None = refl
 taken_owners quotas h u b (Some r) = refl
 
-emptied_owners : (quotas : List ℕ) (h : Held) (b c : ℕ) → c ≢ b → owner_of (emptied quotas h b).owners c ≡ owner_of h.owners c
+emptied_owners : (quotas : List ℕ) (h : BlockMap) (b c : ℕ) → c ≢ b → owner_of (emptied quotas h b).owners c ≡ owner_of h.owners c
 emptied_owners quotas h b c other = elim (cases_eq (owner_of h.owners b) 0) [
-  | inl none ↦ ap (λ (k : Held). owner_of k.owners c) (emptied_none quotas h b none)
-  | inr some ↦ ap (λ (k : Held). owner_of k.owners c) (emptied_some quotas h b some) ∙ get_or-set_other h.owners b c 0 0 other
+  | inl none ↦ ap (λ (k : BlockMap). owner_of k.owners c) (emptied_none quotas h b none)
+  | inr some ↦ ap (λ (k : BlockMap). owner_of k.owners c) (emptied_some quotas h b some) ∙ get_or-set_other h.owners b c 0 0 other
 ]
 
-emptied_length : (quotas : List ℕ) (h : Held) (b : ℕ) → length (emptied quotas h b).owners ≡ length h.owners
+emptied_length : (quotas : List ℕ) (h : BlockMap) (b : ℕ) → length (emptied quotas h b).owners ≡ length h.owners
 emptied_length quotas h b = elim (cases_eq (owner_of h.owners b) 0) [
-  | inl none ↦ ap (λ (k : Held). length k.owners) (emptied_none quotas h b none)
-  | inr some ↦ ap (λ (k : Held). length k.owners) (emptied_some quotas h b some) ∙ length-set h.owners b 0
+  | inl none ↦ ap (λ (k : BlockMap). length k.owners) (emptied_none quotas h b none)
+  | inr some ↦ ap (λ (k : BlockMap). length k.owners) (emptied_some quotas h b some) ∙ length-set h.owners b 0
 ]
 
 -- the block is the user's after that
-pub load_one_mine : (quotas : List ℕ) (h : Held) (u b : ℕ) → b < length h.owners → owner_of (load_one quotas h u b).owners b ≡ u
+pub load_one_mine : (quotas : List ℕ) (h : BlockMap) (u b : ℕ) → b < length h.owners → owner_of (load_one quotas h u b).owners b ≡ u
 load_one_mine quotas h u b within = elim (cases_eq (owner_of h.owners b) u) [
-  | inl mine ↦ let e : load_one quotas h u b ≡ h = rw (eq_yes _ _ mine) refl in ap (λ (k : Held). owner_of k.owners b) e ∙ mine
+  | inl mine ↦ let e : load_one quotas h u b ≡ h = rw (eq_yes _ _ mine) refl in ap (λ (k : BlockMap). owner_of k.owners b) e ∙ mine
   | inr other ↦
       let o = slot_of (emptied quotas h b).slots (key quotas u b) in
       let e : load_one quotas h u b ≡ taken quotas (emptied quotas h b) u b o = rw (eq_no _ _ other) refl in
       let inside : b < length (emptied quotas h b).owners = omega (arith, emptied_length quotas h b) in
-      ap (λ (k : Held). owner_of k.owners b) e ∙ ap (λ (l : List ℕ). owner_of l b) (taken_owners quotas (emptied quotas h b) u b o) ∙ get_or-set_same (emptied quotas h b).owners b u 0 inside
+      ap (λ (k : BlockMap). owner_of k.owners b) e ∙ ap (λ (l : List ℕ). owner_of l b) (taken_owners quotas (emptied quotas h b) u b o) ∙ get_or-set_same (emptied quotas h b).owners b u 0 inside
 ]
 
 -- the other blocks keep their owners
-pub load_one_other : (quotas : List ℕ) (h : Held) (u b c : ℕ) → c ≢ b → owner_of (load_one quotas h u b).owners c ≡ owner_of h.owners c
+pub load_one_other : (quotas : List ℕ) (h : BlockMap) (u b c : ℕ) → c ≢ b → owner_of (load_one quotas h u b).owners c ≡ owner_of h.owners c
 load_one_other quotas h u b c away = elim (cases_eq (owner_of h.owners b) u) [
-  | inl mine ↦ let e : load_one quotas h u b ≡ h = rw (eq_yes _ _ mine) refl in ap (λ (k : Held). owner_of k.owners c) e
+  | inl mine ↦ let e : load_one quotas h u b ≡ h = rw (eq_yes _ _ mine) refl in ap (λ (k : BlockMap). owner_of k.owners c) e
   | inr other ↦
       let o = slot_of (emptied quotas h b).slots (key quotas u b) in
       let e : load_one quotas h u b ≡ taken quotas (emptied quotas h b) u b o = rw (eq_no _ _ other) refl in
-      ap (λ (k : Held). owner_of k.owners c) e ∙ ap (λ (l : List ℕ). owner_of l c) (taken_owners quotas (emptied quotas h b) u b o)
+      ap (λ (k : BlockMap). owner_of k.owners c) e ∙ ap (λ (l : List ℕ). owner_of l c) (taken_owners quotas (emptied quotas h b) u b o)
       ∙ get_or-set_other (emptied quotas h b).owners b c u 0 away ∙ emptied_owners quotas h b c away
 ]
 

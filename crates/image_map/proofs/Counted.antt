@@ -10,7 +10,7 @@ use Rattle.drum_slots.proofs.Keys.{key_other_user}
 use Rattle.plan_model.specs.Loads.{owner_of, count_below, is_dumped, is_read}
 use Rattle.drum_slots.specs.declared.slots.Slots.{Slots}
 use Rattle.image_map.specs.Images.{size_of, IsImage}
-use Rattle.image_map.specs.Loads.{Held, held_of, emptied, load_to, fetch_calls, dump_calls, calls_one, calls_to, count_writes, count_reads}
+use Rattle.image_map.specs.Loads.{BlockMap, block_map_of, emptied, load_to, fetch_calls, dump_calls, calls_one, calls_to, count_writes, count_reads}
 use Rattle.image_map.specs.Places.{is_some, is_kept, places_of}
 use Rattle.image_map.proofs.Moves.{eq_yes, eq_no}
 use Rattle.image_map.proofs.AsWas.{owner_as_was, owned_fits, emptied_slot, slot_as_was}
@@ -27,14 +27,14 @@ read_counts : (o : Option ℕ) (ws : List ℕ) → (count_writes (fetch_calls o 
 read_counts None ws = (refl, refl)
 read_counts (Some r) ws = (refl, refl)
 
-dump_counts : (h : Held) (b : ℕ) → (count_writes (dump_calls h b) ≡ (if nat_eq (owner_of h.owners b) 0 then 0 else 1)) × (count_reads (dump_calls h b) ≡ 0)
+dump_counts : (h : BlockMap) (b : ℕ) → (count_writes (dump_calls h b) ≡ (if nat_eq (owner_of h.owners b) 0 then 0 else 1)) × (count_reads (dump_calls h b) ≡ 0)
 dump_counts h b = elim (cases_eq (owner_of h.owners b) 0) [
   | inl none ↦ rw (eq_yes _ _ none) (refl, refl)
   | inr some ↦ rw (eq_no _ _ some) (refl, refl)
 ]
 
 -- the calls for one block that is not the user's own
-one_counts : (quotas : List ℕ) (h : Held) (u b : ℕ) (ws : List ℕ) (o : Option ℕ) → owner_of h.owners b ≢ u → slot_of (emptied quotas h b).slots (key quotas u b) ≡ o
+one_counts : (quotas : List ℕ) (h : BlockMap) (u b : ℕ) (ws : List ℕ) (o : Option ℕ) → owner_of h.owners b ≢ u → slot_of (emptied quotas h b).slots (key quotas u b) ≡ o
     → (count_writes (calls_one quotas h u b ws) ≡ (if not (nat_eq (owner_of h.owners b) 0) then 1 else 0)) × (count_reads (calls_one quotas h u b ws) ≡ (if is_some o then 1 else 0))
 one_counts quotas h u b ws o other slot =
     let step = dump_calls h b ++ fetch_calls (slot_of (emptied quotas h b).slots (key quotas u b)) ws in
@@ -52,7 +52,7 @@ one_counts quotas h u b ws o other slot =
     flip false = refl
 
 -- the calls of a load, counted by owners and copies as they were
-counts : (quotas sizes : List ℕ) (h : Held) (u n : ℕ) (words : ℕ → List ℕ) → IsImage h.owners h.slots quotas sizes → n ≤ size_of sizes u
+counts : (quotas sizes : List ℕ) (h : BlockMap) (u n : ℕ) (words : ℕ → List ℕ) → IsImage h.owners h.slots quotas sizes → n ≤ size_of sizes u
     → (count_writes (calls_to quotas h u n words) ≡ count_below n (λ b. not (nat_eq (owner_of h.owners b) u) && not (nat_eq (owner_of h.owners b) 0)))
     × (count_reads (calls_to quotas h u n words) ≡ count_below n (λ b. not (nat_eq (owner_of h.owners b) u) && is_kept h.slots quotas u b))
 counts quotas sizes h u zero words i within = (refl, refl)
@@ -98,7 +98,7 @@ counts quotas sizes h u (suc n) words i within =
 
 -- a load of a user's blocks makes so many writes and so many reads
 pub load_counts : (owners : List ℕ) (s : Slots) (sizes : List ℕ) (u n : ℕ) (words : ℕ → List ℕ) → IsImage owners s.slots.items s.quotas.items sizes → n ≤ size_of sizes u
-    → (count_writes (calls_to s.quotas.items (held_of owners s) u n words) ≡ count_below n (is_dumped (places_of owners s) u))
-    × (count_reads (calls_to s.quotas.items (held_of owners s) u n words) ≡ count_below n (is_read (places_of owners s) u))
+    → (count_writes (calls_to s.quotas.items (block_map_of owners s) u n words) ≡ count_below n (is_dumped (places_of owners s) u))
+    × (count_reads (calls_to s.quotas.items (block_map_of owners s) u n words) ≡ count_below n (is_read (places_of owners s) u))
 unfolding places_of
-load_counts owners s sizes u n words i within = counts s.quotas.items sizes (held_of owners s) u n words i within
+load_counts owners s sizes u n words i within = counts s.quotas.items sizes (block_map_of owners s) u n words i within

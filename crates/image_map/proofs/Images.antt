@@ -30,15 +30,15 @@ core_moves owners owners' slots slots' blocks blocks' quotas sizes (Some all) cs
     ap (λ (o : Option (List (Option (List ℕ)))). image_over blocks' owners' o quotas (size_of sizes u) u) e
     ∙ ap (λ (l : List (List ℕ)). Some l) (first_same (size_of sizes u) _ _ (λ c below. same u c some (omega (arith, i.fits u))))
 
-copies_length : (rows : Option (List (List ℕ))) (slots : List (Option ℕ)) (all : List (Option (List ℕ))) → copies rows slots ≡ Some all → length all ≡ length slots
+copies_length : (contents : Option (List (List ℕ))) (slots : List (Option ℕ)) (all : List (Option (List ℕ))) → copies contents slots ≡ Some all → length all ≡ length slots
 copies_length None slots all is = cc
-copies_length (Some rows) slots all is = let e : map (words_of rows) slots ≡ all = cc in ap (λ (l : List (Option (List ℕ))). length l) (sym e) ∙ length-map slots (words_of rows)
+copies_length (Some contents) slots all is = let e : map (words_of contents) slots ≡ all = cc in ap (λ (l : List (Option (List ℕ))). length l) (sym e) ∙ length-map slots (words_of contents)
 
-copy_none : (rows : Option (List (List ℕ))) (slots : List (Option ℕ)) (all : List (Option (List ℕ))) (k : ℕ) → copies rows slots ≡ Some all → slot_of slots k ≡ None → copy_of all k ≡ None
+copy_none : (contents : Option (List (List ℕ))) (slots : List (Option ℕ)) (all : List (Option (List ℕ))) (k : ℕ) → copies contents slots ≡ Some all → slot_of slots k ≡ None → copy_of all k ≡ None
 copy_none None slots all k is none = cc
-copy_none (Some rows) slots all k is none =
-    let e : map (words_of rows) slots ≡ all = cc in
-    ap (λ (l : List (Option (List ℕ))). copy_of l k) (sym e) ∙ get_or-map (words_of rows) slots k None ∙ ap (words_of rows) none
+copy_none (Some contents) slots all k is none =
+    let e : map (words_of contents) slots ≡ all = cc in
+    ap (λ (l : List (Option (List ℕ))). copy_of l k) (sym e) ∙ get_or-map (words_of contents) slots k None ∙ ap (words_of contents) none
 
 -- out to the drum
 pub moves_dump : (owners : List ℕ) (slots : List (Option ℕ)) (quotas : List ℕ) (v b r : ℕ) → 1 ≤ v → b < length owners → owner_of owners b ≡ v
@@ -54,14 +54,14 @@ moves_dump owners slots quotas v b r some within is =
       own = λ e. absurd (omega arith);
     }
 
-pub dump_view : (rows : Option (List (List ℕ))) (owners : List ℕ) (slots : List (Option ℕ)) (blocks : ℕ → List ℕ) (quotas : List ℕ) (v b : ℕ) (ws : List ℕ)
+pub dump_view : (contents : Option (List (List ℕ))) (owners : List ℕ) (slots : List (Option ℕ)) (blocks : ℕ → List ℕ) (quotas : List ℕ) (v b : ℕ) (ws : List ℕ)
     → 1 ≤ v → b < length owners → owner_of owners b ≡ v → key quotas v b < length slots → ws ≡ blocks b
-    → (all : List (Option (List ℕ))) → copies rows slots ≡ Some all
+    → (all : List (Option (List ℕ))) → copies contents slots ≡ Some all
     → view blocks (slice_set owners b 0) (slice_set all (key quotas v b) (Some ws)) quotas v b ≡ view blocks owners all quotas v b
-dump_view rows owners slots blocks quotas v b ws some within is inside words all told =
+dump_view contents owners slots blocks quotas v b ws some within is inside words all told =
     let now : owner_of (slice_set owners b 0) b ≡ 0 = get_or-set_same owners b 0 0 within in
     let other : owner_of (slice_set owners b 0) b ≢ v = λ e. absurd (omega arith) in
-    let len = copies_length rows slots all told in
+    let len = copies_length contents slots all told in
     let place : key quotas v b < length all = omega arith in
     let copy = get_or-set_same all (key quotas v b) (Some ws) None place in
     rw (eq_no _ _ other, eq_yes _ _ is) (ap or_blank copy ∙ words)
@@ -98,12 +98,12 @@ read_words (Some one) k ws has all told =
     sym (ap (λ (l : List (Option (List ℕ))). or_blank (copy_of l k)) (sym e) ∙ ap or_blank has)
 
 -- a block of which no copy is kept is blank
-pub fresh_words : (rows : Option (List (List ℕ))) (slots : List (Option ℕ)) (k : ℕ) (ws : List ℕ) → slot_of slots k ≡ None → ws ≡ blank
-    → (all : List (Option (List ℕ))) → copies rows slots ≡ Some all → ws ≡ or_blank (copy_of all k)
-fresh_words rows slots k ws none is all told = is ∙ sym (ap or_blank (copy_none rows slots all k told none))
+pub fresh_words : (contents : Option (List (List ℕ))) (slots : List (Option ℕ)) (k : ℕ) (ws : List ℕ) → slot_of slots k ≡ None → ws ≡ blank
+    → (all : List (Option (List ℕ))) → copies contents slots ≡ Some all → ws ≡ or_blank (copy_of all k)
+fresh_words contents slots k ws none is all told = is ∙ sym (ap or_blank (copy_none contents slots all k told none))
 
 pub set_none : (slots : List (Option ℕ)) (k : ℕ) → slot_of slots k ≡ None → slice_set slots k None ≡ slots
 set_none slots k none = ap (λ (o : Option ℕ). slice_set slots k o) (sym none) ∙ set-get_or slots k None
 
-pub fresh_copies : (rows : Option (List (List ℕ))) (slots : List (Option ℕ)) (k : ℕ) → slot_of slots k ≡ None → copies rows slots ≡ with_copy (copies rows slots) k None
-fresh_copies rows slots k none = sym (ap (copies rows) (set_none slots k none)) ∙ copies_drop rows slots k
+pub fresh_copies : (contents : Option (List (List ℕ))) (slots : List (Option ℕ)) (k : ℕ) → slot_of slots k ≡ None → copies contents slots ≡ with_copy (copies contents slots) k None
+fresh_copies contents slots k none = sym (ap (copies contents) (set_none slots k none)) ∙ copies_drop contents slots k

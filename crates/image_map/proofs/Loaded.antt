@@ -11,7 +11,7 @@ use Rattle.drum_slots.proofs.Keys.{key_other_user, key_below}
 use Rattle.drum_slots.proofs.Slotted.{slot_below}
 use Rattle.plan_model.specs.Loads.{Places, owner_of, loaded, given_up}
 use Rattle.image_map.specs.Images.{IsImage, IsResident}
-use Rattle.image_map.specs.Loads.{Held, held_of, taken, emptied, load_one, load_to}
+use Rattle.image_map.specs.Loads.{BlockMap, block_map_of, taken, emptied, load_one, load_to}
 use Rattle.image_map.specs.Places.{is_some, is_kept, places_of}
 use Rattle.image_map.proofs.Moves.{eq_yes, eq_no}
 use Rattle.image_map.proofs.Calls.{emptied_some}
@@ -81,31 +81,31 @@ none_there : (slots : List (Option ℕ)) (k r : ℕ) → slot_of slots k ≡ Som
 none_there slots k r is = get_or-set_same slots k None None (slot_below slots k r is)
 
 -- one step of a load, at a block that isn't the user's own: no copy of the user's block is kept behind it
-one_mine : (quotas : List ℕ) (h : Held) (u b : ℕ) → owner_of h.owners b ≢ u → slot_of (load_one quotas h u b).slots (key quotas u b) ≡ None
+one_mine : (quotas : List ℕ) (h : BlockMap) (u b : ℕ) → owner_of h.owners b ≢ u → slot_of (load_one quotas h u b).slots (key quotas u b) ≡ None
 one_mine quotas h u b other =
     let o = slot_of (emptied quotas h b).slots (key quotas u b) in
     let e : load_one quotas h u b ≡ taken quotas (emptied quotas h b) u b o = rw (eq_no _ _ other) refl in
-    ap (λ (i : Held). slot_of i.slots (key quotas u b)) e ∙ gone (emptied quotas h b) o refl
+    ap (λ (i : BlockMap). slot_of i.slots (key quotas u b)) e ∙ gone (emptied quotas h b) o refl
   where
-    gone : (k : Held) (o : Option ℕ) → slot_of k.slots (key quotas u b) ≡ o → slot_of (taken quotas k u b o).slots (key quotas u b) ≡ None
+    gone : (k : BlockMap) (o : Option ℕ) → slot_of k.slots (key quotas u b) ≡ o → slot_of (taken quotas k u b o).slots (key quotas u b) ≡ None
     gone k None is = is
     gone k (Some r) is = none_there k.slots (key quotas u b) r is
 
 -- a copy of its owner's block is kept
-one_theirs : (quotas : List ℕ) (h : Held) (u b : ℕ) → owner_of h.owners b ≢ u → owner_of h.owners b ≢ 0
+one_theirs : (quotas : List ℕ) (h : BlockMap) (u b : ℕ) → owner_of h.owners b ≢ u → owner_of h.owners b ≢ 0
     → key quotas (owner_of h.owners b) b < length h.slots → key quotas (owner_of h.owners b) b ≢ key quotas u b
     → slot_of (load_one quotas h u b).slots (key quotas (owner_of h.owners b) b) ≡ Some (first_free h.free)
 one_theirs quotas h u b other some inside apart =
     let k = key quotas (owner_of h.owners b) b in
     let o = slot_of (emptied quotas h b).slots (key quotas u b) in
     let e : load_one quotas h u b ≡ taken quotas (emptied quotas h b) u b o = rw (eq_no _ _ other) refl in
-    ap (λ (i : Held). slot_of i.slots k) e
+    ap (λ (i : BlockMap). slot_of i.slots k) e
     ∙ taken_slot quotas (emptied quotas h b) u b k o apart
-    ∙ ap (λ (i : Held). slot_of i.slots k) (emptied_some quotas h b some)
+    ∙ ap (λ (i : BlockMap). slot_of i.slots k) (emptied_some quotas h b some)
     ∙ get_or-set_same h.slots k (Some (first_free h.free)) None inside
 
 -- the same, of a load up to the block's end
-kept_here : (quotas sizes : List ℕ) (h : Held) (u v b : ℕ) → IsImage h.owners h.slots quotas sizes → length h.slots ≡ sum quotas → suc b ≤ quota_of quotas u → b < quota_of quotas v
+kept_here : (quotas sizes : List ℕ) (h : BlockMap) (u v b : ℕ) → IsImage h.owners h.slots quotas sizes → length h.slots ≡ sum quotas → suc b ≤ quota_of quotas u → b < quota_of quotas v
     → is_some (slot_of (load_to quotas h u (suc b)).slots (key quotas v b))
     ≡ after_load true (nat_eq (owner_of h.owners b) u) (nat_eq (owner_of h.owners b) 0) (nat_eq (owner_of h.owners b) v) (nat_eq v u)
     (is_some (slot_of h.slots (key quotas v b))) (is_some (slot_of h.slots (key quotas u b)))
@@ -119,7 +119,7 @@ kept_here quotas sizes h u v b i places all fits =
     elim (cases_eq (owner_of h.owners b) u) [
       | inl own ↦
           let e : load_one quotas now u b ≡ now = rw (eq_yes _ _ (same ∙ own)) refl in
-          rw (eq_yes _ _ own) (ap (λ (j : Held). is_some (slot_of j.slots (key quotas v b))) e ∙ ap is_some slot ∙ sym (owned (nat_eq (owner_of h.owners b) 0) (nat_eq (owner_of h.owners b) v) (nat_eq v u) (is_some (slot_of h.slots (key quotas v b))) (is_some (slot_of h.slots (key quotas u b)))))
+          rw (eq_yes _ _ own) (ap (λ (j : BlockMap). is_some (slot_of j.slots (key quotas v b))) e ∙ ap is_some slot ∙ sym (owned (nat_eq (owner_of h.owners b) 0) (nat_eq (owner_of h.owners b) v) (nat_eq v u) (is_some (slot_of h.slots (key quotas v b))) (is_some (slot_of h.slots (key quotas u b)))))
       | inr other ↦ elim (cases_eq v u) [
         | inl me ↦
             let none : slot_of (load_one quotas now u b).slots (key quotas v b) ≡ None =
@@ -167,7 +167,7 @@ unasked true false false me mine = refl
 unasked false own none me mine = refl
 
 -- whether a copy is kept behind a load of n blocks
-kept_loaded : (quotas sizes : List ℕ) (h : Held) (u n v b : ℕ) → IsImage h.owners h.slots quotas sizes → length h.slots ≡ sum quotas → n ≤ quota_of quotas u
+kept_loaded : (quotas sizes : List ℕ) (h : BlockMap) (u n v b : ℕ) → IsImage h.owners h.slots quotas sizes → length h.slots ≡ sum quotas → n ≤ quota_of quotas u
     → is_kept (load_to quotas h u n).slots quotas v b
     ≡ after_load (nat_lt b n) (nat_eq (owner_of h.owners b) u) (nat_eq (owner_of h.owners b) 0) (nat_eq (owner_of h.owners b) v) (nat_eq v u)
     (is_kept h.slots quotas v b) (is_kept h.slots quotas u b)
@@ -194,15 +194,15 @@ kept_loaded quotas sizes h u n v b i places all = elim (below_or b (quota_of quo
 
 -- owners and kept copies behind a load
 pub places_loaded : (owners owners' : List ℕ) (s s' : Slots) (sizes : List ℕ) (u n : ℕ) → IsImage owners s.slots.items s.quotas.items sizes → length s.slots.items ≡ sum s.quotas.items
-    → s'.quotas ≡ s.quotas → held_of owners' s' ≡ load_to s.quotas.items (held_of owners s) u n → IsResident owners' n u → n ≤ quota_of s.quotas.items u
+    → s'.quotas ≡ s.quotas → block_map_of owners' s' ≡ load_to s.quotas.items (block_map_of owners s) u n → IsResident owners' n u → n ≤ quota_of s.quotas.items u
     → places_of owners' s' ≡ loaded (places_of owners s) u n
 unfolding places_of
 places_loaded owners owners' s s' sizes u n i places same held mine all =
-    let h : Held = held_of owners s in
+    let h : BlockMap = block_map_of owners s in
     let quotas = s.quotas.items in
-    let len : length owners' ≡ length owners = ap (λ (k : Held). length k.owners) held ∙ (load_lengths quotas h u n).0 in
+    let len : length owners' ≡ length owners = ap (λ (k : BlockMap). length k.owners) held ∙ (load_lengths quotas h u n).0 in
     let inside : n ≤ length owners = omega (arith, i.blocks, i.limit u) in
-    let eo = owners_loaded n owners' owners u len inside mine (λ b above. ap (λ (k : Held). owner_of k.owners b) held ∙ owner_as_was quotas h u n b above) in
+    let eo = owners_loaded n owners' owners u len inside mine (λ b above. ap (λ (k : BlockMap). owner_of k.owners b) held ∙ owner_as_was quotas h u n b above) in
     let ek : (v b : ℕ) → is_kept s'.slots.items s'.quotas.items v b
     ≡ after_load (nat_lt b n) (nat_eq (owner_of owners b) u) (nat_eq (owner_of owners b) 0) (nat_eq (owner_of owners b) v) (nat_eq v u) (is_kept s.slots.items quotas v b) (is_kept s.slots.items quotas u b)
     = λ v b. (λ j. is_kept (held j).slots (same j).items v b) ∙ kept_loaded quotas sizes h u n v b i places all in

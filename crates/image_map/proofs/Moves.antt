@@ -131,17 +131,6 @@ sound_new owners slots quotas sizes len none free small few limit = record {
     owner : (b : ℕ) → owner_of owners b ≡ 0
     owner b = ap (λ (l : List ℕ). owner_of l b) none ∙ none_in 128 b
 
--- quotas that are each at most 128
-pub limit_all : (qs : List ℕ) → All (λ q. q ≤ 128) qs → (u : ℕ) → quota_of (0 ∷ qs) u ≤ 128
-limit_all qs all zero = omega arith
-limit_all qs all (suc u) = elim (either_side u (length qs)) [
-  | inl inside ↦ all u 0 inside
-  | inr past ↦ let none = zero_past qs u past in omega arith
-]
-  where
-    either_side : (m n : ℕ) → (m < n) ⊎ (n ≤ m)
-    either_side m n = grind arith
-
     zero_past : (l : List ℕ) (b : ℕ) → length l ≤ b → slice_index_or l b 0 ≡ 0
     zero_past [] b past = refl
     zero_past (x ∷ l) zero past = absurd (omega arith)

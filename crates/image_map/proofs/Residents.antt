@@ -13,10 +13,10 @@ use Rattle.image_map.proofs.Moves.{eq_yes, eq_no, first_same}
 use Rattle.image_map.proofs.Counts.{count_none, count_some}
 
 -- the image of a resident user is what stands in core
-pub image_resident : (bank : List ℕ) (rows : Option (List (List ℕ))) (owners : List ℕ) (s : Slots) (sizes : List ℕ) (u : ℕ) → IsResident owners (size_of sizes u) u
-    → image_in bank rows owners s sizes u ≡ where_told rows (first (size_of sizes u) (block_at bank))
+pub image_resident : (bank : List ℕ) (contents : Option (List (List ℕ))) (owners : List ℕ) (s : Slots) (sizes : List ℕ) (u : ℕ) → IsResident owners (size_of sizes u) u
+    → image_in bank contents owners s sizes u ≡ where_told contents (first (size_of sizes u) (block_at bank))
 image_resident bank None owners s sizes u mine = refl
-image_resident bank (Some rows) owners s sizes u mine =
+image_resident bank (Some contents) owners s sizes u mine =
     ap (λ (l : List (List ℕ)). Some l) (first_same (size_of sizes u) _ _ (λ b below. rw (eq_yes _ _ (mine b below)) refl))
 
 -- blocks behind the first n are as they were where nothing else of core changed
@@ -29,11 +29,11 @@ blocks_behind bank bank' n b same above =
     ∙ drop-drop (256 * b - 256 * n) (256 * n) bank ∙ ap (λ (m : ℕ). drop m bank) (sym e))
 
 -- while a resident user works in its blocks, the others' images stay
-pub image_stays : (bank bank' : List ℕ) (rows : Option (List (List ℕ))) (owners : List ℕ) (s : Slots) (sizes : List ℕ) (u v : ℕ) → IsResident owners (size_of sizes u) u
+pub image_stays : (bank bank' : List ℕ) (contents : Option (List (List ℕ))) (owners : List ℕ) (s : Slots) (sizes : List ℕ) (u v : ℕ) → IsResident owners (size_of sizes u) u
     → drop (256 * size_of sizes u) bank' ≡ drop (256 * size_of sizes u) bank → v ≢ u
-    → image_in bank' rows owners s sizes v ≡ image_in bank rows owners s sizes v
+    → image_in bank' contents owners s sizes v ≡ image_in bank contents owners s sizes v
 image_stays bank bank' None owners s sizes u v mine same other = refl
-image_stays bank bank' (Some rows) owners s sizes u v mine same other =
+image_stays bank bank' (Some contents) owners s sizes u v mine same other =
     ap (λ (l : List (List ℕ)). Some l) (first_same (size_of sizes v) _ _ (λ b less. elim (cases_eq (owner_of owners b) v) [
       | inl theirs ↦
           let past : size_of sizes u ≤ b = elim (below_or b (size_of sizes u)) [

@@ -51,67 +51,17 @@ size_mine sizes x m within = get_or-set_same sizes x m 0 within
 size_other : (sizes : List ℕ) (x m u : ℕ) → u ≢ x → size_of (slice_set sizes x m) u ≡ size_of sizes u
 size_other sizes x m u other = get_or-set_other sizes x u m 0 other
 
-pub sound_resize : (owners owners' : List ℕ) (slots slots' : List (Option ℕ)) (quotas sizes : List ℕ) (x m : ℕ)
-    → IsImage owners slots quotas sizes → GivesUp owners owners' slots slots' quotas x m → x < length sizes → m ≤ quota_of quotas x
-    → IsImage owners' slots' quotas (slice_set sizes x m)
-sound_resize owners owners' slots slots' quotas sizes x m i g within fits_m = record {
-  blocks = g.len ∙ i.blocks;
-  users = length-set sizes x m ∙ i.users;
-  limit = i.limit;
-  few = i.few;
-  fits = λ u. elim (cases_eq u x) [
-    | inl me ↦ let e : size_of (slice_set sizes x m) u ≡ m = ap (λ (n : ℕ). size_of (slice_set sizes x m) n) me ∙ size_mine sizes x m within in
-        let f : quota_of quotas u ≡ quota_of quotas x = ap (λ (n : ℕ). quota_of quotas n) me in omega arith
-    | inr them ↦ omega (arith, size_other sizes x m u them, i.fits u)
-  ];
-  owned = λ u b some is. elim (cases_eq u x) [
-    | inl me ↦
-        let e : size_of (slice_set sizes x m) u ≡ m = ap (λ (n : ℕ). size_of (slice_set sizes x m) n) me ∙ size_mine sizes x m within in
-        let before = was owners owners' slots slots' quotas x m b u g some is in
-        elim (below_or b m) [
-          | inl under ↦ omega arith
-          | inr over ↦ let none = g.owner_gone b over (before ∙ me) in absurd (omega arith)
-        ]
-    | inr them ↦ omega (arith, size_other sizes x m u them, i.owned u b some (was owners owners' slots slots' quotas x m b u g some is))
-  ];
-  kept = λ u b r fits is. elim (cases_eq u x) [
-    | inl me ↦
-        let e : size_of (slice_set sizes x m) u ≡ m = ap (λ (n : ℕ). size_of (slice_set sizes x m) n) me ∙ size_mine sizes x m within in
-        elim (below_or b m) [
-          | inl under ↦ omega arith
-          | inr over ↦
-              let f : b < quota_of quotas x = subst (λ (n : ℕ). b < quota_of quotas n) me fits in
-              let none = (λ j. slot_of slots' (key quotas (me j) b)) ∙ g.slot_gone b over f in
-              let no : None ≡ Some r = sym none ∙ is in absurd (cc)
-        ]
-    | inr them ↦ omega (arith, size_other sizes x m u them, i.kept u b r fits (sym (stays owners owners' slots slots' quotas x m b u g fits (inl them)) ∙ is))
-  ];
-  apart = λ u b some is.
-      let before = was owners owners' slots slots' quotas x m b u g some is in
-      let size = i.owned u b some before in
-      let fits : b < quota_of quotas u = omega (arith, i.fits u) in
-      elim (cases_eq u x) [
-        | inl me ↦ elim (below_or b m) [
-          | inl under ↦ stays owners owners' slots slots' quotas x m b u g fits (inr under) ∙ i.apart u b some before
-          | inr over ↦
-              let f : b < quota_of quotas x = subst (λ (n : ℕ). b < quota_of quotas n) me fits in
-              (λ j. slot_of slots' (key quotas (me j) b)) ∙ g.slot_gone b over f
-        ]
-        | inr them ↦ stays owners owners' slots slots' quotas x m b u g fits (inl them) ∙ i.apart u b some before
-      ];
-}
-
 -- the words of a copy, where records are told
-copy_at : (rows : List (List ℕ)) (slots : List (Option ℕ)) (k : ℕ) → copy_of (map (words_of rows) slots) k ≡ words_of rows (slot_of slots k)
-copy_at rows slots k = get_or-map (words_of rows) slots k None
+copy_at : (contents : List (List ℕ)) (slots : List (Option ℕ)) (k : ℕ) → copy_of (map (words_of contents) slots) k ≡ words_of contents (slot_of slots k)
+copy_at contents slots k = get_or-map (words_of contents) slots k None
 
-view_stays : (owners owners' : List ℕ) (slots slots' : List (Option ℕ)) (quotas : List ℕ) (x m : ℕ) (blocks : ℕ → List ℕ) (rows : List (List ℕ)) (u b : ℕ)
+view_stays : (owners owners' : List ℕ) (slots slots' : List (Option ℕ)) (quotas : List ℕ) (x m : ℕ) (blocks : ℕ → List ℕ) (contents : List (List ℕ)) (u b : ℕ)
     → GivesUp owners owners' slots slots' quotas x m → 1 ≤ u → b < quota_of quotas u → (u ≢ x) ⊎ (b < m)
-    → view blocks owners' (map (words_of rows) slots') quotas u b ≡ view blocks owners (map (words_of rows) slots) quotas u b
-view_stays owners owners' slots slots' quotas x m blocks rows u b g some fits either =
+    → view blocks owners' (map (words_of contents) slots') quotas u b ≡ view blocks owners (map (words_of contents) slots) quotas u b
+view_stays owners owners' slots slots' quotas x m blocks contents u b g some fits either =
     let slot = stays owners owners' slots slots' quotas x m b u g fits either in
-    let copy : copy_of (map (words_of rows) slots') (key quotas u b) ≡ copy_of (map (words_of rows) slots) (key quotas u b) =
-    copy_at rows slots' (key quotas u b) ∙ ap (words_of rows) slot ∙ sym (copy_at rows slots (key quotas u b)) in
+    let copy : copy_of (map (words_of contents) slots') (key quotas u b) ≡ copy_of (map (words_of contents) slots) (key quotas u b) =
+    copy_at contents slots' (key quotas u b) ∙ ap (words_of contents) slot ∙ sym (copy_at contents slots (key quotas u b)) in
     elim (cases_eq (owner_of owners b) u) [
       | inl mine ↦
           let now : owner_of owners' b ≡ u = elim either [
@@ -125,14 +75,14 @@ view_stays owners owners' slots slots' quotas x m blocks rows u b g some fits ei
     ]
 
 -- others' cores stay
-pub core_stays : (owners owners' : List ℕ) (slots slots' : List (Option ℕ)) (quotas sizes : List ℕ) (x m : ℕ) (blocks : ℕ → List ℕ) (rows : Option (List (List ℕ))) (u : ℕ)
+pub core_stays : (owners owners' : List ℕ) (slots slots' : List (Option ℕ)) (quotas sizes : List ℕ) (x m : ℕ) (blocks : ℕ → List ℕ) (contents : Option (List (List ℕ))) (u : ℕ)
     → GivesUp owners owners' slots slots' quotas x m → IsImage owners slots quotas sizes → 1 ≤ u → u ≢ x
-    → image_over blocks owners' (copies rows slots') quotas (size_of (slice_set sizes x m) u) u ≡ image_over blocks owners (copies rows slots) quotas (size_of sizes u) u
+    → image_over blocks owners' (copies contents slots') quotas (size_of (slice_set sizes x m) u) u ≡ image_over blocks owners (copies contents slots) quotas (size_of sizes u) u
 core_stays owners owners' slots slots' quotas sizes x m blocks None u g i some them = refl
-core_stays owners owners' slots slots' quotas sizes x m blocks (Some rows) u g i some them =
-    ap (λ (n : ℕ). image_over blocks owners' (copies (Some rows) slots') quotas n u) (size_other sizes x m u them)
+core_stays owners owners' slots slots' quotas sizes x m blocks (Some contents) u g i some them =
+    ap (λ (n : ℕ). image_over blocks owners' (copies (Some contents) slots') quotas n u) (size_other sizes x m u them)
     ∙ ap (λ (l : List (List ℕ)). Some l) (first_same (size_of sizes u) _ _ (λ b below.
-    view_stays owners owners' slots slots' quotas x m blocks rows u b g some (omega (arith, i.fits u)) (inl them)))
+    view_stays owners owners' slots slots' quotas x m blocks contents u b g some (omega (arith, i.fits u)) (inl them)))
 
 length_first : (n : ℕ) (f : ℕ → List ℕ) → length (first n f) ≡ n
 length_first zero f = refl
@@ -177,18 +127,18 @@ none_from None never = refl
 none_from (Some r) never = absurd (never r refl)
 
 -- the user's own core is cut, or extended by plus zeros
-pub core_resized : (owners owners' : List ℕ) (slots slots' : List (Option ℕ)) (quotas sizes : List ℕ) (x m : ℕ) (blocks : ℕ → List ℕ) (rows : Option (List (List ℕ)))
+pub core_resized : (owners owners' : List ℕ) (slots slots' : List (Option ℕ)) (quotas sizes : List ℕ) (x m : ℕ) (blocks : ℕ → List ℕ) (contents : Option (List (List ℕ)))
     → GivesUp owners owners' slots slots' quotas x m → IsImage owners slots quotas sizes → 1 ≤ x → x < length sizes → m ≤ quota_of quotas x
-    → image_over blocks owners' (copies rows slots') quotas (size_of (slice_set sizes x m) x) x
-    ≡ resized (size_of sizes x) m (image_over blocks owners (copies rows slots) quotas (size_of sizes x) x)
+    → image_over blocks owners' (copies contents slots') quotas (size_of (slice_set sizes x m) x) x
+    ≡ resized (size_of sizes x) m (image_over blocks owners (copies contents slots) quotas (size_of sizes x) x)
 core_resized owners owners' slots slots' quotas sizes x m blocks None g i some within fits = refl
-core_resized owners owners' slots slots' quotas sizes x m blocks (Some rows) g i some within fits =
-    ap (λ (n : ℕ). image_over blocks owners' (copies (Some rows) slots') quotas n x) (size_mine sizes x m within)
+core_resized owners owners' slots slots' quotas sizes x m blocks (Some contents) g i some within fits =
+    ap (λ (n : ℕ). image_over blocks owners' (copies (Some contents) slots') quotas n x) (size_mine sizes x m within)
     ∙ ap (λ (l : List (List ℕ)). Some l) (first_resize (size_of sizes x) m _ _
-    (λ b under inside. view_stays owners owners' slots slots' quotas x m blocks rows x b g some (omega arith) (inr under))
+    (λ b under inside. view_stays owners owners' slots slots' quotas x m blocks contents x b g some (omega arith) (inr under))
     (λ b under over.
     let mine : b < quota_of quotas x = omega arith in
     let none : slot_of slots (key quotas x b) ≡ None = none_from _ (λ r is. let k = i.kept x b r mine is in absurd (omega arith)) in
     let gone = stays owners owners' slots slots' quotas x m b x g mine (inr under) ∙ none in
     let other : owner_of owners' b ≢ x = λ e. let k = i.owned x b some (was owners owners' slots slots' quotas x m b x g some e) in absurd (omega arith) in
-    rw (eq_no _ _ other) (ap or_blank (copy_at rows slots' (key quotas x b) ∙ ap (words_of rows) gone))))
+    rw (eq_no _ _ other) (ap or_blank (copy_at contents slots' (key quotas x b) ∙ ap (words_of contents) gone))))

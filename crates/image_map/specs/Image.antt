@@ -9,7 +9,7 @@ use Rattle.image_map.specs.State.{DrumState, ImageState}
 abbrev pub seen : {D : Type 0} → Ghosts D → MutBor D → DrumState
 seen g drum = record {
   name = drum.ghost_name;
-  rows = g.rows drum.now;
+  contents = g.contents drum.now;
   count = g.record_count drum.now;
   each = g.words_each drum.now;
   calls = g.calls drum.now;

@@ -33,13 +33,13 @@ image_over blocks owners (Some all) quotas n user = Some (first n (λ b. view bl
 
 -- a user's image, where the drum tells its records
 abbrev pub image_in : List ℕ → Option (List (List ℕ)) → List ℕ → Slots → List ℕ → ℕ → Option (List (List ℕ))
-image_in bank rows owners s sizes user =
-    image_over (block_at bank) owners (copies rows s.slots.items) s.quotas.items (size_of sizes user) user
+image_in bank contents owners s sizes user =
+    image_over (block_at bank) owners (copies contents s.slots.items) s.quotas.items (size_of sizes user) user
 
 -- these blocks, where the drum tells its records
 abbrev pub where_told : Option (List (List ℕ)) → List (List ℕ) → Option (List (List ℕ))
 where_told None blocks = None
-where_told (Some rows) blocks = Some blocks
+where_told (Some contents) blocks = Some blocks
 
 -- an image of n blocks, cut to m blocks or extended to them by plus zeros
 abbrev pub resized : ℕ → ℕ → Option (List (List ℕ)) → Option (List (List ℕ))

@@ -12,13 +12,13 @@ use Rattle.onion_swap.specs.declared.Plan.{Plan}
 use Rattle.plan_model.specs.Loads.{Places, count_below, is_dumped, is_read, is_fresh, loaded, given_up}
 use Rattle.image_map.specs.Images as images
 use Rattle.image_map.specs.Images.{image_in, resized, IsResident}
-use Rattle.image_map.specs.Loads.{Held, held_of, load_to, calls_to, with_calls, count_writes, count_reads, FailedIn}
+use Rattle.image_map.specs.Loads.{BlockMap, block_map_of, load_to, calls_to, with_calls, count_writes, count_reads, FailedIn}
 use Rattle.image_map.specs.Places.{places_of}
 
 -- which drum it is, its records, its calls where told, and how many of them failed
 pub record DrumState : Type 0 where
   pub name : GName
-  pub rows : Option (List (List ℕ))
+  pub contents : Option (List (List ℕ))
   pub count : ℕ
   pub each : ℕ
   pub calls : Option CallList
@@ -35,7 +35,7 @@ pub record ImageState : Type 0 where
 
 -- a user's image, where the drum tells its records
 abbrev pub image : ImageState → ℕ → Option (List (List ℕ))
-image s user = image_in s.words s.drum.rows s.owners s.slots s.sizes user
+image s user = image_in s.words s.drum.contents s.owners s.slots s.sizes user
 
 abbrev pub size : ImageState → ℕ → ℕ
 size s user = images.size_of s.sizes user
@@ -46,18 +46,18 @@ quota s user = quota_in s.slots user
 abbrev pub places_in : ImageState → Places
 places_in s = places_of s.owners s.slots
 
-abbrev pub held_in : ImageState → Held
-held_in s = held_of s.owners s.slots
+abbrev pub block_map_in : ImageState → BlockMap
+block_map_in s = block_map_of s.owners s.slots
 
 -- the calls of a load; a read gives what stands in core behind it
 abbrev pub calls_of : ImageState → ImageState → ℕ → List Call
-calls_of old new user = calls_to old.slots.quotas.items (held_in old) user (size old user) (block_at new.words)
+calls_of old new user = calls_to old.slots.quotas.items (block_map_in old) user (size old user) (block_at new.words)
 
 -- no load has failed, the words of core are words, and the drum serves the slots
-pub record IsWorking (s : ImageState) : Type 0 where
+pub record IsUsable (s : ImageState) : Type 0 where
   pub going : s.failed ≡ false
   pub words : AreWords s.words
-  pub serves : Serves s.drum.rows s.drum.count s.drum.each (records_of s.slots)
+  pub serves : Serves s.drum.contents s.drum.count s.drum.each (records_of s.slots)
 
 -- images of which no user has any block
 abbrev pub first_state : DrumState → Slots → List ℕ → List ℕ → ImageState
@@ -66,7 +66,7 @@ first_state drum slots words sizes =
 
 -- images over this drum at their beginning
 pub record IsFirst (drum : DrumState) (quotas : List ℕ) (s : ImageState) : Type 0 where
-  pub works : IsWorking s
+  pub usable : IsUsable s
   pub first : s ≡ first_state drum s.slots s.words (replicate (length quotas + 1) 0)
   pub quotas_are : s.slots.quotas.items ≡ 0 ∷ quotas
   pub none : (k : ℕ) → slot_of (slots_of s.slots) k ≡ None
@@ -98,7 +98,7 @@ pub record Replaces (user blocks : ℕ) (old new : ImageState) : Type 0 where
 -- what stays in a load, whether or not the drum fails, and how many calls of the drum it asks for
 pub record LoadKeeps (user : ℕ) (old new : ImageState) : Type 0 where
   pub drum : new.drum.name ≡ old.drum.name
-  pub serves : Serves new.drum.rows new.drum.count new.drum.each (records_of new.slots)
+  pub serves : Serves new.drum.contents new.drum.count new.drum.each (records_of new.slots)
   pub quotas : new.slots.quotas ≡ old.slots.quotas
   pub sizes : new.sizes ≡ old.sizes
   pub words : AreWords new.words
@@ -113,7 +113,7 @@ pub record Loaded (user : ℕ) (plan : Plan) (old new : ImageState) : Type 0 whe
   pub images : (u : ℕ) → 1 ≤ u → image new u ≡ image old u
   pub resident : IsResident new.owners (size old user) user
   pub places : places_in new ≡ loaded (places_in old) user (size old user)
-  pub held : held_in new ≡ load_to old.slots.quotas.items (held_in old) user (size old user)
+  pub block_map : block_map_in new ≡ load_to old.slots.quotas.items (block_map_in old) user (size old user)
   pub dumped : plan.dumped ≡ count_below (size old user) (is_dumped (places_in old) user)
   pub read : plan.read ≡ count_below (size old user) (is_read (places_in old) user)
   pub fresh : plan.fresh ≡ count_below (size old user) (is_fresh (places_in old) user)

@@ -10,7 +10,7 @@ ghost use Rattle.drum_slots.specs.Slots.{slot_of};
 ghost use Rattle.drum_slots.specs.Table.{slots_of, records_of, next_of, quota_in, record_of};
 ghost use Rattle.plan_model.specs.Loads.{owner_of, count_below, is_dumped, is_read, is_fresh, is_loaded, loaded, given_up};
 ghost use Rattle.image_map.specs.Images.{size_of, image_in, resized, IsResident, IsImage};
-ghost use Rattle.image_map.specs.Loads.{held_of, dumped, taken, load_one, load_to, calls_one, calls_to, with_calls, count_writes, count_reads, FailedIn};
+ghost use Rattle.image_map.specs.Loads.{block_map_of, dumped, taken, load_one, load_to, calls_one, calls_to, with_calls, count_writes, count_reads, FailedIn};
 ghost use Rattle.image_map.specs.Places.{places_of};
 
 use crate::port::Port;
@@ -72,7 +72,7 @@ impl<'a, D: Medium> Image<'a, D> {
         requires few { length quotas.now ≤ 30 }
         requires limit { All (λ quota. quota ≤ 128) quotas.now }
         requires fits { sum quotas.now ≤ records }
-        requires serves { Serves (D.rows drum.old) (D.record_count drum.old)
+        requires serves { Serves (D.contents drum.old) (D.record_count drum.old)
             (D.words_each drum.old) records }
         ensures first { IfOk result (λ i. IsFirst (seen D.Medium drum.entry) quotas.now (state i)) }
         ensures drum { IfOk result (λ i. drum_of i ≡ drum.old) }
@@ -196,7 +196,7 @@ impl<'a, D: Medium> Image<'a, D> {
 }
 
 impl<'a, D: Medium> Image<'a, D> {
-    ghost use Rattle.image_map.specs.State.{quota, IsWorking, Resizes, Replaces, Loads};
+    ghost use Rattle.image_map.specs.State.{quota, IsUsable, Resizes, Replaces, Loads};
     ghost use Rattle.image_map.specs.Image.{state, drum_of};
 
     /// Writes a block to the drum, which its owner has no more in core then.
@@ -205,33 +205,33 @@ impl<'a, D: Medium> Image<'a, D> {
         requires block { block < 128 }
         requires owned { owner_of self.old.tables.owners block ≡ owner }
         requires words { AreWords self.old.bank }
-        requires serves { Serves (D.rows self.old.tables.kept.drum.now)
+        requires serves { Serves (D.contents self.old.tables.kept.drum.now)
             (D.record_count self.old.tables.kept.drum.now)
             (D.words_each self.old.tables.kept.drum.now) (records_of self.old.tables.kept.slots) }
 
         ensures same { self.new.tables.kept.drum.ghost_name ≡ self.old.tables.kept.drum.ghost_name }
-        ensures serves { Serves (D.rows self.new.tables.kept.drum.now)
+        ensures serves { Serves (D.contents self.new.tables.kept.drum.now)
             (D.record_count self.new.tables.kept.drum.now)
             (D.words_each self.new.tables.kept.drum.now) (records_of self.new.tables.kept.slots) }
         ensures quotas { self.new.tables.kept.slots.quotas ≡ self.old.tables.kept.slots.quotas }
         ensures sizes { self.new.tables.sizes ≡ self.old.tables.sizes }
-        ensures works { self.new.failed ≡ self.old.failed }
+        ensures usable { self.new.failed ≡ self.old.failed }
         ensures bank { self.new.bank ≡ self.old.bank }
 
-        ensures held { OnOk result (held_of self.new.tables.owners self.new.tables.kept.slots
+        ensures block_map { OnOk result (block_map_of self.new.tables.owners self.new.tables.kept.slots
             ≡ dumped self.old.tables.kept.slots.quotas.items
-            (held_of self.old.tables.owners self.old.tables.kept.slots) owner block) }
+            (block_map_of self.old.tables.owners self.old.tables.kept.slots) owner block) }
         ensures images { OnOk result ((u : ℕ) → 1 ≤ u
-            → image_in self.new.bank (D.rows self.new.tables.kept.drum.now) self.new.tables.owners
+            → image_in self.new.bank (D.contents self.new.tables.kept.drum.now) self.new.tables.owners
             self.new.tables.kept.slots self.new.tables.sizes.items u
-            ≡ image_in self.old.bank (D.rows self.old.tables.kept.drum.now) self.old.tables.owners
+            ≡ image_in self.old.bank (D.contents self.old.tables.kept.drum.now) self.old.tables.owners
             self.old.tables.kept.slots self.old.tables.sizes.items u) }
 
         // One write, at the least free record.
         ensures calls { D.calls self.new.tables.kept.drum.now
             ≡ with_call (D.calls self.old.tables.kept.drum.now)
             (write_call (next_of self.old.tables.kept.slots) (is_err result)) }
-        ensures kept { D.faults self.old.tables.kept.drum.now ≤ D.faults self.new.tables.kept.drum.now }
+        ensures faults_grow { D.faults self.old.tables.kept.drum.now ≤ D.faults self.new.tables.kept.drum.now }
         ensures cause { OnErr result
             (Rose (D.faults self.old.tables.kept.drum.now) (D.faults self.new.tables.kept.drum.now)) }
     {
@@ -247,29 +247,29 @@ impl<'a, D: Medium> Image<'a, D> {
         requires owned { owner_of self.old.tables.owners block ≡ 0 }
         requires kept { IsSome (record_of self.old.tables.kept.slots user block) }
         requires words { AreWords self.old.bank }
-        requires serves { Serves (D.rows self.old.tables.kept.drum.now)
+        requires serves { Serves (D.contents self.old.tables.kept.drum.now)
             (D.record_count self.old.tables.kept.drum.now)
             (D.words_each self.old.tables.kept.drum.now) (records_of self.old.tables.kept.slots) }
 
         ensures same { self.new.tables.kept.drum.ghost_name ≡ self.old.tables.kept.drum.ghost_name }
-        ensures serves { Serves (D.rows self.new.tables.kept.drum.now)
+        ensures serves { Serves (D.contents self.new.tables.kept.drum.now)
             (D.record_count self.new.tables.kept.drum.now)
             (D.words_each self.new.tables.kept.drum.now) (records_of self.new.tables.kept.slots) }
         ensures quotas { self.new.tables.kept.slots.quotas ≡ self.old.tables.kept.slots.quotas }
         ensures sizes { self.new.tables.sizes ≡ self.old.tables.sizes }
-        ensures works { self.new.failed ≡ self.old.failed }
+        ensures usable { self.new.failed ≡ self.old.failed }
         ensures words { AreWords self.new.bank }
         ensures others { (b : ℕ) → b ≢ block
             → block_at self.new.bank b ≡ block_at self.old.bank b }
 
-        ensures held { (at : ℕ) → record_of self.old.tables.kept.slots user block ≡ Some at
-            → OnOk result (held_of self.new.tables.owners self.new.tables.kept.slots
+        ensures block_map { (at : ℕ) → record_of self.old.tables.kept.slots user block ≡ Some at
+            → OnOk result (block_map_of self.new.tables.owners self.new.tables.kept.slots
             ≡ taken self.old.tables.kept.slots.quotas.items
-            (held_of self.old.tables.owners self.old.tables.kept.slots) user block (Some at)) }
+            (block_map_of self.old.tables.owners self.old.tables.kept.slots) user block (Some at)) }
         ensures images { OnOk result ((u : ℕ) → 1 ≤ u
-            → image_in self.new.bank (D.rows self.new.tables.kept.drum.now) self.new.tables.owners
+            → image_in self.new.bank (D.contents self.new.tables.kept.drum.now) self.new.tables.owners
             self.new.tables.kept.slots self.new.tables.sizes.items u
-            ≡ image_in self.old.bank (D.rows self.old.tables.kept.drum.now) self.old.tables.owners
+            ≡ image_in self.old.bank (D.contents self.old.tables.kept.drum.now) self.old.tables.owners
             self.old.tables.kept.slots self.old.tables.sizes.items u) }
 
         // One read, at the record of the copy.
@@ -277,7 +277,7 @@ impl<'a, D: Medium> Image<'a, D> {
             → D.calls self.new.tables.kept.drum.now
             ≡ with_call (D.calls self.old.tables.kept.drum.now)
             (read_call at (is_err result) (block_at self.new.bank block)) }
-        ensures kept { D.faults self.old.tables.kept.drum.now ≤ D.faults self.new.tables.kept.drum.now }
+        ensures faults_grow { D.faults self.old.tables.kept.drum.now ≤ D.faults self.new.tables.kept.drum.now }
         ensures cause { OnErr result
             (Rose (D.faults self.old.tables.kept.drum.now) (D.faults self.new.tables.kept.drum.now)) }
     {
@@ -295,15 +295,15 @@ impl<'a, D: Medium> Image<'a, D> {
         requires words { AreWords self.old.bank }
         ensures table { self.new.tables.kept ≡ self.old.tables.kept }
         ensures sizes { self.new.tables.sizes ≡ self.old.tables.sizes }
-        ensures works { self.new.failed ≡ self.old.failed }
+        ensures usable { self.new.failed ≡ self.old.failed }
         ensures words { AreWords self.new.bank }
         ensures others { (b : ℕ) → b ≢ block
             → block_at self.new.bank b ≡ block_at self.old.bank b }
         ensures owners { self.new.tables.owners ≡ slice_set self.old.tables.owners block user }
         ensures images { (u : ℕ) → 1 ≤ u
-            → image_in self.new.bank (D.rows self.new.tables.kept.drum.now) self.new.tables.owners
+            → image_in self.new.bank (D.contents self.new.tables.kept.drum.now) self.new.tables.owners
             self.new.tables.kept.slots self.new.tables.sizes.items u
-            ≡ image_in self.old.bank (D.rows self.old.tables.kept.drum.now) self.old.tables.owners
+            ≡ image_in self.old.bank (D.contents self.old.tables.kept.drum.now) self.old.tables.owners
             self.old.tables.kept.slots self.old.tables.sizes.items u }
     {
         self.bank.clear_block(block);
@@ -315,39 +315,39 @@ impl<'a, D: Medium> Image<'a, D> {
     fn load_block(&mut self, user: UserNo, block: u8) -> Result<(), DrumFault>
         requires inside { block < size_of self.old.tables.sizes.items user }
         requires words { AreWords self.old.bank }
-        requires serves { Serves (D.rows self.old.tables.kept.drum.now)
+        requires serves { Serves (D.contents self.old.tables.kept.drum.now)
             (D.record_count self.old.tables.kept.drum.now)
             (D.words_each self.old.tables.kept.drum.now) (records_of self.old.tables.kept.slots) }
 
         ensures same { self.new.tables.kept.drum.ghost_name ≡ self.old.tables.kept.drum.ghost_name }
-        ensures serves { Serves (D.rows self.new.tables.kept.drum.now)
+        ensures serves { Serves (D.contents self.new.tables.kept.drum.now)
             (D.record_count self.new.tables.kept.drum.now)
             (D.words_each self.new.tables.kept.drum.now) (records_of self.new.tables.kept.slots) }
         ensures quotas { self.new.tables.kept.slots.quotas ≡ self.old.tables.kept.slots.quotas }
         ensures sizes { self.new.tables.sizes ≡ self.old.tables.sizes }
-        ensures works { self.new.failed ≡ self.old.failed }
+        ensures usable { self.new.failed ≡ self.old.failed }
         ensures words { AreWords self.new.bank }
         ensures others { (b : ℕ) → b ≢ block
             → block_at self.new.bank b ≡ block_at self.old.bank b }
 
-        ensures held { OnOk result (held_of self.new.tables.owners self.new.tables.kept.slots
+        ensures block_map { OnOk result (block_map_of self.new.tables.owners self.new.tables.kept.slots
             ≡ load_one self.old.tables.kept.slots.quotas.items
-            (held_of self.old.tables.owners self.old.tables.kept.slots) user block) }
+            (block_map_of self.old.tables.owners self.old.tables.kept.slots) user block) }
         ensures images { OnOk result ((u : ℕ) → 1 ≤ u
-            → image_in self.new.bank (D.rows self.new.tables.kept.drum.now) self.new.tables.owners
+            → image_in self.new.bank (D.contents self.new.tables.kept.drum.now) self.new.tables.owners
             self.new.tables.kept.slots self.new.tables.sizes.items u
-            ≡ image_in self.old.bank (D.rows self.old.tables.kept.drum.now) self.old.tables.owners
+            ≡ image_in self.old.bank (D.contents self.old.tables.kept.drum.now) self.old.tables.owners
             self.old.tables.kept.slots self.old.tables.sizes.items u) }
         ensures calls { OnOk result (D.calls self.new.tables.kept.drum.now
             ≡ with_calls (D.calls self.old.tables.kept.drum.now)
             (calls_one self.old.tables.kept.slots.quotas.items
-            (held_of self.old.tables.owners self.old.tables.kept.slots) user block
+            (block_map_of self.old.tables.owners self.old.tables.kept.slots) user block
             (block_at self.new.bank block))) }
         ensures failed { OnErr result (FailedIn (D.calls self.old.tables.kept.drum.now)
             (D.calls self.new.tables.kept.drum.now) (calls_one self.old.tables.kept.slots.quotas.items
-            (held_of self.old.tables.owners self.old.tables.kept.slots) user block
+            (block_map_of self.old.tables.owners self.old.tables.kept.slots) user block
             (block_at self.new.bank block))) }
-        ensures kept { D.faults self.old.tables.kept.drum.now ≤ D.faults self.new.tables.kept.drum.now }
+        ensures faults_grow { D.faults self.old.tables.kept.drum.now ≤ D.faults self.new.tables.kept.drum.now }
         ensures cause { OnErr result
             (Rose (D.faults self.old.tables.kept.drum.now) (D.faults self.new.tables.kept.drum.now)) }
     {
@@ -370,40 +370,40 @@ impl<'a, D: Medium> Image<'a, D> {
     fn load_blocks(&mut self, user: UserNo, blocks: u8) -> Result<(), DrumFault>
         requires inside { blocks ≤ size_of self.old.tables.sizes.items user }
         requires words { AreWords self.old.bank }
-        requires serves { Serves (D.rows self.old.tables.kept.drum.now)
+        requires serves { Serves (D.contents self.old.tables.kept.drum.now)
             (D.record_count self.old.tables.kept.drum.now)
             (D.words_each self.old.tables.kept.drum.now) (records_of self.old.tables.kept.slots) }
 
         ensures same { self.new.tables.kept.drum.ghost_name ≡ self.old.tables.kept.drum.ghost_name }
-        ensures serves { Serves (D.rows self.new.tables.kept.drum.now)
+        ensures serves { Serves (D.contents self.new.tables.kept.drum.now)
             (D.record_count self.new.tables.kept.drum.now)
             (D.words_each self.new.tables.kept.drum.now) (records_of self.new.tables.kept.slots) }
         ensures quotas { self.new.tables.kept.slots.quotas ≡ self.old.tables.kept.slots.quotas }
         ensures sizes { self.new.tables.sizes ≡ self.old.tables.sizes }
-        ensures works { self.new.failed ≡ self.old.failed }
+        ensures usable { self.new.failed ≡ self.old.failed }
         ensures words { AreWords self.new.bank }
         ensures others { (b : ℕ) → blocks ≤ b
             → block_at self.new.bank b ≡ block_at self.old.bank b }
 
-        ensures held { OnOk result (held_of self.new.tables.owners self.new.tables.kept.slots
+        ensures block_map { OnOk result (block_map_of self.new.tables.owners self.new.tables.kept.slots
             ≡ load_to self.old.tables.kept.slots.quotas.items
-            (held_of self.old.tables.owners self.old.tables.kept.slots) user blocks) }
+            (block_map_of self.old.tables.owners self.old.tables.kept.slots) user blocks) }
         ensures resident { OnOk result (IsResident self.new.tables.owners blocks user) }
         ensures images { OnOk result ((u : ℕ) → 1 ≤ u
-            → image_in self.new.bank (D.rows self.new.tables.kept.drum.now) self.new.tables.owners
+            → image_in self.new.bank (D.contents self.new.tables.kept.drum.now) self.new.tables.owners
             self.new.tables.kept.slots self.new.tables.sizes.items u
-            ≡ image_in self.old.bank (D.rows self.old.tables.kept.drum.now) self.old.tables.owners
+            ≡ image_in self.old.bank (D.contents self.old.tables.kept.drum.now) self.old.tables.owners
             self.old.tables.kept.slots self.old.tables.sizes.items u) }
         ensures calls { OnOk result (D.calls self.new.tables.kept.drum.now
             ≡ with_calls (D.calls self.old.tables.kept.drum.now)
             (calls_to self.old.tables.kept.slots.quotas.items
-            (held_of self.old.tables.owners self.old.tables.kept.slots) user blocks
+            (block_map_of self.old.tables.owners self.old.tables.kept.slots) user blocks
             (block_at self.new.bank))) }
         ensures failed { OnErr result (FailedIn (D.calls self.old.tables.kept.drum.now)
             (D.calls self.new.tables.kept.drum.now) (calls_to self.old.tables.kept.slots.quotas.items
-            (held_of self.old.tables.owners self.old.tables.kept.slots) user blocks
+            (block_map_of self.old.tables.owners self.old.tables.kept.slots) user blocks
             (block_at self.new.bank))) }
-        ensures kept { D.faults self.old.tables.kept.drum.now ≤ D.faults self.new.tables.kept.drum.now }
+        ensures faults_grow { D.faults self.old.tables.kept.drum.now ≤ D.faults self.new.tables.kept.drum.now }
         ensures cause { OnErr result
             (Rose (D.faults self.old.tables.kept.drum.now) (D.faults self.new.tables.kept.drum.now)) }
     {
@@ -436,7 +436,7 @@ impl<'a, D: Medium> Image<'a, D> {
     /// user owns it, and then read from its record, which is free then, or made plus zeros. After a
     /// drum fault the images are lost.
     pub fn load_user(&mut self, user: UserNo) -> Result<Plan, DrumFault>
-        requires works { IsWorking (state self.old) }
+        requires usable { IsUsable (state self.old) }
         requires user { user < length (state self.old).sizes }
         ensures { Loads user result (state self.old) (state self.new) }
     {
@@ -454,7 +454,7 @@ impl<'a, D: Medium> Image<'a, D> {
     /// Gives a user another size: its image is cut, or extended by plus zeros. No call of the drum is
     /// made, and the other images stay.
     pub fn resize_user(&mut self, user: UserNo, blocks: u8)
-        requires works { (state self.old).failed ≡ false }
+        requires usable { (state self.old).failed ≡ false }
         requires user { user < length (state self.old).sizes }
         requires quota { blocks ≤ quota (state self.old) user }
         ensures resizes { Resizes user blocks (state self.old) (state self.new) }
@@ -469,7 +469,7 @@ impl<'a, D: Medium> Image<'a, D> {
     /// Gives a user a new image of plus zeros. No call of the drum is made, and the other images
     /// stay.
     pub fn replace_user(&mut self, user: UserNo, blocks: u8)
-        requires works { (state self.old).failed ≡ false }
+        requires usable { (state self.old).failed ≡ false }
         requires user { user < length (state self.old).sizes }
         requires quota { blocks ≤ quota (state self.old) user }
         ensures replaces { Replaces user blocks (state self.old) (state self.new) }

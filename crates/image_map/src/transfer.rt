@@ -24,21 +24,21 @@ pub(crate) fn read_block<D: Medium>(
     requires core { length words.old ≡ 32768 }
     requires block { block < 128 }
     requires words { AreWords words.old }
-    requires serves { Serves (D.rows table.old.drum.now) (D.record_count table.old.drum.now)
+    requires serves { Serves (D.contents table.old.drum.now) (D.record_count table.old.drum.now)
         (D.words_each table.old.drum.now) (records_of table.old.slots) }
 
     ensures same { table.new.drum.ghost_name ≡ table.old.drum.ghost_name }
-    ensures serves { Serves (D.rows table.new.drum.now) (D.record_count table.new.drum.now)
+    ensures serves { Serves (D.contents table.new.drum.now) (D.record_count table.new.drum.now)
         (D.words_each table.new.drum.now) (records_of table.new.slots) }
     ensures quotas { table.new.slots.quotas ≡ table.old.slots.quotas }
     ensures words { AreWords words.new }
     ensures len { length words.new ≡ length words.old }
     ensures others { (b : ℕ) → b ≢ block → block_at words.new b ≡ block_at words.old b }
 
-    ensures given { OnOk result (HasCopy (copies_in (D.rows table.old.drum.now) table.old.slots)
+    ensures given { OnOk result (HasCopy (copies_in (D.contents table.old.drum.now) table.old.slots)
         (place_of table.old.slots user block) (block_at words.new block)) }
-    ensures ok { OnOk result (copies_in (D.rows table.new.drum.now) table.new.slots
-        ≡ with_copy (copies_in (D.rows table.old.drum.now) table.old.slots)
+    ensures ok { OnOk result (copies_in (D.contents table.new.drum.now) table.new.slots
+        ≡ with_copy (copies_in (D.contents table.old.drum.now) table.old.slots)
         (place_of table.old.slots user block) None) }
     ensures slot { OnOk result (slots_of table.new.slots
         ≡ slice_set (slots_of table.old.slots) (place_of table.old.slots user block) None) }
@@ -49,7 +49,7 @@ pub(crate) fn read_block<D: Medium>(
         → D.calls table.new.drum.now
         ≡ with_call (D.calls table.old.drum.now)
         (read_call at (is_err result) (block_at words.new block)) }
-    ensures kept { D.faults table.old.drum.now ≤ D.faults table.new.drum.now }
+    ensures faults_grow { D.faults table.old.drum.now ≤ D.faults table.new.drum.now }
     ensures cause { OnErr result
         (Rose (D.faults table.old.drum.now) (D.faults table.new.drum.now)) }
 {

@@ -151,9 +151,6 @@ room wq quantum rows u l sound none low =
     (let a = times_count u rows l in let b = none_count u rows none in omega (arith, a, b))
     low
 
-entered_times : (u v : ℕ) (x : Waiting) → x.user ≡ u → times v (x ∷ []) ≡ cond (nat_eq u v) 1 0
-entered_times u v x e = rw e (omega arith)
-
 pub sound_enter : (wq quantum : ℕ) (rows : List (List Waiting)) (l : ℕ) (x : Waiting) → IsSound wq quantum rows → l ≤ 8 → is_in x.user rows ≡ false → (1 ≤ x.user) × (x.user < 31) → IsSound wq quantum (set rows l (get_or rows l [] ++ x ∷ []))
 sound_enter wq quantum rows l x sound small none low =
     let within : l < length rows = let n = sound.nine in omega (arith, n) in

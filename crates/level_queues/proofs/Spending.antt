@@ -149,20 +149,11 @@ first_below_from k (suc n) (row ∷ rows) h =
 pub first_below : (low : ℕ) (rows : List (List Waiting)) → AreEmpty low rows → first_of 0 rows ≡ first_of low (drop low rows)
 first_below low rows h = let e : 0 + low ≡ low = omega arith in first_below_from 0 low rows h ∙ ap (λ (m : ℕ). first_of m (drop low rows)) e
 
-head_none : (xs : List Waiting) → None ≡ head_of xs → xs ≡ []
-head_none [] h = refl
-head_none (x ∷ xs) h = cc
-
 empty_next : (n : ℕ) (rows : List (List Waiting)) (d : List Waiting) → AreEmpty n rows → get_or rows n d ≡ [] → n < length rows → AreEmpty (suc n) rows
 empty_next zero [] d h e w = absurd (omega (arith, w))
 empty_next zero (row ∷ rows) d h e w = (e, tt)
 empty_next (suc n) [] d h e w = absurd (omega (arith, w))
 empty_next (suc n) (row ∷ rows) d h e w = (h.0, empty_next n rows d h.1 e (omega (arith, w)))
-
-pub empty_more : (n : ℕ) (rows : List (List Waiting)) (d : List Waiting) (o : Option Waiting) → AreEmpty n rows → o ≡ head_of (get_or rows n d) → o ≡ None → n < length rows → AreEmpty (n + 1) rows
-empty_more n rows d o h e none w =
-    let more : suc n ≡ n + 1 = omega arith in
-    subst (λ (m : ℕ). AreEmpty m rows) more (empty_next n rows d h (head_none (get_or rows n d) (sym none ∙ e)) w)
 
 pub empty_fewer : (m n : ℕ) (rows : List (List Waiting)) → AreEmpty n rows → m ≤ n → AreEmpty m rows
 empty_fewer zero n rows h le = tt

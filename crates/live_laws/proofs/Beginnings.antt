@@ -11,7 +11,7 @@ use Rattle.user_model.specs.User.{User}
 use Rattle.user_model.specs.Session.{user_rows, nobody}
 use Rattle.supervisor.specs.Seen.{record_so_far}
 use Rattle.system_model.specs.Round.{round}
-use Rattle.system_model.specs.Run.{Run, State, next, run_to, ended, AfterSteps, given_all}
+use Rattle.system_model.specs.Run.{Run, State, next, run_to, ended, AfterSteps, with_all_events}
 use Rattle.system_model.specs.Record.{start_of, record_of, record_from}
 use Rattle.system_model.proofs.RunLaws.{run_to_next}
 use Rattle.live_laws.specs.Parts.{Part, run_in}
@@ -137,7 +137,7 @@ module _ {S P F : Type 0} (m : Machine S) (w : World S P F) (adds : OnlyAdds m) 
   steps_add : (limit n : ℕ) (s : SystemState S P F) → Adds s (whole.iterate m w limit n s)
   steps_add limit zero s = same s
   steps_add limit (suc n) s =
-      elim (whole.before m w limit s) as (λ b. Adds s (elim b [ true ↦ whole.iterate m w limit n (system.next m w limit s) | false ↦ s ])) [
+      elim (whole.clock_is_below m w limit s) as (λ b. Adds s (elim b [ true ↦ whole.iterate m w limit n (system.next m w limit s) | false ↦ s ])) [
         | true ↦ both s (system.next m w limit s) (whole.iterate m w limit n (system.next m w limit s)) (next_adds limit s.events s) (steps_add limit n (system.next m w limit s))
         | false ↦ same s
       ]
@@ -223,13 +223,13 @@ pub stopped_runs_are_beginnings : StoppedRunsAreBeginnings
 unfolding record_of
 stopped_runs_are_beginnings script at h = stopped script.end (start_of script) at h
 
-one_part_more : (parts : List Part) (p : Part) (r : Run) → run_in (parts ++ p ∷ []) r ≡ run_to p.limit (given_all p.events (run_in parts r))
+one_part_more : (parts : List Part) (p : Part) (r : Run) → run_in (parts ++ p ∷ []) r ≡ run_to p.limit (with_all_events p.events (run_in parts r))
 one_part_more [] p r = refl
-one_part_more (q ∷ parts) p r = one_part_more parts p (run_to q.limit (given_all q.events r))
+one_part_more (q ∷ parts) p r = one_part_more parts p (run_to q.limit (with_all_events q.events r))
 
 pub stopped_parts_are_beginnings : StoppedPartsAreBeginnings
 stopped_parts_are_beginnings base parts p last at order h =
     let r : Run = start_of (record base { events = [] }) in
     subst (IsBeginningOf (record_so_far at))
     (ap (λ (x : Run). record_from (ended x)) (sym (one_part_more parts p r)) ∙ live_runs_are_replays base (parts ++ p ∷ []) last order)
-    (stopped p.limit (given_all p.events (run_in parts r)) at h)
+    (stopped p.limit (with_all_events p.events (run_in parts r)) at h)

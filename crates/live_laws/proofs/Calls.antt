@@ -2,7 +2,7 @@
 use Rattle.std.proofs.Common.{◌≡◌, ℕ, true, List, [], ◌∷◌, ◌++◌, map, None, refl, sym, ap, ◌∙◌}
 use Rattle.std.proofs.lemmas.List.{append_assoc}
 use Rattle.ctss_types.specs.declared.script.Timed.{Timed}
-use Rattle.system_model.specs.Run.{Run, run_to, given, given_all}
+use Rattle.system_model.specs.Run.{Run, run_to, with_one_event, with_all_events}
 use Rattle.system_model.specs.Joined.{joined}
 use Rattle.live_core.specs.Core.{CoreCall, Took, Went}
 use Rattle.user_model.specs.Inner.{Stored}
@@ -18,15 +18,15 @@ use Rattle.live_laws.specs.Texts.{texts_in, CallsShowTexts}
 use Rattle.live_laws.proofs.InParts.{given_none}
 
 -- to give an event changes no user, so it is the same with words and without
-given_joined : (f : ℕ → Stored) (e : Timed) (r : Run) → joined f (given e r) ≡ given e (joined f r)
-unfolding joined given
+given_joined : (f : ℕ → Stored) (e : Timed) (r : Run) → joined f (with_one_event e r) ≡ with_one_event e (joined f r)
+unfolding joined with_one_event
 given_joined f e r = refl
 
-given_both : (e : Timed) (es : List Timed) (r : Run) → given_all es (given e r) ≡ given_all (e ∷ es) r
-unfolding given
+given_both : (e : Timed) (es : List Timed) (r : Run) → with_all_events es (with_one_event e r) ≡ with_all_events (e ∷ es) r
+unfolding with_one_event
 given_both e es r = λ i. record r { system = record r.system { events = append_assoc r.system.events (e ∷ []) es i } }
 
-taken : (e : Timed) (old new : Whole) → Takes e old new → run_over new ≡ given e (run_over old)
+taken : (e : Timed) (old new : Whole) → Takes e old new → run_over new ≡ with_one_event e (run_over old)
 taken e old new t =
     (λ i. joined (t.back i).held.stores (run_with (t.back i).held.places new.bare))
     ∙ ap (joined old.back.held.stores) (t.run old.back.held.places)
@@ -34,8 +34,8 @@ taken e old new t =
 
 -- an event that is taken adds no entry, and no call of the drum
 
-given_entries : (e : Timed) (r : Run) → (given e r).system.entries ≡ r.system.entries
-unfolding given
+given_entries : (e : Timed) (r : Run) → (with_one_event e r).system.entries ≡ r.system.entries
+unfolding with_one_event
 given_entries e r = refl
 
 counted_taken : (e : Timed) (old new : Whole) → Takes e old new → AreCounted old new
@@ -51,12 +51,12 @@ counted_nowhere a = counted_same a.bare.entries a.bare.entries a.back.calls a.ba
 
 -- events, and then other calls
 pub all_taken : (es : List Timed) (calls : List CoreCall) (old new : Whole) → Follows (map Took es ++ calls) old new
-    → (mid : Whole) × (run_over mid ≡ given_all es (run_over old)) × (mid.back.held.tells ≡ old.back.held.tells) × AreCounted old mid × Follows calls mid new × (mid.bare.texts ≡ old.bare.texts)
+    → (mid : Whole) × (run_over mid ≡ with_all_events es (run_over old)) × (mid.back.held.tells ≡ old.back.held.tells) × AreCounted old mid × Follows calls mid new × (mid.bare.texts ≡ old.bare.texts)
 all_taken [] calls old new h = (old, sym (given_none (run_over old)), refl, counted_nowhere old, h, refl)
 all_taken (e ∷ es) calls old new h =
     let rest = all_taken es calls h.0 new h.2 in (
       rest.0,
-      rest.1 ∙ ap (given_all es) (taken e old h.0 h.1) ∙ given_both e es (run_over old),
+      rest.1 ∙ ap (with_all_events es) (taken e old h.0 h.1) ∙ given_both e es (run_over old),
       rest.2 ∙ ap (λ (b : BackState). b.held.tells) h.1.back,
       counted_both old h.0 rest.0 (counted_taken e old h.0 h.1) rest.3,
       rest.4,
@@ -88,7 +88,7 @@ calls_show_texts (p ∷ parts) old new told h =
     let given = all_taken p.events (Went p.limit None ∷ calls_of parts) old new h in
     let went = given.4 in
     let tells : given.0.back.held.tells ≡ true = given.2 ∙ told in
-    let run : run_over went.0 ≡ run_to p.limit (given_all p.events (run_over old)) = went.1.ended tells ∙ ap (run_to p.limit) given.1 in
-    let texts : went.0.bare.texts ≡ texts_to p.limit (given_all p.events (run_over old)) old.bare.texts =
+    let run : run_over went.0 ≡ run_to p.limit (with_all_events p.events (run_over old)) = went.1.ended tells ∙ ap (run_to p.limit) given.1 in
+    let texts : went.0.bare.texts ≡ texts_to p.limit (with_all_events p.events (run_over old)) old.bare.texts =
     went.1.texts tells ∙ (λ i. texts_to p.limit (given.1 i) (given.5 i)) in
     calls_show_texts parts went.0 new (went.1.tells ∙ tells) went.2 ∙ (λ i. texts_in parts (run i) (texts i))

@@ -4,7 +4,7 @@ use Rattle.std.proofs.lemmas.List.{append_assoc, append-nil}
 use Rattle.ctss_types.specs.declared.script.Script.{Script}
 use Rattle.ctss_types.specs.declared.script.Timed.{Timed}
 use Rattle.time_sharing.specs.Record.{AreLate}
-use Rattle.system_model.specs.Run.{Run, run_to, given_all, ended}
+use Rattle.system_model.specs.Run.{Run, run_to, with_all_events, ended}
 use Rattle.system_model.specs.Record.{start_of, record_of, record_from}
 use Rattle.system_model.proofs.PartLaws.{runs_in_parts, late_events_wait}
 use Rattle.system_model.proofs.RunLaws.{run_to_done}
@@ -26,31 +26,28 @@ pub all_late : (parts : List Part) (start last : ℕ) → AreInOrder start last 
 all_late [] start last h = tt
 all_late (p ∷ parts) start last h = late_more start p.events (all_events parts) h.1.0 (late_before start p.limit (all_events parts) h.0 (all_late parts p.limit last h.1.1))
 
-pub given_more : (es fs : List Timed) (r : Run) → given_all (es ++ fs) r ≡ given_all fs (given_all es r)
+pub given_more : (es fs : List Timed) (r : Run) → with_all_events (es ++ fs) r ≡ with_all_events fs (with_all_events es r)
 given_more es fs r = λ i. record r { system = record r.system { events = sym (append_assoc r.system.events es fs) i } }
 
-pub given_none : (r : Run) → given_all [] r ≡ r
+pub given_none : (r : Run) → with_all_events [] r ≡ r
 given_none r = λ i. record r { system = record r.system { events = append-nil r.system.events i } }
 
 -- to give events in parts is to give all of them before
-whole : (parts : List Part) (start last : ℕ) (r : Run) → AreInOrder start last parts → run_to last (given_all (all_events parts) r) ≡ run_to last (run_in parts r)
+whole : (parts : List Part) (start last : ℕ) (r : Run) → AreInOrder start last parts → run_to last (with_all_events (all_events parts) r) ≡ run_to last (run_in parts r)
 whole [] start last r h = ap (run_to last) (given_none r)
 whole (p ∷ parts) start last r h =
     ap (run_to last) (given_more p.events (all_events parts) r)
-    ∙ sym (late_events_wait (all_events parts) p.limit last (given_all p.events r) (last_is_late parts p.limit last h.1.1) (all_late parts p.limit last h.1.1)).0
-    ∙ whole parts p.limit last (run_to p.limit (given_all p.events r)) h.1.1
+    ∙ sym (late_events_wait (all_events parts) p.limit last (with_all_events p.events r) (last_is_late parts p.limit last h.1.1) (all_late parts p.limit last h.1.1)).0
+    ∙ whole parts p.limit last (run_to p.limit (with_all_events p.events r)) h.1.1
 
 -- behind the last part nothing is left to be done before its limit
 done : (p : Part) (parts : List Part) (start last : ℕ) (r : Run) → AreInOrder start last (p ∷ parts) → run_to last (run_in (p ∷ parts) r) ≡ run_in (p ∷ parts) r
-done p [] start last r h = ap (λ (k : ℕ). run_to k (run_to p.limit (given_all p.events r))) (sym h.1.1) ∙ runs_in_parts p.limit p.limit (given_all p.events r) (omega arith)
-done p (q ∷ parts) start last r h = done q parts p.limit last (run_to p.limit (given_all p.events r)) h.1.1
+done p [] start last r h = ap (λ (k : ℕ). run_to k (run_to p.limit (with_all_events p.events r))) (sym h.1.1) ∙ runs_in_parts p.limit p.limit (with_all_events p.events r) (omega arith)
+done p (q ∷ parts) start last r h = done q parts p.limit last (run_to p.limit (with_all_events p.events r)) h.1.1
 
-pub all_given : (base : Script) (events : List Timed) (last : ℕ) → given_all events (start_of (record base { events = [] })) ≡ start_of (live_script base events last)
+pub all_given : (base : Script) (events : List Timed) (last : ℕ) → with_all_events events (start_of (record base { events = [] })) ≡ start_of (live_script base events last)
 unfolding start_of
 all_given base events last = refl
-
-clock_at_start : (script : Script) → 0 ≤ (start_of script).system.clock
-clock_at_start script = omega arith
 
 pub live_runs_are_replays : LiveRunsAreReplays
 unfolding record_of

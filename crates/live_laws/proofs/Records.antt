@@ -45,11 +45,6 @@ counted_at_end had r was now h =
       reads = ap (λ (q : Run). read_in q.system.entries) end ∙ counts.1 ∙ h.reads;
     }
 
--- the same of a run whose users have these words and files
-pub counted_joined : (had : List Entry) (stores : ℕ → Stored) (r : Run) (was now : Option CallList) → IsCounted had r.system.entries was now → IsCounted had (record_from (ended (joined stores r))).entries was now
-unfolding joined
-counted_joined had stores r was now h = counted_at_end had (joined stores r) was now h
-
 -- what a run leaves but for files doesn't hang on its users' words and files
 pub ends_joined : (stores : ℕ → Stored) (r : Run) → without_files (record_from (ended r)) ≡ without_files (record_from (ended (joined stores r)))
 unfolding joined closed

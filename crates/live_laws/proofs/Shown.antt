@@ -6,7 +6,7 @@ use Rattle.time_sharing.specs.Machine.{Machine, Line}
 use Rattle.time_sharing.specs.System as system
 use Rattle.time_sharing.specs.System.{SystemState, World, Timed, Console, Off, On, Password, Session, at, state_of, next, next_tick, idled}
 use Rattle.time_sharing.specs.Repeat.{repeat, Falls}
-use Rattle.time_sharing.specs.Record.{before, run_to, measure, Ends, given, AreLate}
+use Rattle.time_sharing.specs.Record.{clock_is_below, run_to, measure, Ends, with_events, AreLate}
 use Rattle.time_sharing.specs.Texts.{Watched, asks_password, refusals, written, sent, shows, said, texts_after, next_watched, watched_to}
 use Rattle.time_sharing.proofs.RepeatLaws.{repeat-suc, repeat-done, whole-step, whole-done}
 use Rattle.time_sharing.proofs.Ending.{falls}
@@ -34,8 +34,8 @@ repeat_stops running step left falls (suc n) x h =
 
 module _ {S P F : Type 0} (m : Machine S) (w : World S P F) where
   -- a run to a limit reaches it
-  pub stopped : Ends w → (limit : ℕ) (s : SystemState S P F) → before m w limit (run_to m w limit s) ≡ false
-  stopped ends limit s = repeat_stops (before m w limit) (next m w limit) (measure m w limit) (falls m w ends limit) (measure m w limit s) s (omega arith)
+  pub stopped : Ends w → (limit : ℕ) (s : SystemState S P F) → clock_is_below m w limit (run_to m w limit s) ≡ false
+  stopped ends limit s = repeat_stops (clock_is_below m w limit) (next m w limit) (measure m w limit) (falls m w ends limit) (measure m w limit s) s (omega arith)
 
   -- idling shows nothing
   idling_is_silent : (limit c : ℕ) (s : SystemState S P F) → said m w c s (idled m w limit s) ≡ []
@@ -51,15 +51,15 @@ module _ {S P F : Type 0} (m : Machine S) (w : World S P F) where
   module _ (es : List Timed) where
     -- with more events behind those that are left
     abbrev with_more : Watched S P F → Watched S P F
-    with_more x = record x { system = given es x.system }
+    with_more x = record x { system = with_events es x.system }
 
-    same_shown : (c : ℕ) (s t : SystemState S P F) (texts : List (List ℕ)) → texts_after m w c (given es s) (given es t) texts ≡ texts_after m w c s t texts
+    same_shown : (c : ℕ) (s t : SystemState S P F) (texts : List (List ℕ)) → texts_after m w c (with_events es s) (with_events es t) texts ≡ texts_after m w c s t texts
     same_shown c s t [] = refl
     same_shown c s t (text ∷ texts) = λ i. (text ++ sent (said m w c s t)) ∷ same_shown (suc c) s t texts i
 
     module _ (ends : Ends w) where
       abbrev runs : ℕ → Watched S P F → Bool
-      runs limit y = before m w limit y.system
+      runs limit y = clock_is_below m w limit y.system
 
       abbrev left : ℕ → Watched S P F → ℕ
       left limit y = measure m w limit y.system
@@ -77,12 +77,12 @@ module _ {S P F : Type 0} (m : Machine S) (w : World S P F) where
 
       -- idling to the lesser limit, then with more events on to the greater one
       idle_on : (j k : ℕ) (s : SystemState S P F) (texts : List (List ℕ)) → j ≤ k → AreLate j es → s.clock < j → w.choose s.plan ≡ None → s.service ≡ None →
-          watched_to m w k (record { system = given es (idled m w j s); texts = texts }) ≡ watched_to m w k (record { system = idled m w k (given es s); texts = texts })
+          watched_to m w k (record { system = with_events es (idled m w j s); texts = texts }) ≡ watched_to m w k (record { system = idled m w k (with_events es s); texts = texts })
       idle_on j k s texts le late h choice service =
           elim (cases_eq (next_tick j s.events) (next_tick k (s.events ++ es))) [
-            | inl e ↦ ap (λ (c : ℕ). watched_to m w k (record { system = record (given es s) { clock = c; idling = Some (system.idle_from m w s.idling s.clock) }; texts = texts })) e
+            | inl e ↦ ap (λ (c : ℕ). watched_to m w k (record { system = record (with_events es s) { clock = c; idling = Some (system.idle_from m w s.idling s.clock) }; texts = texts })) e
             | inr ne ↦
-                let t : SystemState S P F = given es (idled m w j s) in
+                let t : SystemState S P F = with_events es (idled m w j s) in
                 let far = ticks s.events es late ne in
                 idles_to k t texts (omega (arith, far.0, far.1)) (not_due m w es k (s.events ++ es) t far.2 ∙ rw (choice, service) refl)
           ]
@@ -98,14 +98,14 @@ module _ {S P F : Type 0} (m : Machine S) (w : World S P F) where
       one_step j k x le late h =
           elim (steps_with_more m w es j k x.system late h) [
             | inl e ↦
-                ap (λ (ts : List (List ℕ)). watched_to m w k (record { system = given es (next m w j x.system); texts = ts })) (sym (same_shown 1 x.system (next m w j x.system) x.texts))
-                ∙ ap (λ (t : SystemState S P F). watched_to m w k (record { system = t; texts = texts_after m w 1 (given es x.system) t x.texts })) (sym e)
+                ap (λ (ts : List (List ℕ)). watched_to m w k (record { system = with_events es (next m w j x.system); texts = ts })) (sym (same_shown 1 x.system (next m w j x.system) x.texts))
+                ∙ ap (λ (t : SystemState S P F). watched_to m w k (record { system = t; texts = texts_after m w 1 (with_events es x.system) t x.texts })) (sym e)
                 ∙ step_to k (with_more x) (omega (arith, le, h))
             | inr i ↦
-                ap (λ (t : SystemState S P F). watched_to m w k (record { system = given es t; texts = texts_after m w 1 x.system t x.texts })) i.2
-                ∙ ap (λ (ts : List (List ℕ)). watched_to m w k (record { system = given es (idled m w j x.system); texts = ts })) (idling_shows_nothing j 1 x.system x.texts)
+                ap (λ (t : SystemState S P F). watched_to m w k (record { system = with_events es t; texts = texts_after m w 1 x.system t x.texts })) i.2
+                ∙ ap (λ (ts : List (List ℕ)). watched_to m w k (record { system = with_events es (idled m w j x.system); texts = ts })) (idling_shows_nothing j 1 x.system x.texts)
                 ∙ idle_on j k x.system x.texts le late h i.0 i.1
-                ∙ sym (idles_to k (given es x.system) x.texts (omega (arith, le, h)) i.3)
+                ∙ sym (idles_to k (with_events es x.system) x.texts (omega (arith, le, h)) i.3)
           ]
 
       by_test : (j k n : ℕ) (x : Watched S P F) → j ≤ k → AreLate j es →
@@ -126,6 +126,6 @@ module _ {S P F : Type 0} (m : Machine S) (w : World S P F) where
       pub shown_before : (limit : ℕ) (x : Watched S P F) → AreLate limit es → (watched_to m w limit (with_more x)).texts ≡ (watched_to m w limit x).texts
       shown_before limit x late =
           let y = watched_to m w limit x in
-          let down : runs limit (with_more y) ≡ false = ap (before m w limit) (watched m w limit x) ∙ stopped ends limit x.system in
+          let down : runs limit (with_more y) ≡ false = ap (clock_is_below m w limit) (watched m w limit x) ∙ stopped ends limit x.system in
           ap (λ (z : Watched S P F). z.texts) (sym (shown_in_parts limit limit x (omega arith) late))
           ∙ ap (λ (z : Watched S P F). z.texts) (whole-done (runs limit) (next_watched m w limit) (left limit) (λ z up. falls m w ends limit z.system up) (with_more y) down)

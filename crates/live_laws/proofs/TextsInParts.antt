@@ -9,7 +9,7 @@ use Rattle.user_model.specs.Session.{user_rows}
 use Rattle.user_model.specs.User.{User}
 use Rattle.plan_model.specs.Plan.{Plan}
 use Rattle.system_model.specs.Round.{round}
-use Rattle.system_model.specs.Run.{Run, State, run_to, given_all}
+use Rattle.system_model.specs.Run.{Run, State, run_to, with_all_events}
 use Rattle.system_model.proofs.RunLaws.{ends}
 use Rattle.console_texts.specs.Watching.{watch, texts_to}
 use Rattle.live_laws.specs.Texts.{TextsInParts, LateEventsShowNothing}
@@ -20,7 +20,7 @@ unfolding run_to texts_to
 texts_in_parts events j k r texts le late =
     let M = machine user_rows in
     let W = round r.swap r.common r.accounts in
-    ap (λ (s : State). (watched_to M W k (watch (given_all events (record r { system = s })) (watched_to M W j (watch r texts)).texts)).texts) (sym (watched M W j (watch r texts)))
+    ap (λ (s : State). (watched_to M W k (watch (with_all_events events (record r { system = s })) (watched_to M W j (watch r texts)).texts)).texts) (sym (watched M W j (watch r texts)))
     ∙ ap (λ (y : Watched User Plan (List FileBody)). y.texts) (shown_in_parts M W events (ends r.swap r.common r.accounts) j k (watch r texts) le late)
 
 pub late_events_show_nothing : LateEventsShowNothing

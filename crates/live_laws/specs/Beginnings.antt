@@ -2,7 +2,7 @@
 use Rattle.std.specs.Prelude.{◌≡◌, ℕ, List, [], ◌∷◌, ◌++◌, get_or}
 use Rattle.ctss_types.specs.declared.script.Script.{Script}
 use Rattle.ctss_types.specs.declared.history.Record.{Record}
-use Rattle.system_model.specs.Run.{Run, AfterSteps, given_all}
+use Rattle.system_model.specs.Run.{Run, AfterSteps, with_all_events}
 use Rattle.system_model.specs.Record.{start_of, record_of}
 use Rattle.supervisor.specs.Seen.{record_so_far}
 use Rattle.live_laws.specs.Parts.{Part, AreInOrder, all_events, run_in, live_script}
@@ -25,5 +25,5 @@ StoppedRunsAreBeginnings =
 abbrev pub StoppedPartsAreBeginnings : Type 0
 StoppedPartsAreBeginnings =
     (base : Script) (parts : List Part) (p : Part) (last : ℕ) (at : Run) → AreInOrder 0 last (parts ++ p ∷ []) →
-    AfterSteps p.limit (given_all p.events (run_in parts (start_of (record base { events = [] })))) at →
+    AfterSteps p.limit (with_all_events p.events (run_in parts (start_of (record base { events = [] })))) at →
     IsBeginningOf (record_so_far at) (record_of (live_script base (all_events (parts ++ p ∷ [])) last))

@@ -4,7 +4,7 @@ use Rattle.std.specs.List.{flat_map}
 use Rattle.ctss_types.specs.declared.script.Script.{Script}
 use Rattle.ctss_types.specs.declared.script.Timed.{Timed}
 use Rattle.time_sharing.specs.Record.{AreLate}
-use Rattle.system_model.specs.Run.{Run, run_to, given_all, ended}
+use Rattle.system_model.specs.Run.{Run, run_to, with_all_events, ended}
 use Rattle.system_model.specs.Record.{start_of, record_of, record_from}
 use Rattle.live_core.specs.Core.{CoreCall, Took, Went}
 use Rattle.supervisor.specs.Whole.{Whole}
@@ -26,7 +26,7 @@ AreInOrder start last (p ∷ parts) = (start ≤ p.limit) × (AreLate start p.ev
 -- the run in these parts
 abbrev pub run_in : List Part → Run → Run
 run_in [] r = r
-run_in (p ∷ parts) r = run_in parts (run_to p.limit (given_all p.events r))
+run_in (p ∷ parts) r = run_in parts (run_to p.limit (with_all_events p.events r))
 
 -- the script with these events, which ends at this limit
 abbrev pub live_script : Script → List Timed → ℕ → Script

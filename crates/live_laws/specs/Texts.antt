@@ -3,7 +3,7 @@ use Rattle.std.specs.Prelude.{◌≡◌, ℕ, ◌≤◌, true, List, [], ◌∷�
 use Rattle.ctss_types.specs.declared.script.Script.{Script}
 use Rattle.ctss_types.specs.declared.script.Timed.{Timed}
 use Rattle.time_sharing.specs.Record.{AreLate}
-use Rattle.system_model.specs.Run.{Run, run_to, given_all}
+use Rattle.system_model.specs.Run.{Run, run_to, with_all_events}
 use Rattle.system_model.specs.Record.{start_of}
 use Rattle.console_texts.specs.Watching.{texts_to}
 use Rattle.supervisor.specs.Whole.{Whole}
@@ -15,18 +15,18 @@ use Rattle.live_laws.specs.Parts.{Part, AreInOrder, all_events, live_script, cal
 abbrev pub TextsInParts : Type 0
 TextsInParts =
     (events : List Timed) (j k : ℕ) (r : Run) (texts : List (List ℕ)) → j ≤ k → AreLate j events →
-    texts_to k (given_all events (run_to j r)) (texts_to j r texts) ≡ texts_to k (given_all events r) texts
+    texts_to k (with_all_events events (run_to j r)) (texts_to j r texts) ≡ texts_to k (with_all_events events r) texts
 
 -- Such events change nothing that is shown before the limit.
 abbrev pub LateEventsShowNothing : Type 0
 LateEventsShowNothing =
     (events : List Timed) (limit : ℕ) (r : Run) (texts : List (List ℕ)) → AreLate limit events →
-    texts_to limit (given_all events r) texts ≡ texts_to limit r texts
+    texts_to limit (with_all_events events r) texts ≡ texts_to limit r texts
 
 -- the texts behind a run in these parts
 abbrev pub texts_in : List Part → Run → List (List ℕ) → List (List ℕ)
 texts_in [] r texts = texts
-texts_in (p ∷ parts) r texts = texts_in parts (run_to p.limit (given_all p.events r)) (texts_to p.limit (given_all p.events r) texts)
+texts_in (p ∷ parts) r texts = texts_in parts (run_to p.limit (with_all_events p.events r)) (texts_to p.limit (with_all_events p.events r) texts)
 
 -- What the consoles show in a run in parts they show in that of the script with all events.
 abbrev pub LiveTextsAreReplayed : Type 0

@@ -238,7 +238,7 @@ module _ (common : ℕ) (accounts : List Account) (files : List OwnedFile) (told
 pub told_is_some : (o : Option (List (List ℕ))) → tells_of o ≡ is_some o
 unfolding tells_of
 told_is_some None = refl
-told_is_some (Some rows) = refl
+told_is_some (Some contents) = refl
 
 -- what follows where a call answered Ok
 pub on_ok : {T E : Type 0} (r : Result T E) (P Q : Type 0) → (P → Q) → OnOk r P → OnOk r Q

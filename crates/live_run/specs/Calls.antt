@@ -5,14 +5,14 @@ use Rattle.ctss_types.specs.declared.fault.RunFault.{RunFault}
 use Rattle.ctss_types.specs.declared.script.Timed.{Timed}
 use Rattle.live_core.specs.Core.{CoreSeen, CoreCall, Took, Went}
 use Rattle.plan_model.specs.Loads.{Places}
-use Rattle.system_model.specs.Run.{Run, given}
+use Rattle.system_model.specs.Run.{Run, with_one_event}
 use Rattle.system_model.specs.Joined.{joined}
 use Rattle.supervisor.specs.Seen.{run_with}
 use Rattle.supervisor.specs.Whole.{Whole, Agrees, Advances, run_of}
 
 -- an event was put behind those that are left, and all else stays
 pub record Takes (e : Timed) (old new : Whole) : Type 0 where
-  pub run : (places : Places) → run_with places new.bare ≡ given e (run_with places old.bare)
+  pub run : (places : Places) → run_with places new.bare ≡ with_one_event e (run_with places old.bare)
   pub texts : new.bare.texts ≡ old.bare.texts
   pub ended : new.bare.ended ≡ old.bare.ended
   pub back : new.back ≡ old.back

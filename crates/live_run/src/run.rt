@@ -42,7 +42,7 @@ impl<C: Backing + Drop> LiveCore for LiveRun<C> {
 
     ghost seen = { λ r. seen_of (whole_of r.supervisor (C.state r.cores)) };
 
-    ghost Sound = { λ r. C.Works r.cores × IsReady (whole_of r.supervisor (C.state r.cores)) };
+    ghost Sound = { λ r. C.Usable r.cores × IsReady (whole_of r.supervisor (C.state r.cores)) };
 
     ghost Goes = { λ a calls b. C.Keeps a.cores b.cores
         × Follows calls (whole_of a.supervisor (C.state a.cores)) (whole_of b.supervisor (C.state b.cores)) };

@@ -41,10 +41,10 @@ fn cores_of<'a, D: Medium>(
     drum: &'a mut D,
 ) -> Result<Image<'a, D>, NoMemory>
     requires range { IsInRange script.now }
-    requires serves { Serves (D.rows drum.old) (D.record_count drum.old) (D.words_each drum.old) 3840 }
+    requires serves { Serves (D.contents drum.old) (D.record_count drum.old) (D.words_each drum.old) 3840 }
     ensures seen { IfOk result (λ c. (state c).drum ≡ seen D.Medium drum.entry) }
-    ensures works { IfOk result (λ c. ⟦<Image<'a, D> as user_cores::Cores>⟧.Works c) }
-    ensures first { IfOk result (λ c. HasFirstCores script.now.accounts (is_some (D.rows drum.old))
+    ensures usable { IfOk result (λ c. ⟦<Image<'a, D> as user_cores::Cores>⟧.Usable c) }
+    ensures first { IfOk result (λ c. HasFirstCores script.now.accounts (is_some (D.contents drum.old))
         (⟦<Image<'a, D> as user_cores::Cores>⟧.state c)) }
 {
     let accounts = script.accounts.as_slice();
@@ -81,11 +81,11 @@ fn directories_of<'d, F: Medium>(
     disk: &'d mut F,
 ) -> Result<FirstFiles<'d, F>, NoMemory>
     requires lawful { IsLawful script.now }
-    requires serves { Holds (F.rows disk.old) (F.record_count disk.old) (F.words_each disk.old) 10000 }
+    requires serves { Holds (F.contents disk.old) (F.record_count disk.old) (F.words_each disk.old) 10000 }
     ensures disk { IfOk result (λ d. (disk_of d.files).ghost_name ≡ disk.entry.ghost_name) }
-    ensures works { IfOk result (λ d. OnOk d.wrote (⟦<TrackDirectories<'d, F> as directories::Directories>⟧.Works d.files)) }
+    ensures usable { IfOk result (λ d. OnOk d.wrote (⟦<TrackDirectories<'d, F> as directories::Directories>⟧.Usable d.files)) }
     ensures first { IfOk result (λ d. OnOk d.wrote (HasFirstFiles script.now.params.common script.now.accounts script.now.files
-        (is_some (F.rows disk.old)) (⟦<TrackDirectories<'d, F> as directories::Directories>⟧.state d.files))) }
+        (is_some (F.contents disk.old)) (⟦<TrackDirectories<'d, F> as directories::Directories>⟧.state d.files))) }
     ensures rises { IfOk result (λ d. F.faults disk.old
         ≤ (⟦<TrackDirectories<'d, F> as directories::Directories>⟧.state d.files).faults) }
     ensures cause { IfOk result (λ d. OnErr d.wrote (Rose (F.faults disk.old)
@@ -119,12 +119,12 @@ pub fn begin<'a, 'd, D: Medium, F: Medium>(
     disk: &'d mut F,
 ) -> Result<Begun<'a, 'd, D, F>, NoMemory>
     requires lawful { IsLawful script.now }
-    requires drum { Serves (D.rows drum.old) (D.record_count drum.old) (D.words_each drum.old) 3840 }
-    requires disk { Holds (F.rows disk.old) (F.record_count disk.old) (F.words_each disk.old) 10000 }
+    requires drum { Serves (D.contents drum.old) (D.record_count drum.old) (D.words_each drum.old) 3840 }
+    requires disk { Holds (F.contents disk.old) (F.record_count disk.old) (F.words_each disk.old) 10000 }
     ensures drum { IfOk result (λ b. (state b.run.cores.cores).drum.name ≡ (seen D.Medium drum.entry).name) }
     ensures disk { IfOk result (λ b. (disk_of b.run.cores.files).ghost_name ≡ disk.entry.ghost_name) }
-    ensures works { IfOk result (λ b. OnOk b.wrote
-        (⟦<Behind<Image<'a, D>, TrackDirectories<'d, F>> as user_cores::Backing>⟧.Works b.run.cores)) }
+    ensures usable { IfOk result (λ b. OnOk b.wrote
+        (⟦<Behind<Image<'a, D>, TrackDirectories<'d, F>> as user_cores::Backing>⟧.Usable b.run.cores)) }
     ensures begun { IfOk result (λ b. IsBegun script.now (media_seen D.Medium F.Medium drum.old disk.old) b.wrote
         (whole_of b.run.supervisor
         (⟦<Behind<Image<'a, D>, TrackDirectories<'d, F>> as user_cores::Backing>⟧.state b.run.cores))) }

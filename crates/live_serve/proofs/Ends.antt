@@ -12,7 +12,7 @@ use Rattle.ctss_types.specs.declared.history.Record.{Record}
 use Rattle.time_sharing.specs.System.{Entry}
 use Rattle.user_model.specs.Inner.{Stored}
 use Rattle.plan_model.specs.Loads.{Places, no_places}
-use Rattle.system_model.specs.Run.{Run, AfterSteps, given_all, ended}
+use Rattle.system_model.specs.Run.{Run, AfterSteps, with_all_events, ended}
 use Rattle.system_model.specs.Joined.{joined}
 use Rattle.system_model.specs.Record.{start_of, record_of, record_from}
 use Rattle.live_core.specs.Core.{CoreCall, Took, Went}
@@ -72,7 +72,7 @@ module _ (base : Script) (was : MediaSeen) (turns : List TurnSeen) (a b : Whole)
 
   -- all turns were done
   pub live_record : (now : MediaSeen) (count : ℕ) (events : List Timed) (rec : Record) → length turns ≡ count → events ≡ events_in (events_by turns)
-      → Follows (heard_in 0 (events_by turns)) a b → EndsComplete b.bare b.back.held rec → b.back.calls ≡ now.drum_calls → WhereTold now.disk_rows (λ rows. LieOn rows rec.files rec.common)
+      → Follows (heard_in 0 (events_by turns)) a b → EndsComplete b.bare b.back.held rec → b.back.calls ≡ now.drum_calls → WhereTold now.disk_contents (λ contents. LieOn contents rec.files rec.common)
       → IsLiveRecord base count events was now rec
   live_record now count events rec many are h ends now_is lie =
       record {
@@ -100,7 +100,7 @@ module _ (base : Script) (was : MediaSeen) (turns : List TurnSeen) (a c : Whole)
   limit = 1000 * (length turns + 1)
 
   -- a record that is shown in this turn
-  in_turn : (b given : Whole) → Follows (heard_in 0 (events_by turns)) a b → run_over given ≡ given_all events (run_over b) → (at : Run) → AfterSteps limit (run_over given) at → Shows at (run_apart c) → IsInTurn base count rec
+  in_turn : (b given : Whole) → Follows (heard_in 0 (events_by turns)) a b → run_over given ≡ with_all_events events (run_over b) → (at : Run) → AfterSteps limit (run_over given) at → Shows at (run_apart c) → IsInTurn base count rec
   in_turn b given behind is at part shown =
       record {
         before = turns;
@@ -110,7 +110,7 @@ module _ (base : Script) (was : MediaSeen) (turns : List TurnSeen) (a c : Whole)
         answers = answers;
         given = given_is;
         at = at;
-        part = subst (λ (r : Run). AfterSteps limit r at) (is ∙ ap (given_all events) (run_behind base was turns a b begins was_is told behind).0) part;
+        part = subst (λ (r : Run). AfterSteps limit r at) (is ∙ ap (with_all_events events) (run_behind base was turns a b begins was_is told behind).0) part;
         shown = rec_is ∙ (λ j. record { entries = shown.entries j; transcripts = shown.transcripts j; files = []; common = []; clock = shown.clock j });
       }
 

@@ -83,7 +83,7 @@ module _ (base : Script) (was now : MediaSeen) (a b : Whole) (begins : Begins ba
 
   -- all turns were done
   pub served : (events shown : List Timed) (k l m : LinkSeen) (rec : Record) → events ≡ shown → Did (DidOpen false) k l → TalkIsDone goes a.bare.texts count events l m old new
-      → EndsComplete b.bare b.back.held rec → b.back.calls ≡ now.drum_calls → WhereTold now.disk_rows (λ rows. LieOn rows rec.files rec.common) → IsLiveRecord base count shown was now rec × IsTalk count shown k m
+      → EndsComplete b.bare b.back.held rec → b.back.calls ≡ now.drum_calls → WhereTold now.disk_contents (λ contents. LieOn contents rec.files rec.common) → IsLiveRecord base count shown was now rec × IsTalk count shown k m
   served events shown k l m rec is opened talk ends now_is lie =
       let t : TalkIsDone goes blank count shown l m old new = subst (λ (es : List Timed). TalkIsDone goes blank count es l m old new) is (talk_from_blank events l m talk) in
       (live_record base was t.turns a b begins was_is now count shown rec t.many t.events_are (follow _ t.core) ends now_is lie, talk_is shown k l m opened t)

@@ -5,7 +5,7 @@ use Rattle.ctss_types.specs.declared.script.Script.{Script}
 use Rattle.ctss_types.specs.declared.script.Timed.{Timed}
 use Rattle.ctss_types.specs.declared.history.Record.{Record}
 use Rattle.file_tracks.specs.Lying.{LieOn}
-use Rattle.system_model.specs.Run.{Run, AfterSteps, given_all}
+use Rattle.system_model.specs.Run.{Run, AfterSteps, with_all_events}
 use Rattle.system_model.specs.Record.{start_of, record_of}
 use Rattle.supervisor.specs.Seen.{record_so_far, without_files}
 use Rattle.supervisor.specs.Counts.{IsCounted, IsCountedToLoad, calls_to_load}
@@ -31,7 +31,7 @@ parts_from number (es ∷ rest) = record { events = es; limit = 1000 * (number +
 pub record IsLiveRecord (base : Script) (turns : ℕ) (events : List Timed) (was now : MediaSeen) (rec : Record) : Type 0 where
   pub record_is : was.tells ≡ true → rec ≡ record_of (live_script base events (1000 * turns))
   pub counted : IsCounted [] rec.entries was.drum_calls now.drum_calls
-  pub lie : WhereTold now.disk_rows (λ rows. LieOn rows rec.files rec.common)
+  pub lie : WhereTold now.disk_contents (λ contents. LieOn contents rec.files rec.common)
 
 -- a record of some whole steps in the turn behind those that were done, whose events were given
 pub record IsInTurn (base : Script) (turns : ℕ) (rec : Record) : Type 0 where
@@ -42,7 +42,7 @@ pub record IsInTurn (base : Script) (turns : ℕ) (rec : Record) : Type 0 where
   pub answers : TurnAnswers
   pub given : events ≡ events_of_turn (1000 * length before) (texts_behind (replicate 32 []) before) (desk_behind (replicate 32 []) empty_desk before) answers
   pub at : Run
-  pub part : AfterSteps (1000 * (length before + 1)) (given_all events (run_in (parts_from 0 (events_of_turns 0 (replicate 32 []) empty_desk before)) (start_of (record base { events = [] })))) at
+  pub part : AfterSteps (1000 * (length before + 1)) (with_all_events events (run_in (parts_from 0 (events_of_turns 0 (replicate 32 []) empty_desk before)) (start_of (record base { events = [] })))) at
   pub shown : rec ≡ record_so_far at
 
 -- Such a record, behind which blocks of a user are to be brought into core.

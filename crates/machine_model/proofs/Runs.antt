@@ -2,7 +2,7 @@
 use Rattle.std.proofs.Common.{◌≡◌, ℕ, zero, suc, ◌+◌, List, refl, sym, ap, ◌∙◌, add-one, add-zero, arith}
 use Rattle.cpu_regs.specs.declared.regs.Regs.{Regs}
 use Rattle.machine_model.specs.Step.{Step, went, halt, entry, illegal, outside}
-use Rattle.machine_model.specs.Machine.{table}
+use Rattle.machine_model.specs.Machine.{step_of}
 use Rattle.machine_model.specs.Runs.{behind, many}
 
 pub many_none : (r : Regs) (core : List ℕ) → many 0 r core ≡ went r core
@@ -14,7 +14,7 @@ unfolding many
 many_suc n r core = refl
 
 -- one more
-pub many_more : (n : ℕ) (r s t : Regs) (core c d : List ℕ) → many n r core ≡ went s c → table s c ≡ went t d → many (n + 1) r core ≡ went t d
+pub many_more : (n : ℕ) (r s t : Regs) (core c d : List ℕ) → many n r core ≡ went s c → step_of s c ≡ went t d → many (n + 1) r core ≡ went t d
 many_more n r s t core c d been goes = ap (λ (k : ℕ). many k r core) (add-one n) ∙ many_suc n r core ∙ ap behind been ∙ goes
 
 -- some, and then more
@@ -36,7 +36,7 @@ pub record Before (n : ℕ) (r t : Regs) (core d : List ℕ) : Type 0 where
   pub regs : Regs
   pub words : List ℕ
   pub been : many n r core ≡ went regs words
-  pub goes : table regs words ≡ went t d
+  pub goes : step_of regs words ≡ went t d
 
 pub many_less : (n : ℕ) (r t : Regs) (core d : List ℕ) → many (suc n) r core ≡ went t d → Before n r t core d
 many_less n r t core d all = by_step (many n r core) refl (sym (many_suc n r core) ∙ all)

@@ -70,5 +70,5 @@ executed i r core =
     else done i r core
 
 -- one step
-abbrev pub table : Regs → List ℕ → Step
-table r core = at core r.ic (λ w. instruction (decoded w) (λ i. executed i r core))
+abbrev pub step_of : Regs → List ℕ → Step
+step_of r core = at core r.ic (λ w. instruction (decoded w) (λ i. executed i r core))

@@ -11,8 +11,8 @@ ended Went r core = went r core
 ended Halt r core = halt r core
 ended (Outside a) r core = outside a
 
--- an address outside leaves everything as it was
+-- an address outside leaves everything as it was, and what halts stores nothing
 abbrev pub Keeps : OpEnd → Regs → Regs → List ℕ → List ℕ → Type 0
 Keeps (Outside a) r s core d = (s ≡ r) × (d ≡ core)
 Keeps Went r s core d = Unit {0}
-Keeps Halt r s core d = Unit {0}
+Keeps Halt r s core d = d ≡ core

@@ -4,11 +4,11 @@ use Rattle.word36.specs.Bits.{Acc37}
 use Rattle.cpu_regs.specs.declared.regs.Regs.{Regs}
 use Rattle.cpu_regs.specs.Registers.{no_registers}
 use Rattle.machine_model.specs.Step.{went, halt, entry, illegal, outside}
-use Rattle.machine_model.specs.Machine.{table}
+use Rattle.machine_model.specs.Machine.{step_of}
 
 -- a step goes on with these registers, and leaves the core as it was
 abbrev pub Goes : Regs → List ℕ → Regs → Type 0
-Goes r core s = table r core ≡ went s core
+Goes r core s = step_of r core ≡ went s core
 
 abbrev pub plus : ℕ → Acc37
 plus m = record { negative = false; magnitude = m }
@@ -76,7 +76,7 @@ pub record RowOfDivision : Type 0 where
   pub by_zero : Goes (regs (plus 0) 17) (dvp 0o400000000000) (at_place 1 (checked (regs (plus 0) 17)))
   pub quotient : Goes (regs (plus 0) 17) (dvp 0o400000000005) (at_place 1 (regs (plus 2) 0o400000000003))
   pub remainder : Goes (regs (minus 0) 17) (dvp 0o400000000005) (at_place 1 (regs (minus 2) 3))
-  pub check_halts : table (regs (plus 5) 17) (0o022000000001 ∷ 5 ∷ []) ≡ halt (at_place 1 (checked (regs (plus 5) 17))) (0o022000000001 ∷ 5 ∷ [])
+  pub check_halts : step_of (regs (plus 5) 17) (0o022000000001 ∷ 5 ∷ []) ≡ halt (at_place 1 (checked (regs (plus 5) 17))) (0o022000000001 ∷ 5 ∷ [])
 
 -- LLS with a count
 abbrev pub lls : ℕ → List ℕ
@@ -140,8 +140,8 @@ lxa = 0o053400200001 ∷ 0o000000000011 ∷ []
 pub record RowOfPlaces : Type 0 where
   pub direct : Goes (indexes 0 2) (0o050000200003 ∷ 6 ∷ []) (at_place 1 (record (indexes 0 2) { ac = plus 6 }))
   pub through : Goes (indexes 3 2) indirect (at_place 1 (record (indexes 3 2) { ac = plus 4 }))
-  pub round : table (indexes 7 2) indirect ≡ outside 0o77777
-  pub no_word : table (indexes 3 2) (0o050060200010 ∷ []) ≡ outside 6
+  pub round : step_of (indexes 7 2) indirect ≡ outside 0o77777
+  pub no_word : step_of (indexes 3 2) (0o050060200010 ∷ []) ≡ outside 6
   pub tag_names : Goes (indexes 3 0) axt (at_place 1 (indexes 5 0))
   pub tag_and_word : Goes (indexes 3 1) lxa (at_place 1 (indexes 3 9))
 
@@ -149,9 +149,9 @@ pub record RowOfPlaces : Type 0 where
 pub record RowOfXec : Type 0 where
   pub goes_on : Goes (at_place 1 no_registers) (0 ∷ 0o052200000002 ∷ 0o076100000000 ∷ []) (at_place 2 no_registers)
   pub skips : Goes no_registers (0o052200000001 ∷ 0o034000000002 ∷ 0 ∷ []) (at_place 2 no_registers)
-  pub another : table no_registers (0o052200000001 ∷ 0o052200000002 ∷ 0o076100000000 ∷ []) ≡ illegal
-  pub itself : table no_registers (0o052200000000 ∷ []) ≡ illegal
-  pub with_flag : table no_registers (0o052200000001 ∷ 0o052260077777 ∷ []) ≡ illegal
+  pub another : step_of no_registers (0o052200000001 ∷ 0o052200000002 ∷ 0o076100000000 ∷ []) ≡ illegal
+  pub itself : step_of no_registers (0o052200000000 ∷ []) ≡ illegal
+  pub with_flag : step_of no_registers (0o052200000001 ∷ 0o052260077777 ∷ []) ≡ illegal
 
 -- two blocks of plus zeros behind a word
 abbrev pub two_blocks : ℕ → List ℕ
@@ -160,11 +160,11 @@ two_blocks w = w ∷ replicate 511 0
 -- how a step ends that doesn't go on: a cleared word is HTR 0, and code 0001 is none; STO 512 lies outside two blocks;
 -- TIA 1 is an entry and gives the word at 1
 pub record RowOfEnds : Type 0 where
-  pub cleared : table (at_place 1 no_registers) (0o076100000000 ∷ 0 ∷ []) ≡ halt no_registers (0o076100000000 ∷ 0 ∷ [])
-  pub htr : table no_registers (0o000000000005 ∷ []) ≡ halt (at_place 5 no_registers) (0o000000000005 ∷ [])
-  pub hpr : table no_registers (0o042000000005 ∷ []) ≡ halt (at_place 1 no_registers) (0o042000000005 ∷ [])
-  pub off_the_table : table no_registers (0o000100000000 ∷ []) ≡ illegal
-  pub past_two_blocks : table no_registers (two_blocks 0o060100001000) ≡ outside 512
+  pub cleared : step_of (at_place 1 no_registers) (0o076100000000 ∷ 0 ∷ []) ≡ halt no_registers (0o076100000000 ∷ 0 ∷ [])
+  pub htr : step_of no_registers (0o000000000005 ∷ []) ≡ halt (at_place 5 no_registers) (0o000000000005 ∷ [])
+  pub hpr : step_of no_registers (0o042000000005 ∷ []) ≡ halt (at_place 1 no_registers) (0o042000000005 ∷ [])
+  pub off_the_table : step_of no_registers (0o000100000000 ∷ []) ≡ illegal
+  pub past_two_blocks : step_of no_registers (two_blocks 0o060100001000) ≡ outside 512
   pub last_of_two_blocks : Goes no_registers (two_blocks 0o050000000777) (at_place 1 no_registers)
-  pub fetch : table (at_place 512 no_registers) (two_blocks 0) ≡ outside 512
-  pub entry : table no_registers (0o010100000001 ∷ 42 ∷ []) ≡ entry 42
+  pub fetch : step_of (at_place 512 no_registers) (two_blocks 0) ≡ outside 512
+  pub entry : step_of no_registers (0o010100000001 ∷ 42 ∷ []) ≡ entry 42

@@ -5,26 +5,12 @@ use Rattle.ctss_types.specs.declared.script.Timed.{Timed}
 use Rattle.ctss_types.specs.declared.file.OwnedFile.{OwnedFile}
 use Rattle.text_model.specs.Made.{account_at, made_accounts, drawn, file_at, made_files, events_at, made_events}
 
--- an account more behind those that are made so far
-pub one_account : (left i : ℕ) (list : List Account) → 0 < left → (list ++ account_at i ∷ []) ++ made_accounts (left - 1) (suc i) ≡ list ++ made_accounts left i
-one_account zero i list some = absurd (omega (arith, some))
-one_account (suc k) i list some =
-    let count : suc k - 1 ≡ k = omega arith in
-    append_assoc list (account_at i ∷ []) (made_accounts (suc k - 1) (suc i)) ∙ (λ j. list ++ account_at i ∷ made_accounts (count j) (suc i))
-
 -- a file more
 pub one_file : (left i x : ℕ) (list : List OwnedFile) → 0 < left → (list ++ file_at i x ∷ []) ++ made_files (left - 1) (suc i) (drawn (drawn x)) ≡ list ++ made_files left i x
 one_file zero i x list some = absurd (omega (arith, some))
 one_file (suc k) i x list some =
     let count : suc k - 1 ≡ k = omega arith in
     append_assoc list (file_at i x ∷ []) (made_files (suc k - 1) (suc i) (drawn (drawn x))) ∙ (λ j. list ++ file_at i x ∷ made_files (count j) (suc i) (drawn (drawn x)))
-
--- the events of a user more
-pub one_session : (left i : ℕ) (list : List Timed) → 0 < left → (list ++ events_at i) ++ made_events (left - 1) (suc i) ≡ list ++ made_events left i
-one_session zero i list some = absurd (omega (arith, some))
-one_session (suc k) i list some =
-    let count : suc k - 1 ≡ k = omega arith in
-    append_assoc list (events_at i) (made_events (suc k - 1) (suc i)) ∙ (λ j. list ++ (events_at i ++ made_events (count j) (suc i)))
 
 -- an item more behind a list that is said in other words
 one_more : {X : Type 0} (xs ys : List X) (x : X) (zs : List X) → ys ≡ xs → zs ≡ ys ++ x ∷ [] → zs ≡ xs ++ x ∷ []

@@ -41,15 +41,15 @@ with_call (Some calls) call =
 -- the records with other words in one, where records are told
 abbrev pub with_record : Option (List (List ℕ)) → ℕ → List ℕ → Option (List (List ℕ))
 with_record None at ws = None
-with_record (Some rows) at ws = Some (slice_set rows at ws)
+with_record (Some contents) at ws = Some (slice_set contents at ws)
 
 -- there are as many records as this, where they are told
 abbrev pub HasShape : Option (List (List ℕ)) → ℕ → Type 0
-HasShape rows n = WhereTold rows (λ rows. length rows ≡ n)
+HasShape contents n = WhereTold contents (λ contents. length contents ≡ n)
 
 -- a record holds these words, where records are told
 abbrev pub Reads : Option (List (List ℕ)) → ℕ → List ℕ → Type 0
-Reads rows at ws = WhereTold rows (λ rows. slice_index_or rows at [] ≡ ws)
+Reads contents at ws = WhereTold contents (λ contents. slice_index_or contents at [] ≡ ws)
 
 -- one record holds some words, and the others what they held
 abbrev pub ChangesOnly : Option (List (List ℕ)) → Option (List (List ℕ)) → ℕ → Type 0

@@ -8,7 +8,7 @@ use Rattle.medium.specs.declared.memory.Damage.{Damage}
 
 -- what the records hold, the numbers of the calls that fail, the damages, how many calls, reads and faults there were, and the list of calls
 pub record MediumState : Type 0 where
-  pub rows : List (List ℕ)
+  pub contents : List (List ℕ)
   pub words_each : ℕ
   pub fails : List ℕ
   pub damages : List Damage
@@ -19,7 +19,7 @@ pub record MediumState : Type 0 where
 
 -- what the records hold, where they are told
 abbrev pub rows_told : MediumState → Option (List (List ℕ))
-rows_told m = told_rows m.damages m.rows
+rows_told m = told_rows m.damages m.contents
 
 -- one more, up to the end of a u64
 abbrev pub next : ℕ → ℕ
@@ -31,7 +31,7 @@ fails_next m = list_any (λ n. nat_eq n (next m.call_count)) m.fails
 
 -- the words that the next read gives, where it reads this record and does not fail
 abbrev pub words_read : MediumState → ℕ → List ℕ
-words_read m at = damaged_words m.damages (next m.read_count) (slice_index_or m.rows at [])
+words_read m at = damaged_words m.damages (next m.read_count) (slice_index_or m.contents at [])
 
 -- the count of faults after the next call
 abbrev pub faults_after : MediumState → ℕ
@@ -49,7 +49,7 @@ after_read m at = record m {
 -- a medium after a write of these words into a record
 abbrev pub after_write : MediumState → ℕ → List ℕ → MediumState
 after_write m at words = record m {
-  rows = (if fails_next m then m.rows else slice_set m.rows at words);
+  contents = (if fails_next m then m.contents else slice_set m.contents at words);
   call_count = next m.call_count;
   fault_count = faults_after m;
   calls = with_call m.calls (write_call at (fails_next m));

@@ -1,7 +1,7 @@
 -- proof: what the fields of a medium in memory stand for.
 use Rattle.std.specs.Prelude.{◌≡◌}
 use Rattle.std.specs.List.{All}
-use Rattle.medium.specs.Rows.{IsRow}
+use Rattle.medium.specs.Rows.{IsRecord}
 use Rattle.medium.specs.Damages.{IsDamage}
 use Rattle.medium.specs.MediumState.{MediumState}
 use Rattle.medium.specs.declared.memory.MemoryMedium.TheInside.{Inside}
@@ -9,7 +9,7 @@ use Rattle.medium.specs.declared.memory.MemoryMedium.TheInside.{Inside}
 -- the fields as a state
 abbrev pub medium_state : Inside → MediumState
 medium_state m = record {
-  rows = m.pages.rows;
+  contents = m.pages.contents;
   words_each = m.log.words_each;
   fails = m.fails.items;
   damages = m.damages.items;
@@ -21,6 +21,6 @@ medium_state m = record {
 
 -- each record has its words, and the damages lie in a record
 pub record IsMedium (m : Inside) : Type 0 where
-  pub rows : All (λ row. IsRow m.log.words_each row) m.pages.rows
+  pub contents : All (λ row. IsRecord m.log.words_each row) m.pages.contents
   pub each : m.pages.each ≡ m.log.words_each
   pub damages : All (λ d. IsDamage m.log.words_each d) m.damages.items

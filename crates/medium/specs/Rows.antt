@@ -5,8 +5,8 @@ use Rattle.medium.specs.declared.memory.Damage.{Damage}
 
 -- the records, told where nothing is damaged
 abbrev pub told_rows : List Damage → List (List ℕ) → Option (List (List ℕ))
-told_rows [] rows = Some rows
-told_rows (d ∷ ds) rows = None
+told_rows [] contents = Some contents
+told_rows (d ∷ ds) contents = None
 
 -- so many words from a place on; behind the last one all are zero
 abbrev pub words_from : List ℕ → ℕ → ℕ → List ℕ
@@ -20,10 +20,10 @@ rows_from ws n p (suc k) = words_from ws p n ∷ rows_from ws n (p + n) k
 
 -- records in one piece of memory
 pub record PagesState : Type 0 where
-  pub rows : List (List ℕ)
+  pub contents : List (List ℕ)
   pub each : ℕ
 
 -- a record of so many words
-pub record IsRow (n : ℕ) (row : List ℕ) : Type 0 where
+pub record IsRecord (n : ℕ) (row : List ℕ) : Type 0 where
   pub len : length row ≡ n
   pub words : AreWords row

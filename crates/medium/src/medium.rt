@@ -35,7 +35,7 @@ pub trait Medium {
     ghost words_each: { Self → ℕ };
 
     /// What each record holds, where told.
-    ghost rows: { Self → Option (List (List ℕ)) };
+    ghost contents: { Self → Option (List (List ℕ)) };
 
     /// The calls made, with the room for more, where told.
     ghost calls: { Self → Option CallList };
@@ -46,7 +46,7 @@ pub trait Medium {
     /// How many records there are. It never changes.
     fn records(&self) -> u16
         ensures count { result ≡ record_count self.now }
-        ensures shape { HasShape (rows self.now) (record_count self.now) };
+        ensures shape { HasShape (contents self.now) (record_count self.now) };
 
     /// How many words a record has. It never changes.
     fn record_words(&self) -> u16
@@ -59,14 +59,14 @@ pub trait Medium {
         requires whole { length into.old ≡ words_each self.old }
         requires words { AreWords into.old }
         ensures words { AreWords into.new }
-        ensures honest { OnOk result (Reads (rows self.old) at into.new) }
-        ensures rows { OnOk result (rows self.new ≡ rows self.old) }
-        ensures err { OnErr result (ChangesOnly (rows self.old) (rows self.new) at) }
+        ensures honest { OnOk result (Reads (contents self.old) at into.new) }
+        ensures contents { OnOk result (contents self.new ≡ contents self.old) }
+        ensures err { OnErr result (ChangesOnly (contents self.old) (contents self.new) at) }
         ensures calls { calls self.new
             ≡ with_call (calls self.old) (read_call at (is_err result) into.new) }
         ensures count { record_count self.new ≡ record_count self.old }
         ensures each { words_each self.new ≡ words_each self.old }
-        ensures kept { faults self.old ≤ faults self.new }
+        ensures faults_grow { faults self.old ≤ faults self.new }
         ensures cause { OnErr result (Rose (faults self.old) (faults self.new)) };
 
     /// Writes a record. After `Failed` that record is unknown.
@@ -74,12 +74,12 @@ pub trait Medium {
         requires inside { at < record_count self.old }
         requires whole { length from.now ≡ words_each self.old }
         requires words { AreWords from.now }
-        ensures rows { OnOk result (rows self.new ≡ with_record (rows self.old) at from.now) }
-        ensures err { OnErr result (ChangesOnly (rows self.old) (rows self.new) at) }
+        ensures contents { OnOk result (contents self.new ≡ with_record (contents self.old) at from.now) }
+        ensures err { OnErr result (ChangesOnly (contents self.old) (contents self.new) at) }
         ensures calls { calls self.new
             ≡ with_call (calls self.old) (write_call at (is_err result)) }
         ensures count { record_count self.new ≡ record_count self.old }
         ensures each { words_each self.new ≡ words_each self.old }
-        ensures kept { faults self.old ≤ faults self.new }
+        ensures faults_grow { faults self.old ≤ faults self.new }
         ensures cause { OnErr result (Rose (faults self.old) (faults self.new)) };
 }

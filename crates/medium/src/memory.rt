@@ -95,7 +95,7 @@ impl MemoryMedium {
     ) -> Result<MemoryMedium, NoMemory>
         requires { All (λ d. IsDamage record_words d) damages.now }
         ensures { IfOk result (λ m. m ≡ record {
-          rows = replicate records (replicate record_words 0);
+          contents = replicate records (replicate record_words 0);
           words_each = record_words;
           fails = fails.now;
           damages = damages.now;
@@ -132,7 +132,7 @@ impl MemoryMedium {
           calls = with_call self.old.calls
               (record { is_write = is_write; at = at; failed = true; words = [] });
         } }
-        ensures kept { self.old.fault_count ≤ self.new.fault_count }
+        ensures faults_grow { self.old.fault_count ≤ self.new.fault_count }
     {
         self.fault_count = self.fault_count.saturating_add(1);
         self.log.push(is_write, at, true, &[]);
@@ -141,11 +141,11 @@ impl MemoryMedium {
 }
 
 impl Medium for MemoryMedium {
-    ghost record_count = { λ m. length m.rows };
+    ghost record_count = { λ m. length m.contents };
 
     ghost words_each = { λ m. m.words_each };
 
-    ghost rows = { rows_told };
+    ghost contents = { rows_told };
 
     ghost calls = { λ m. m.calls };
 
@@ -160,18 +160,18 @@ impl Medium for MemoryMedium {
     }
 
     fn read(&mut self, at: u16, into: &mut [u64]) -> Result<(), Failed>
-        requires inside { at < length self.old.rows }
+        requires inside { at < length self.old.contents }
         requires whole { length into.old ≡ self.old.words_each }
         requires words { AreWords into.old }
         ensures words { AreWords into.new }
         ensures honest { OnOk result (Reads (rows_told self.old) at into.new) }
-        ensures rows { OnOk result (rows_told self.new ≡ rows_told self.old) }
+        ensures contents { OnOk result (rows_told self.new ≡ rows_told self.old) }
         ensures err { OnErr result (ChangesOnly (rows_told self.old) (rows_told self.new) at) }
         ensures calls { self.new.calls
             ≡ with_call self.old.calls (read_call at (is_err result) into.new) }
-        ensures count { length self.new.rows ≡ length self.old.rows }
+        ensures count { length self.new.contents ≡ length self.old.contents }
         ensures each { self.new.words_each ≡ self.old.words_each }
-        ensures kept { self.old.fault_count ≤ self.new.fault_count }
+        ensures faults_grow { self.old.fault_count ≤ self.new.fault_count }
         ensures cause { OnErr result (Rose self.old.fault_count self.new.fault_count) }
 
         // In memory all is determined.
@@ -191,15 +191,15 @@ impl Medium for MemoryMedium {
     }
 
     fn write(&mut self, at: u16, from: &[u64]) -> Result<(), Failed>
-        requires inside { at < length self.old.rows }
+        requires inside { at < length self.old.contents }
         requires whole { length from.now ≡ self.old.words_each }
         requires words { AreWords from.now }
-        ensures rows { OnOk result (rows_told self.new ≡ with_record (rows_told self.old) at from.now) }
+        ensures contents { OnOk result (rows_told self.new ≡ with_record (rows_told self.old) at from.now) }
         ensures err { OnErr result (ChangesOnly (rows_told self.old) (rows_told self.new) at) }
         ensures calls { self.new.calls ≡ with_call self.old.calls (write_call at (is_err result)) }
-        ensures count { length self.new.rows ≡ length self.old.rows }
+        ensures count { length self.new.contents ≡ length self.old.contents }
         ensures each { self.new.words_each ≡ self.old.words_each }
-        ensures kept { self.old.fault_count ≤ self.new.fault_count }
+        ensures faults_grow { self.old.fault_count ≤ self.new.fault_count }
         ensures cause { OnErr result (Rose self.old.fault_count self.new.fault_count) }
 
         // In memory all is determined.

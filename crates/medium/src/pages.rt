@@ -23,7 +23,7 @@ impl Model for Pages {
 
     ghost Value = { PagesState };
 
-    ghost view = { λ r. record { rows = rows_from r.words.items r.each 0 r.count; each = r.each } };
+    ghost view = { λ r. record { contents = rows_from r.words.items r.each 0 r.count; each = r.each } };
 
     ghost invariant = { λ r. (r.count * r.each ≤ vec_capacity r.words) × AreWords r.words.items };
 }
@@ -92,7 +92,7 @@ fn copy_out(words: &[u64], place: usize, into: &mut [u64])
 impl Pages {
     /// Records of zeros.
     pub(crate) fn zeros(alloc: Global, count: u16, each: u16) -> Result<Pages, NoMemory>
-        ensures rows { IfOk result (λ r. r.rows ≡ replicate count (replicate each 0)) }
+        ensures contents { IfOk result (λ r. r.contents ≡ replicate count (replicate each 0)) }
         ensures each { IfOk result (λ r. r.each ≡ each) }
     {
         let words = Vec::with_capacity(alloc, count as usize * each as usize)?;
@@ -101,7 +101,7 @@ impl Pages {
 
     /// How many there are.
     pub(crate) fn len(&self) -> u16
-        ensures { result ≡ length self.now.rows }
+        ensures { result ≡ length self.now.contents }
     {
         self.count
     }
@@ -115,9 +115,9 @@ impl Pages {
 
     /// Copies a record out.
     pub(crate) fn read(&self, at: u16, into: &mut [u64])
-        requires inside { at < length self.now.rows }
+        requires inside { at < length self.now.contents }
         requires whole { length into.old ≡ self.now.each }
-        ensures row { into.new ≡ slice_index_or self.now.rows at [] }
+        ensures row { into.new ≡ slice_index_or self.now.contents at [] }
         ensures words { AreWords into.new }
     {
         copy_out(&self.words, at as usize * self.each as usize, into);
@@ -125,10 +125,10 @@ impl Pages {
 
     /// Copies a record in.
     pub(crate) fn write(&mut self, at: u16, from: &[u64])
-        requires inside { at < length self.old.rows }
+        requires inside { at < length self.old.contents }
         requires whole { length from.now ≡ self.old.each }
         requires words { AreWords from.now }
-        ensures { self.new ≡ record self.old { rows = slice_set self.old.rows at from.now } }
+        ensures { self.new ≡ record self.old { contents = slice_set self.old.contents at from.now } }
     {
         let place = at as usize * self.each as usize;
         reach(&mut self.words, place + self.each as usize);

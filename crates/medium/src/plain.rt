@@ -25,7 +25,7 @@ impl PlainMedium {
     /// A medium of `records` records of `record_words` words, all zero. All memory is taken here; what is never written costs nothing
     /// until it is.
     pub fn new(alloc: Global, records: u16, record_words: u16) -> Result<PlainMedium, NoMemory>
-        ensures { IfOk result (λ m. m ≡ record { rows = replicate records (replicate record_words 0); each = record_words }) }
+        ensures { IfOk result (λ m. m ≡ record { contents = replicate records (replicate record_words 0); each = record_words }) }
     {
         let pages = Pages::zeros(alloc, records, record_words)?;
         Ok(PlainMedium { pages })
@@ -35,11 +35,11 @@ impl PlainMedium {
 impl Medium for PlainMedium {
     ghost use Rattle.std.specs.Prelude.{None, Some, length};
 
-    ghost record_count = { λ m. length m.rows };
+    ghost record_count = { λ m. length m.contents };
 
     ghost words_each = { λ m. m.each };
 
-    ghost rows = { λ m. Some m.rows };
+    ghost contents = { λ m. Some m.contents };
 
     ghost calls = { λ _. None };
 

@@ -44,6 +44,3 @@ pub flag_again : (k : ℕ) (f : Bool) (t a : ℕ) → t < 2 ^ 3 → a < 2 ^ 15
     → nat_eq ((k * 2 ^ 24 + (if f then 3 * 2 ^ 22 else 0) + t * 2 ^ 15 + a) / 2 ^ 22 % 4) 3 ≡ f
 flag_again k true t a h g = grind (arith, nat_tests)
 flag_again k false t a h g = grind (arith, nat_tests)
-
-pub tag_again : (m t a : ℕ) → t < 2 ^ 3 → a < 2 ^ 15 → tag_of (m * 2 ^ 18 + t * 2 ^ 15 + a) ≡ t
-tag_again m t a h g = omega arith

@@ -125,8 +125,8 @@ fn medium_of(
     records: u16,
     words: u16,
 ) -> Result<MemoryMedium>
-    ensures shape { IfOk result (λ m. HasShape (told_rows m.damages m.rows) (length m.rows)) }
-    ensures count { IfOk result (λ m. length m.rows ≡ records) }
+    ensures shape { IfOk result (λ m. HasShape (told_rows m.damages m.contents) (length m.contents)) }
+    ensures count { IfOk result (λ m. length m.contents ≡ records) }
     ensures words { IfOk result (λ m. m.words_each ≡ words) }
 {
     let damages = damages_of(alloc, faults.damage, words)?;

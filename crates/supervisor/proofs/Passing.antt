@@ -26,7 +26,7 @@ use Rattle.supervisor.specs.Steps.{IsTied, IsHeld}
 use Rattle.supervisor.specs.Shows.{TextsGrow}
 use Rattle.supervisor.proofs.Growing.{grow_none, grow_trans, next_grow}
 use Rattle.supervisor.proofs.Doing.{same_but}
-use Rattle.supervisor.proofs.Running.{HasRunPart, Leads, next_common, joined_common}
+use Rattle.supervisor.proofs.Running.{HasRunSteps, Leads, next_common, joined_common}
 use Rattle.supervisor.proofs.Watching.{HasTextsPart, TextsLead, texts_same, told_joined, told_apart}
 
 -- no step
@@ -101,7 +101,7 @@ module _ (limit : ℕ) (mid new : Run) (had has : Held) (d : DoesMany limit mid 
   pass_leads start first tells leads = λ told.
       let t = tells ∙ told in ap (run_to limit) (now_joined t) ∙ runs ∙ ap (run_to limit) (sym (was_joined t)) ∙ leads told
 
-  pub pass_part : (start : Run) (first : Held) → had.tells ≡ first.tells → HasRunPart limit start mid first had → HasRunPart limit start new first has
+  pub pass_part : (start : Run) (first : Held) → had.tells ≡ first.tells → HasRunSteps limit start mid first had → HasRunSteps limit start new first has
   pass_part start first tells part = λ told.
       let t = tells ∙ told in
       subst (AfterSteps limit (joined first.stores start)) (sym (now_joined t))

@@ -15,11 +15,11 @@ use Rattle.medium.specs.Medium.{CallList}
 use Rattle.plan_model.specs.Levels.{chosen, user_of}
 use Rattle.ctss_types.specs.declared.session.Waiting.{Waiting}
 use Rattle.system_model.proofs.SoundLaws.{first_user, Alike, user_too, seats_too}
-use Rattle.system_model.proofs.JoinedLaws.{joined_same, must_same, blocks_same}
+use Rattle.system_model.proofs.JoinedLaws.{joined_same, same_stores, must_same, blocks_same}
 use Rattle.system_model.proofs.RunLaws.{run_to_next, run_to_done, after_next, after_none}
 use Rattle.user_cores.specs.Backing.{Held}
 use Rattle.supervisor.specs.Counts.{IsCounted, calls_to_load}
-use Rattle.supervisor.specs.Steps.{Does, Stays, IsTied, IsHeld, LoadIsDue, NextLoadFails, HasRun, HasRunShown, HasRunToLoad, Ends, Lasts}
+use Rattle.supervisor.specs.Steps.{Does, Stays, IsTied, IsHeld, LoadIsDue, NextLoadFails, HasRun, HasRunPart, HasRunShown, HasRunToLoad, Ends, Lasts}
 use Rattle.supervisor.proofs.Counting.{counted_to_load}
 use Rattle.supervisor.proofs.Doing.{does_sound}
 
@@ -29,8 +29,8 @@ joined_next limit old new had has d told =
     joined_same has.stores d.after new (λ u. sym (d.now told u)) ∙ d.is ∙ ap (next limit) (joined_same d.before had.stores old (d.was told))
 
 -- a part of the run, of the users joined with their words, where the drum tells them
-abbrev pub HasRunPart : ℕ → (old new : Run) → (had has : Held) → Type 0
-HasRunPart limit old new had has = had.tells ≡ true → AfterSteps limit (joined had.stores old) (joined has.stores new)
+abbrev pub HasRunSteps : ℕ → (old new : Run) → (had has : Held) → Type 0
+HasRunSteps limit old new had has = had.tells ≡ true → AfterSteps limit (joined had.stores old) (joined has.stores new)
 
 -- what is to come of a run is the same behind a step
 abbrev pub Leads : ℕ → (start now : Run) → (first has : Held) → Type 0
@@ -41,12 +41,12 @@ unfolding joined
 leads_on limit start old new first had has tells up d leads = λ told.
     ap (run_to limit) (joined_next limit old new had has d (tells ∙ told)) ∙ run_to_next limit (joined had.stores old) up ∙ leads told
 
-pub part_on : (limit : ℕ) (start old new : Run) (first had has : Held) → had.tells ≡ first.tells → old.system.clock < limit → Does (next limit) old new had has → HasRunPart limit start old first had → HasRunPart limit start new first has
+pub part_on : (limit : ℕ) (start old new : Run) (first had has : Held) → had.tells ≡ first.tells → old.system.clock < limit → Does (next limit) old new had has → HasRunSteps limit start old first had → HasRunSteps limit start new first has
 unfolding joined
 part_on limit start old new first had has tells up d part = λ told.
     subst (AfterSteps limit (joined first.stores start)) (sym (joined_next limit old new had has d (tells ∙ told))) (after_next limit (joined first.stores start) (joined had.stores old) (part told) up)
 
-pub part_none : (limit : ℕ) (start : Run) (first : Held) → HasRunPart limit start start first first
+pub part_none : (limit : ℕ) (start : Run) (first : Held) → HasRunSteps limit start start first first
 part_none limit start first = λ told. after_none limit (joined first.stores start)
 
 pub run_done : (limit : ℕ) (start now : Run) (first has : Held) → limit ≤ now.system.clock → Leads limit start now first has → HasRun limit start now first has
@@ -86,8 +86,23 @@ calls_joined : (f : ℕ → Stored) (u : ℕ) (r : Run) → IsUser u r → calls
 unfolding joined
 calls_joined f u r who = ap (λ (n : ℕ). count_below n (is_dumped r.system.plan.places u) + count_below n (is_read r.system.plan.places u)) (blocks_same f u r who)
 
+-- a part of a run, behind which at most an operation on the common files was made
+pub part_but_commons : (limit : ℕ) (start old new : Run) (first had has : Held) → had.tells ≡ first.tells → HasRunSteps limit start old first had → Stays old new had has → HasRunPart limit start new first has
+unfolding joined
+part_but_commons limit start old new first had has tells part s = λ told. (
+  joined had.stores old,
+  part told,
+  ap (joined has.stores) s.run
+      ∙ (λ j. record old {
+        system = record old.system {
+          users = same_stores 1 has.stores had.stores old.system.users (λ v some. s.stores (tells ∙ told) v some) j;
+          files = (has.stores 0).files;
+        };
+      }),
+)
+
 -- a part of a run is shown
-pub part_shown : (limit : ℕ) (start old new : Run) (first had : Held) → HasRunPart limit start old first had
+pub part_shown : (limit : ℕ) (start old new : Run) (first had : Held) → HasRunSteps limit start old first had
     → new.system.entries ≡ old.system.entries → new.system.users ≡ old.system.users → new.system.clock ≡ old.system.clock → HasRunShown limit start new first
 unfolding joined
 part_shown limit start old new first had part entries users clock = λ told. (
@@ -101,7 +116,7 @@ part_shown limit start old new first had part entries users clock = λ told. (
 )
 
 -- a run that stopped at a load
-pub stops_at_load : (limit : ℕ) (start old new : Run) (first had : Held) (was mid now : Option CallList) → HasRunPart limit start old first had → old.system.clock < limit → Sound old
+pub stops_at_load : (limit : ℕ) (start old new : Run) (first had : Held) (was mid now : Option CallList) → HasRunSteps limit start old first had → old.system.clock < limit → Sound old
     → IsCounted start.system.entries old.system.entries was mid → NextLoadFails old mid now
     → new.system.entries ≡ old.system.entries → new.system.users ≡ old.system.users → new.system.clock ≡ old.system.clock → HasRunToLoad limit start new first was now
 unfolding joined
@@ -128,13 +143,6 @@ stops_at_load limit start old new first had was mid now part early sound counted
       };
       counted = counted_to_load start.system.entries old.system.entries new.system.entries was mid now _ _ counted fails.cut (calls_joined had.stores due.user old who) entries;
     }
-
--- what holds by how a step ended
-pub lasts_by : {T : Type 0} (r : Result T RunFault) (A B C D P : Type 0) → (A → P) → (B → P) → Ends r A B C D → Lasts r P
-lasts_by (Ok x) A B C D P done unchanged h = done h
-lasts_by (Err NoMemory) A B C D P done unchanged h = unchanged h
-lasts_by (Err Drum) A B C D P done unchanged h = tt
-lasts_by (Err Disk) A B C D P done unchanged h = tt
 
 -- soundness doesn't look at the places of blocks
 pub sound_places : (places : Places) (r : Run) → Sound r → Sound (at_places places r)

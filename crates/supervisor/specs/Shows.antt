@@ -21,8 +21,8 @@ abbrev pub texts_of : List User → List Kept → List (List ℕ)
 texts_of users rows = map (text_of (transcripts_of users)) (rows_of rows)
 
 -- the rows are those of these consoles
-abbrev pub IsTold : List Console → List User → List Kept → Type 0
-IsTold consoles users rows = AreShown consoles (transcripts_of users) (rows_of rows)
+abbrev pub MatchesConsoles : List Console → List User → List Kept → Type 0
+MatchesConsoles consoles users rows = AreShown consoles (transcripts_of users) (rows_of rows)
 
 -- The texts behind a step, with whatever words and files the users had.
 abbrev pub GoesOn : ℕ → (old new : Run) → (had has : List (List ℕ)) → Type 0

@@ -87,10 +87,19 @@ pub record Shows (r s : Run) : Type 0 where
   pub transcripts : map (λ (p : User). p.transcript) s.system.users ≡ map (λ (p : User). p.transcript) r.system.users
   pub clock : s.system.clock ≡ r.system.clock
 
--- What happened is the run to the limit, of the users joined with their words, or a part of it is shown, where the drum tells them.
+-- What happened is the run to the limit, of the users joined with their words and files, where drum and disk tell them.
 abbrev pub HasRun : ℕ → (old new : Run) → (had has : Held) → Type 0
 HasRun limit old new had has = had.tells ≡ true → joined has.stores new ≡ run_to limit (joined had.stores old)
 
+-- the same run but for the common files
+abbrev pub IsButCommons : Run → Run → Type 0
+IsButCommons r s = s ≡ record r { system = record r.system { files = s.system.files } }
+
+-- What happened is some whole steps of it, and at most an operation on the common files whose step is not done.
+abbrev pub HasRunPart : ℕ → (old new : Run) → (had has : Held) → Type 0
+HasRunPart limit old new had has = had.tells ≡ true → (at : Run) × AfterSteps limit (joined had.stores old) at × IsButCommons at (joined has.stores new)
+
+-- What is shown is some whole steps of it.
 abbrev pub HasRunShown : ℕ → (old new : Run) → (had : Held) → Type 0
 HasRunShown limit old new had = had.tells ≡ true → (at : Run) × AfterSteps limit (joined had.stores old) at × Shows at new
 

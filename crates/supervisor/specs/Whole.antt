@@ -13,7 +13,7 @@ use Rattle.supervisor.specs.Seen.{Bare, bare_of, run_with}
 use Rattle.supervisor.specs.Shows.{texts_of, TextsGrow, GoesOn, HasTexts, HasTextsShown}
 use Rattle.supervisor.specs.declared.state.State.{State}
 use Rattle.supervisor.specs.declared.watch.Watch.{Watch}
-use Rattle.supervisor.specs.Steps.{Does, Stays, IsHeld, IsTied, LoadFails, NextLoadFails, HasRun, HasRunShown, HasRunToLoad, Ends, Lasts}
+use Rattle.supervisor.specs.Steps.{Does, Stays, IsHeld, IsTied, LoadFails, NextLoadFails, HasRun, HasRunPart, HasRunShown, HasRunToLoad, Ends, Lasts}
 
 -- a run but for what lies behind its users' sessions, and this
 pub record Whole : Type 0 where
@@ -107,11 +107,12 @@ TextsFollow limit result old new =
     Ends result (GoesOn limit (run_of old) (run_of new) old.bare.texts new.bare.texts)
     (new.bare.texts ≡ old.bare.texts) (new.bare.texts ≡ old.bare.texts) (new.bare.texts ≡ old.bare.texts)
 
--- Whole steps: all up to the limit; some that are shown, where memory lacks or the disk fails; and where the drum fails those before a load.
+-- Whole steps: all up to the limit; some of them where memory lacks; some that are shown where the disk fails; and where the drum fails those
+-- before a load.
 abbrev pub RunsTo : ℕ → Result Unit RunFault → Whole → Whole → Type 0
 RunsTo limit result old new =
     Ends result (HasRun limit (run_of old) (run_of new) old.back.held new.back.held)
-    (HasRunShown limit (run_of old) (run_apart new) old.back.held)
+    (HasRunPart limit (run_of old) (run_of new) old.back.held new.back.held)
     (HasRunToLoad limit (run_of old) (run_apart new) old.back.held old.back.calls new.back.calls × Rose old.back.faults new.back.faults)
     (HasRunShown limit (run_of old) (run_apart new) old.back.held × Rose old.back.disk_faults new.back.disk_faults)
 
@@ -135,5 +136,5 @@ pub record Advances (limit : ℕ) (result : Result Unit RunFault) (old new : Who
   pub cut : Ends result (new.bare.ended ≡ old.bare.ended) (new.bare.ended ≡ true) (new.bare.ended ≡ true) (new.bare.ended ≡ true)
   pub tells : Lasts result (new.back.held.tells ≡ old.back.held.tells)
   pub tied : Lasts result (Agrees new)
-  pub kept : old.back.faults ≤ new.back.faults
+  pub faults_grow : old.back.faults ≤ new.back.faults
   pub disk : old.back.disk_faults ≤ new.back.disk_faults

@@ -73,7 +73,7 @@ impl State {
     #[tactic(auto, unfolding(system_model::specs::Joined::moved))]
     pub(crate) fn bring(&mut self, user: UserNo, plan: Plan)
         requires room { vec_len self.old.entries < vec_capacity self.old.entries }
-        requires before { self.old.clock ≤ 100000000 }
+        requires in_time { self.old.clock ≤ 100000000 }
         ensures { Becomes (moved user plan.dumped plan.read plan.fresh) self.old self.new }
     {
         note(
@@ -98,7 +98,7 @@ impl State {
         requires within { v.user ≤ length self.old.sessions.items }
         requires chosen { user_of (chosen self.old.queues) ≡ Some v.user }
         requires ran { v.ran ≤ self.old.clock }
-        requires before { self.old.clock ≤ 100000000 }
+        requires in_time { self.old.clock ≤ 100000000 }
         ensures { Becomes (counted v step.ending step.clock (option_to_list common)) self.old self.new }
     {
         let user = v.user;
@@ -124,7 +124,7 @@ impl State {
     #[tactic(auto, unfolding(system_model::specs::Runs::elapsed))]
     pub(crate) fn count_ticks(&mut self, v: Service, ticks: u64)
         requires ran { v.ran ≤ self.old.clock }
-        requires before { self.old.clock + ticks ≤ 100000000 }
+        requires in_time { self.old.clock + ticks ≤ 100000000 }
         ensures { Becomes (elapsed ticks v) self.old self.new }
     {
         self.queues.spend(v.user, ticks);
@@ -144,7 +144,7 @@ impl State {
         requires within { v.user ≤ length self.old.sessions.items }
         requires chosen { user_of (chosen self.old.queues) ≡ Some v.user }
         requires ran { v.ran ≤ self.old.clock }
-        requires before { self.old.clock ≤ 100000000 }
+        requires in_time { self.old.clock ≤ 100000000 }
         ensures { Becomes (waited v) self.old self.new }
     {
         let _ = self.queues.charge(v.user);

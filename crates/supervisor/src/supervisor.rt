@@ -1,6 +1,6 @@
 ghost use Rattle.std.specs.Prelude.{◌≡◌, ◌≤◌, ◌-◌, ◌^◌, ◌++◌, [], min, length, take, drop, replicate, true, false};
 ghost use Rattle.time_sharing.specs.System.{at};
-ghost use Rattle.system_model.specs.Run.{given};
+ghost use Rattle.system_model.specs.Run.{with_one_event};
 ghost use Rattle.plan_model.specs.Loads.{Places, no_places};
 ghost use Rattle.system_model.specs.Record.{start_of};
 ghost use Rattle.system_model.specs.Sound.{HasSeat};
@@ -36,7 +36,7 @@ impl Model for Supervisor {
     ghost use Rattle.system_model.specs.Sound.{Sound};
     ghost use Rattle.plan_model.specs.Loads.{no_places};
     ghost use Rattle.supervisor.specs.Seen.{Bare, bare_of, seen};
-    ghost use Rattle.supervisor.specs.Shows.{texts_of, IsTold};
+    ghost use Rattle.supervisor.specs.Shows.{texts_of, MatchesConsoles};
 
     ghost Value = { Bare };
 
@@ -46,7 +46,7 @@ impl Model for Supervisor {
     } };
 
     ghost invariant = { λ s. Sound (seen no_places s.watch.state)
-        × IsTold s.watch.state.consoles.items s.watch.state.sessions.items s.watch.texts };
+        × MatchesConsoles s.watch.state.consoles.items s.watch.state.sessions.items s.watch.texts };
 }
 
 impl Supervisor {
@@ -73,7 +73,7 @@ impl Supervisor {
     pub fn take(&mut self, e: Timed) -> Result<(), NoMemory>
         requires seat { HasSeat e (run_with no_places self.old) }
         ensures ok { (places : Places)
-            → OnOk result (run_with places self.new ≡ given e (run_with places self.old)) }
+            → OnOk result (run_with places self.new ≡ with_one_event e (run_with places self.old)) }
         ensures err { OnErr result (self.new ≡ self.old) }
         ensures texts { self.new.texts ≡ self.old.texts }
         ensures same { self.new.ended ≡ self.old.ended }
@@ -84,12 +84,12 @@ impl Supervisor {
     /// Whole steps, up to the limit. Where memory lacks or the disk fails, some of them are done; where the drum fails, those
     /// before a load. After a fault of drum or disk the run may only be stopped.
     pub fn advance<C: Backing>(&mut self, cores: &mut C, limit: u64) -> Result<(), RunFault>
-        requires works { C.Works cores.old }
+        requires usable { C.Usable cores.old }
         requires agrees { Agrees (whole_of self.old (C.state cores.old)) }
         requires limit { limit ≤ 100000000 }
         ensures advances { Advances limit result
             (whole_of self.old (C.state cores.old)) (whole_of self.new (C.state cores.new)) }
-        ensures works { Lasts result (C.Works cores.new) }
+        ensures usable { Lasts result (C.Usable cores.new) }
         ensures keeps { C.Keeps cores.old cores.new }
     {
         let done = self.watch.advance(cores, limit);
@@ -110,7 +110,7 @@ impl Supervisor {
     /// fails, the record has none.
     #[tactic(auto, using(system_model::proofs::CaseLaws::closes))]
     pub fn close<C: Backing>(self, alloc: Global, cores: &mut C) -> Result<Closed, NoMemory>
-        requires works { C.Works cores.old }
+        requires usable { C.Usable cores.old }
         requires agrees { Agrees (whole_of self (C.state cores.old)) }
         ensures closes { IfOk result (Closes self (C.state cores.old) (C.state cores.new)) }
         ensures lies { IfOk result (λ closed. IfComplete closed (λ rec. C.Lies cores.new rec.files rec.common)) }

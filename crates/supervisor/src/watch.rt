@@ -7,7 +7,7 @@ ghost use Rattle.system_model.specs.Run.{next, due_of};
 ghost use Rattle.system_model.specs.Sound.{Sound};
 ghost use Rattle.console_texts.specs.Watching.{refused_by, refusal_in as console_of};
 ghost use Rattle.supervisor.specs.Seen.{seen};
-ghost use Rattle.supervisor.specs.Shows.{IsTold, TextsGrow};
+ghost use Rattle.supervisor.specs.Shows.{MatchesConsoles, TextsGrow};
 ghost use Rattle.supervisor.specs.Steps.{Lasts};
 ghost use Rattle.supervisor.specs.Whole.{watched, Holds, AreTied, AreCountedBy, NextIsCut, Steps, TextsFollow, RunsTo, TextsRunTo};
 
@@ -67,24 +67,24 @@ pub(crate) struct Watch {
 impl Watch {
     /// One step, at which an event is due.
     fn hear<C: Backing>(&mut self, cores: &mut C, limit: u64) -> Result<(), RunFault>
-        requires works { C.Works cores.old }
+        requires usable { C.Usable cores.old }
         requires held { Holds (watched self.old (C.state cores.old)) }
-        requires told { IsTold self.old.state.consoles.items self.old.state.sessions.items self.old.texts }
+        requires matched { MatchesConsoles self.old.state.consoles.items self.old.state.sessions.items self.old.texts }
         requires due { is_some (due_of self.old.state.events.items self.old.state.clock) ≡ true }
-        requires before { self.old.state.clock < limit }
+        requires in_time { self.old.state.clock < limit }
         requires limit { limit ≤ 100000000 }
         ensures ended { Steps (next limit) NextIsCut result
             (watched self.old (C.state cores.old)) (watched self.new (C.state cores.new)) }
         ensures counted { AreCountedBy result
             (watched self.old (C.state cores.old)) (watched self.new (C.state cores.new)) }
         ensures tied { Lasts result (AreTied (watched self.new (C.state cores.new))) }
-        ensures works { Lasts result (C.Works cores.new) }
+        ensures usable { Lasts result (C.Usable cores.new) }
         ensures keeps { C.Keeps cores.old cores.new }
-        ensures kept { (C.state cores.old).faults ≤ (C.state cores.new).faults }
+        ensures faults_grow { (C.state cores.old).faults ≤ (C.state cores.new).faults }
         ensures disk { (C.state cores.old).disk_faults ≤ (C.state cores.new).disk_faults }
         ensures texts { TextsFollow limit result
             (watched self.old (C.state cores.old)) (watched self.new (C.state cores.new)) }
-        ensures told { IsTold self.new.state.consoles.items self.new.state.sessions.items self.new.texts }
+        ensures matched { MatchesConsoles self.new.state.consoles.items self.new.state.sessions.items self.new.texts }
     {
         if self.texts.reserve().is_err() {
             return Err(RunFault::NoMemory);
@@ -106,24 +106,24 @@ impl Watch {
 
     /// One step, at which no event is due.
     fn go<C: Backing>(&mut self, cores: &mut C, limit: u64) -> Result<(), RunFault>
-        requires works { C.Works cores.old }
+        requires usable { C.Usable cores.old }
         requires held { Holds (watched self.old (C.state cores.old)) }
-        requires told { IsTold self.old.state.consoles.items self.old.state.sessions.items self.old.texts }
+        requires matched { MatchesConsoles self.old.state.consoles.items self.old.state.sessions.items self.old.texts }
         requires quiet { due_of self.old.state.events.items self.old.state.clock ≡ None }
-        requires before { self.old.state.clock < limit }
+        requires in_time { self.old.state.clock < limit }
         requires limit { limit ≤ 100000000 }
         ensures ended { Steps (next limit) NextIsCut result
             (watched self.old (C.state cores.old)) (watched self.new (C.state cores.new)) }
         ensures counted { AreCountedBy result
             (watched self.old (C.state cores.old)) (watched self.new (C.state cores.new)) }
         ensures tied { Lasts result (AreTied (watched self.new (C.state cores.new))) }
-        ensures works { Lasts result (C.Works cores.new) }
+        ensures usable { Lasts result (C.Usable cores.new) }
         ensures keeps { C.Keeps cores.old cores.new }
-        ensures kept { (C.state cores.old).faults ≤ (C.state cores.new).faults }
+        ensures faults_grow { (C.state cores.old).faults ≤ (C.state cores.new).faults }
         ensures disk { (C.state cores.old).disk_faults ≤ (C.state cores.new).disk_faults }
         ensures texts { TextsFollow limit result
             (watched self.old (C.state cores.old)) (watched self.new (C.state cores.new)) }
-        ensures told { IsTold self.new.state.consoles.items self.new.state.sessions.items self.new.texts }
+        ensures matched { MatchesConsoles self.new.state.consoles.items self.new.state.sessions.items self.new.texts }
     {
         match self.state.step_on(cores, limit) {
             Ok(()) => {}
@@ -141,23 +141,23 @@ impl Watch {
 
     /// One step.
     fn step<C: Backing>(&mut self, cores: &mut C, limit: u64) -> Result<(), RunFault>
-        requires works { C.Works cores.old }
+        requires usable { C.Usable cores.old }
         requires held { Holds (watched self.old (C.state cores.old)) }
-        requires told { IsTold self.old.state.consoles.items self.old.state.sessions.items self.old.texts }
-        requires before { self.old.state.clock < limit }
+        requires matched { MatchesConsoles self.old.state.consoles.items self.old.state.sessions.items self.old.texts }
+        requires in_time { self.old.state.clock < limit }
         requires limit { limit ≤ 100000000 }
         ensures ended { Steps (next limit) NextIsCut result
             (watched self.old (C.state cores.old)) (watched self.new (C.state cores.new)) }
         ensures counted { AreCountedBy result
             (watched self.old (C.state cores.old)) (watched self.new (C.state cores.new)) }
         ensures tied { Lasts result (AreTied (watched self.new (C.state cores.new))) }
-        ensures works { Lasts result (C.Works cores.new) }
+        ensures usable { Lasts result (C.Usable cores.new) }
         ensures keeps { C.Keeps cores.old cores.new }
-        ensures kept { (C.state cores.old).faults ≤ (C.state cores.new).faults }
+        ensures faults_grow { (C.state cores.old).faults ≤ (C.state cores.new).faults }
         ensures disk { (C.state cores.old).disk_faults ≤ (C.state cores.new).disk_faults }
         ensures texts { TextsFollow limit result
             (watched self.old (C.state cores.old)) (watched self.new (C.state cores.new)) }
-        ensures told { IsTold self.new.state.consoles.items self.new.state.sessions.items self.new.texts }
+        ensures matched { MatchesConsoles self.new.state.consoles.items self.new.state.sessions.items self.new.texts }
     {
         if self.state.is_due() {
             return self.hear(cores, limit);
@@ -167,9 +167,9 @@ impl Watch {
 
     /// Whole steps, up to the limit.
     pub(crate) fn advance<C: Backing>(&mut self, cores: &mut C, limit: u64) -> Result<(), RunFault>
-        requires works { C.Works cores.old }
+        requires usable { C.Usable cores.old }
         requires held { Holds (watched self.old (C.state cores.old)) }
-        requires told { IsTold self.old.state.consoles.items self.old.state.sessions.items self.old.texts }
+        requires matched { MatchesConsoles self.old.state.consoles.items self.old.state.sessions.items self.old.texts }
         requires limit { limit ≤ 100000000 }
         ensures ended { RunsTo limit result
             (watched self.old (C.state cores.old)) (watched self.new (C.state cores.new)) }
@@ -182,11 +182,11 @@ impl Watch {
             (watched self.old (C.state cores.old)) (watched self.new (C.state cores.new)) }
         ensures tells { Lasts result ((C.state cores.new).held.tells ≡ (C.state cores.old).held.tells) }
         ensures held { Lasts result (Holds (watched self.new (C.state cores.new))) }
-        ensures works { Lasts result (C.Works cores.new) }
+        ensures usable { Lasts result (C.Usable cores.new) }
         ensures sound { Sound (seen no_places self.new.state) }
-        ensures told { IsTold self.new.state.consoles.items self.new.state.sessions.items self.new.texts }
+        ensures matched { MatchesConsoles self.new.state.consoles.items self.new.state.sessions.items self.new.texts }
         ensures keeps { C.Keeps cores.old cores.new }
-        ensures kept { (C.state cores.old).faults ≤ (C.state cores.new).faults }
+        ensures faults_grow { (C.state cores.old).faults ≤ (C.state cores.new).faults }
         ensures disk { (C.state cores.old).disk_faults ≤ (C.state cores.new).disk_faults }
     {
         'steps: while self.state.clock < limit {

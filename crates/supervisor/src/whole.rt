@@ -25,12 +25,12 @@ use user_session::Turn;
 
 /// A user whose session is over gives up its core, and its files of mode 0.
 fn give_up<C: Backing>(cores: &mut C, cut: Option<UserNo>)
-    requires works { C.Works cores.old }
+    requires usable { C.Usable cores.old }
     requires user { number_of cut < length (C.state cores.old).held.sizes }
     requires directory { number_of cut ≤ (C.state cores.old).held.users }
     ensures left { IsLeft cut (C.state cores.old).held (C.state cores.new).held }
     ensures calls { (C.state cores.new).calls ≡ (C.state cores.old).calls }
-    ensures works { C.Works cores.new }
+    ensures usable { C.Usable cores.new }
     ensures keeps { C.Keeps cores.old cores.new }
     ensures faults { (C.state cores.new).faults ≡ (C.state cores.old).faults }
     ensures disk { (C.state cores.new).disk_faults ≡ (C.state cores.old).disk_faults }
@@ -43,7 +43,7 @@ fn give_up<C: Backing>(cores: &mut C, cut: Option<UserNo>)
 impl State {
     /// The event that is due.
     fn hear<C: Backing>(&mut self, cores: &mut C, e: Timed) -> Result<(), NoMemory>
-        requires works { C.Works cores.old }
+        requires usable { C.Usable cores.old }
         requires held { Holds (whole self.old (C.state cores.old)) }
         requires seat { HasSeat e (run_of (whole self.old (C.state cores.old))) }
         ensures ok { OnOk result (StepsBy (taken e)
@@ -51,7 +51,7 @@ impl State {
         ensures err { OnErr result (IsSame (whole self.old (C.state cores.old)) (whole self.new (C.state cores.new))) }
         ensures counted { AreCounted (whole self.old (C.state cores.old)) (whole self.new (C.state cores.new)) }
         ensures tied { AreTied (whole self.new (C.state cores.new)) }
-        ensures works { C.Works cores.new }
+        ensures usable { C.Usable cores.new }
         ensures keeps { C.Keeps cores.old cores.new }
         ensures faults { (C.state cores.new).faults ≡ (C.state cores.old).faults }
         ensures disk { (C.state cores.new).disk_faults ≡ (C.state cores.old).disk_faults }
@@ -63,19 +63,19 @@ impl State {
 
     /// The blocks of the user that is served are brought into core.
     fn fetch<C: Backing>(&mut self, cores: &mut C, v: Service) -> Result<(), RunFault>
-        requires works { C.Works cores.old }
+        requires usable { C.Usable cores.old }
         requires held { Holds (whole self.old (C.state cores.old)) }
         requires user { IsUser v.user (run_of (whole self.old (C.state cores.old))) }
         requires absent { HasBlocks v.user false (whole self.old (C.state cores.old)) }
-        requires before { self.old.clock ≤ 100000000 }
+        requires in_time { self.old.clock ≤ 100000000 }
         ensures ended { Steps (attended v) (LoadIsCut v.user) result
             (whole self.old (C.state cores.old)) (whole self.new (C.state cores.new)) }
         ensures counted { AreCountedBy result
             (whole self.old (C.state cores.old)) (whole self.new (C.state cores.new)) }
         ensures tied { Lasts result (AreTied (whole self.new (C.state cores.new))) }
-        ensures works { Lasts result (C.Works cores.new) }
+        ensures usable { Lasts result (C.Usable cores.new) }
         ensures keeps { C.Keeps cores.old cores.new }
-        ensures kept { (C.state cores.old).faults ≤ (C.state cores.new).faults }
+        ensures faults_grow { (C.state cores.old).faults ≤ (C.state cores.new).faults }
         ensures disk { (C.state cores.old).disk_faults ≤ (C.state cores.new).disk_faults }
     {
         if self.entries.reserve(1).is_err() {
@@ -93,7 +93,7 @@ impl State {
     /// A step of the user that is served, whose blocks are in core, makes its operation on the common files and goes on with
     /// the reply.
     fn share<C: Backing>(&mut self, cores: &mut C, v: Service, op: CommonOp) -> Result<(), RunFault>
-        requires works { C.Works cores.old }
+        requires usable { C.Usable cores.old }
         requires held { Holds (whole self.old (C.state cores.old)) }
         requires user { IsUser v.user (run_of (whole self.old (C.state cores.old))) }
         requires chosen { user_of (chosen self.old.queues) ≡ Some v.user }
@@ -102,13 +102,13 @@ impl State {
             (user_at v.user self.old.sessions.items) }
         requires room { vec_len self.old.entries + 3 ≤ vec_capacity self.old.entries }
         requires ran { v.ran ≤ self.old.clock }
-        requires before { self.old.clock ≤ 100000000 }
+        requires in_time { self.old.clock ≤ 100000000 }
         ensures ended { Steps (attended v) NeverCut result
             (whole self.old (C.state cores.old)) (whole self.new (C.state cores.new)) }
         ensures counted { AreCountedBy result
             (whole self.old (C.state cores.old)) (whole self.new (C.state cores.new)) }
         ensures tied { Lasts result (AreTied (whole self.new (C.state cores.new))) }
-        ensures works { Lasts result (C.Works cores.new) }
+        ensures usable { Lasts result (C.Usable cores.new) }
         ensures keeps { C.Keeps cores.old cores.new }
         ensures faults { (C.state cores.new).faults ≡ (C.state cores.old).faults }
         ensures disk { (C.state cores.old).disk_faults ≤ (C.state cores.new).disk_faults }
@@ -133,19 +133,19 @@ impl State {
 
     /// A step of the user that is served, whose blocks are in core; where it can't step, it waits.
     fn serve<C: Backing>(&mut self, cores: &mut C, v: Service) -> Result<(), RunFault>
-        requires works { C.Works cores.old }
+        requires usable { C.Usable cores.old }
         requires held { Holds (whole self.old (C.state cores.old)) }
         requires user { IsUser v.user (run_of (whole self.old (C.state cores.old))) }
         requires chosen { user_of (chosen self.old.queues) ≡ Some v.user }
         requires loaded { HasBlocks v.user true (whole self.old (C.state cores.old)) }
         requires ran { v.ran ≤ self.old.clock }
-        requires before { self.old.clock ≤ 100000000 }
+        requires in_time { self.old.clock ≤ 100000000 }
         ensures ended { Steps (attended v) NeverCut result
             (whole self.old (C.state cores.old)) (whole self.new (C.state cores.new)) }
         ensures counted { AreCountedBy result
             (whole self.old (C.state cores.old)) (whole self.new (C.state cores.new)) }
         ensures tied { Lasts result (AreTied (whole self.new (C.state cores.new))) }
-        ensures works { Lasts result (C.Works cores.new) }
+        ensures usable { Lasts result (C.Usable cores.new) }
         ensures keeps { C.Keeps cores.old cores.new }
         ensures faults { (C.state cores.new).faults ≡ (C.state cores.old).faults }
         ensures disk { (C.state cores.old).disk_faults ≤ (C.state cores.new).disk_faults }
@@ -173,20 +173,20 @@ impl State {
 
     /// The user that is served: its blocks are brought in, or it steps.
     fn attend<C: Backing>(&mut self, cores: &mut C, v: Service) -> Result<(), RunFault>
-        requires works { C.Works cores.old }
+        requires usable { C.Usable cores.old }
         requires held { Holds (whole self.old (C.state cores.old)) }
         requires user { IsUser v.user (run_of (whole self.old (C.state cores.old))) }
         requires chosen { user_of (chosen self.old.queues) ≡ Some v.user }
         requires ran { v.ran ≤ self.old.clock }
-        requires before { self.old.clock ≤ 100000000 }
+        requires in_time { self.old.clock ≤ 100000000 }
         ensures ended { Steps (attended v) (AbsentIsCut v.user) result
             (whole self.old (C.state cores.old)) (whole self.new (C.state cores.new)) }
         ensures counted { AreCountedBy result
             (whole self.old (C.state cores.old)) (whole self.new (C.state cores.new)) }
         ensures tied { Lasts result (AreTied (whole self.new (C.state cores.new))) }
-        ensures works { Lasts result (C.Works cores.new) }
+        ensures usable { Lasts result (C.Usable cores.new) }
         ensures keeps { C.Keeps cores.old cores.new }
-        ensures kept { (C.state cores.old).faults ≤ (C.state cores.new).faults }
+        ensures faults_grow { (C.state cores.old).faults ≤ (C.state cores.new).faults }
         ensures disk { (C.state cores.old).disk_faults ≤ (C.state cores.new).disk_faults }
     {
         if !cores.is_loaded(v.user) {
@@ -197,14 +197,14 @@ impl State {
 
     /// A service ends, since its user isn't the head of the lowest level.
     fn preempt<C: Backing>(&mut self, cores: &mut C, v: Service) -> Result<(), NoMemory>
-        requires works { C.Works cores.old }
+        requires usable { C.Usable cores.old }
         requires held { Holds (whole self.old (C.state cores.old)) }
         ensures ok { OnOk result (StepsBy (served Preempt v)
             (whole self.old (C.state cores.old)) (whole self.new (C.state cores.new))) }
         ensures err { OnErr result (IsSame (whole self.old (C.state cores.old)) (whole self.new (C.state cores.new))) }
         ensures counted { AreCounted (whole self.old (C.state cores.old)) (whole self.new (C.state cores.new)) }
         ensures tied { AreTied (whole self.new (C.state cores.new)) }
-        ensures works { C.Works cores.new }
+        ensures usable { C.Usable cores.new }
         ensures keeps { C.Keeps cores.old cores.new }
         ensures faults { (C.state cores.new).faults ≡ (C.state cores.old).faults }
         ensures disk { (C.state cores.new).disk_faults ≡ (C.state cores.old).disk_faults }
@@ -215,12 +215,12 @@ impl State {
 
     /// Nobody waits: the clock goes on.
     fn rest<C: Backing>(&mut self, cores: &mut C, limit: u64)
-        requires works { C.Works cores.old }
+        requires usable { C.Usable cores.old }
         requires held { Holds (whole self.old (C.state cores.old)) }
         ensures does { StepsBy (idled limit) (whole self.old (C.state cores.old)) (whole self.new (C.state cores.new)) }
         ensures counted { AreCounted (whole self.old (C.state cores.old)) (whole self.new (C.state cores.new)) }
         ensures tied { AreTied (whole self.new (C.state cores.new)) }
-        ensures works { C.Works cores.new }
+        ensures usable { C.Usable cores.new }
         ensures keeps { C.Keeps cores.old cores.new }
         ensures faults { (C.state cores.new).faults ≡ (C.state cores.old).faults }
         ensures disk { (C.state cores.new).disk_faults ≡ (C.state cores.old).disk_faults }
@@ -231,18 +231,18 @@ impl State {
     /// No event is due: the head of the lowest level is served, or the service ends, or the clock goes on.
     #[tactic(auto, using(crate::proofs::Doing::go_idle, crate::proofs::Doing::go_end_none, crate::proofs::Doing::go_end))]
     fn go_on<C: Backing>(&mut self, cores: &mut C, limit: u64) -> Result<(), RunFault>
-        requires works { C.Works cores.old }
+        requires usable { C.Usable cores.old }
         requires held { Holds (whole self.old (C.state cores.old)) }
-        requires before { self.old.clock < limit }
+        requires in_time { self.old.clock < limit }
         requires limit { limit ≤ 100000000 }
         ensures ended { Steps (otherwise limit (user_of (chosen self.old.queues)) self.old.service) ServedIsCut result
             (whole self.old (C.state cores.old)) (whole self.new (C.state cores.new)) }
         ensures counted { AreCountedBy result
             (whole self.old (C.state cores.old)) (whole self.new (C.state cores.new)) }
         ensures tied { Lasts result (AreTied (whole self.new (C.state cores.new))) }
-        ensures works { Lasts result (C.Works cores.new) }
+        ensures usable { Lasts result (C.Usable cores.new) }
         ensures keeps { C.Keeps cores.old cores.new }
-        ensures kept { (C.state cores.old).faults ≤ (C.state cores.new).faults }
+        ensures faults_grow { (C.state cores.old).faults ≤ (C.state cores.new).faults }
         ensures disk { (C.state cores.old).disk_faults ≤ (C.state cores.new).disk_faults }
     {
         match (self.queues.choose(), self.service) {
@@ -280,18 +280,18 @@ impl State {
     /// One step, at which an event is due.
     pub(crate) fn step_at<C: Backing>(&mut self, cores: &mut C, limit: u64) -> Result<(), RunFault>
         requires due { is_some (due_of self.old.events.items self.old.clock) ≡ true }
-        requires works { C.Works cores.old }
+        requires usable { C.Usable cores.old }
         requires held { Holds (whole self.old (C.state cores.old)) }
-        requires before { self.old.clock < limit }
+        requires in_time { self.old.clock < limit }
         requires limit { limit ≤ 100000000 }
         ensures ended { Steps (next limit) NextIsCut result
             (whole self.old (C.state cores.old)) (whole self.new (C.state cores.new)) }
         ensures counted { AreCountedBy result
             (whole self.old (C.state cores.old)) (whole self.new (C.state cores.new)) }
         ensures tied { Lasts result (AreTied (whole self.new (C.state cores.new))) }
-        ensures works { Lasts result (C.Works cores.new) }
+        ensures usable { Lasts result (C.Usable cores.new) }
         ensures keeps { C.Keeps cores.old cores.new }
-        ensures kept { (C.state cores.old).faults ≤ (C.state cores.new).faults }
+        ensures faults_grow { (C.state cores.old).faults ≤ (C.state cores.new).faults }
         ensures disk { (C.state cores.old).disk_faults ≤ (C.state cores.new).disk_faults }
     {
         match self.due() {
@@ -306,18 +306,18 @@ impl State {
     /// One step, at which no event is due.
     pub(crate) fn step_on<C: Backing>(&mut self, cores: &mut C, limit: u64) -> Result<(), RunFault>
         requires quiet { due_of self.old.events.items self.old.clock ≡ None }
-        requires works { C.Works cores.old }
+        requires usable { C.Usable cores.old }
         requires held { Holds (whole self.old (C.state cores.old)) }
-        requires before { self.old.clock < limit }
+        requires in_time { self.old.clock < limit }
         requires limit { limit ≤ 100000000 }
         ensures ended { Steps (next limit) NextIsCut result
             (whole self.old (C.state cores.old)) (whole self.new (C.state cores.new)) }
         ensures counted { AreCountedBy result
             (whole self.old (C.state cores.old)) (whole self.new (C.state cores.new)) }
         ensures tied { Lasts result (AreTied (whole self.new (C.state cores.new))) }
-        ensures works { Lasts result (C.Works cores.new) }
+        ensures usable { Lasts result (C.Usable cores.new) }
         ensures keeps { C.Keeps cores.old cores.new }
-        ensures kept { (C.state cores.old).faults ≤ (C.state cores.new).faults }
+        ensures faults_grow { (C.state cores.old).faults ≤ (C.state cores.new).faults }
         ensures disk { (C.state cores.old).disk_faults ≤ (C.state cores.new).disk_faults }
     {
         self.go_on(cores, limit)
@@ -339,7 +339,7 @@ impl State {
 
     /// Instructions of the user of the service, one after another: as many as go on, at most so many.
     fn work<C: Backing>(&mut self, cores: &mut C, v: Service, next: Chosen, most: u64, limit: u64)
-        requires works { C.Works cores.old }
+        requires usable { C.Usable cores.old }
         requires held { Holds (whole self.old (C.state cores.old)) }
         requires user { IsUser v.user (run_of (whole self.old (C.state cores.old))) }
         requires loaded { HasBlocks v.user true (whole self.old (C.state cores.old)) }
@@ -353,7 +353,7 @@ impl State {
         ensures many { StepsOn limit (whole self.old (C.state cores.old)) (whole self.new (C.state cores.new)) }
         ensures entries { self.new.entries.items ≡ self.old.entries.items }
         ensures tied { AreTied (whole self.new (C.state cores.new)) }
-        ensures works { C.Works cores.new }
+        ensures usable { C.Usable cores.new }
         ensures keeps { C.Keeps cores.old cores.new }
         ensures calls { (C.state cores.new).calls ≡ (C.state cores.old).calls }
         ensures faults { (C.state cores.new).faults ≡ (C.state cores.old).faults }
@@ -368,7 +368,7 @@ impl State {
     /// something else is to be looked at.
     #[tactic(auto, using(crate::proofs::Passing::stands_still))]
     fn work_on<C: Backing>(&mut self, cores: &mut C, v: Service, next: Chosen, limit: u64)
-        requires works { C.Works cores.old }
+        requires usable { C.Usable cores.old }
         requires held { Holds (whole self.old (C.state cores.old)) }
         requires user { IsUser v.user (run_of (whole self.old (C.state cores.old))) }
         requires serves { self.old.service ≡ Some v }
@@ -378,7 +378,7 @@ impl State {
         ensures many { StepsOn limit (whole self.old (C.state cores.old)) (whole self.new (C.state cores.new)) }
         ensures entries { self.new.entries.items ≡ self.old.entries.items }
         ensures tied { AreTied (whole self.new (C.state cores.new)) }
-        ensures works { C.Works cores.new }
+        ensures usable { C.Usable cores.new }
         ensures keeps { C.Keeps cores.old cores.new }
         ensures calls { (C.state cores.new).calls ≡ (C.state cores.old).calls }
         ensures faults { (C.state cores.new).faults ≡ (C.state cores.old).faults }
@@ -398,13 +398,13 @@ impl State {
     /// another: each is a step, but none of them asks again whom to serve.
     #[tactic(auto, using(crate::proofs::Passing::stands_still))]
     pub(crate) fn run<C: Backing>(&mut self, cores: &mut C, limit: u64)
-        requires works { C.Works cores.old }
+        requires usable { C.Usable cores.old }
         requires held { Holds (whole self.old (C.state cores.old)) }
         requires limit { limit ≤ 100000000 }
         ensures many { StepsOn limit (whole self.old (C.state cores.old)) (whole self.new (C.state cores.new)) }
         ensures entries { self.new.entries.items ≡ self.old.entries.items }
         ensures tied { AreTied (whole self.new (C.state cores.new)) }
-        ensures works { C.Works cores.new }
+        ensures usable { C.Usable cores.new }
         ensures keeps { C.Keeps cores.old cores.new }
         ensures calls { (C.state cores.new).calls ≡ (C.state cores.old).calls }
         ensures faults { (C.state cores.new).faults ≡ (C.state cores.old).faults }

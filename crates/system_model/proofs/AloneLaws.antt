@@ -2,10 +2,8 @@
 use Rattle.std.proofs.Common.{◌≡◌, ℕ, zero, suc, ◌+◌, ◌-◌, ◌<◌, ◌≤◌, List, [], ◌∷◌, ◌++◌, length, map, get_or, refl, sym, ap, ◌∙◌, arith, subst}
 use Rattle.ctss_types.specs.declared.script.Script.{Script}
 use Rattle.ctss_types.specs.declared.script.Account.{Account}
-use Rattle.ctss_types.specs.declared.script.Timed.{Timed}
 use Rattle.ctss_types.specs.declared.file.FileBody.{FileBody}
 use Rattle.ctss_types.specs.declared.file.OwnedFile.{OwnedFile}
-use Rattle.ctss_types.specs.declared.history.Item.{Item}
 use Rattle.time_sharing.specs.Machine.{Machine}
 use Rattle.time_sharing.specs.Rows.{machine}
 use Rattle.time_sharing.specs.Private.{Alone}
@@ -14,7 +12,7 @@ use Rattle.time_sharing.specs.System.{at}
 use Rattle.time_sharing.specs.Machine.{End}
 use Rattle.time_sharing.specs.Private.{Cut, alone}
 use Rattle.time_sharing.specs.Reach.{Goes}
-use Rattle.time_sharing.specs.Feeds.{feed_of, seen, ran_of}
+use Rattle.time_sharing.specs.Feeds.{feed_of, observed, ran_of}
 use Rattle.time_sharing.proofs.ClaimsProved as claims
 use Rattle.time_sharing.proofs.Theorem.{isolation}
 use Rattle.time_sharing.proofs.RowsLaws.{rows_laws}
@@ -24,7 +22,7 @@ use Rattle.plan_model.specs.Plan.{Plan, first_plan}
 use Rattle.system_model.specs.Round.{round}
 use Rattle.system_model.specs.Run.{Run, State, AfterSteps, run_to, ended, measure}
 use Rattle.file_model.specs.Owned.{files_of}
-use Rattle.system_model.specs.Record.{users_from, start_of, record_of, first_of_user, alone_of, IsAloneIn, EachIsAlone, IsOneList, consoles}
+use Rattle.system_model.specs.Record.{users_from, start_of, record_of, first_of_user, alone_of, consoles}
 use Rattle.system_model.specs.Claims.{UsersAreAlone, CommonsAreOne, EachMomentIsAlone, FeedsDecide}
 use Rattle.system_model.proofs.CaseLaws.{at_user}
 
@@ -57,8 +55,8 @@ pub users_are_alone : UsersAreAlone
 unfolding record_of run_to ended start_of measure
 users_are_alone script u pos within =
     record {
-      transcript = seen (λ (p : User). p.transcript) refl ∙ sym (ap (λ (a : Alone User). a.state.transcript) came);
-      files = seen (λ (p : User). p.inner.files) refl ∙ sym (ap (λ (a : Alone User). a.state.inner.files) came);
+      transcript = observed (λ (p : User). p.transcript) refl ∙ sym (ap (λ (a : Alone User). a.state.transcript) came);
+      files = observed (λ (p : User). p.inner.files) refl ∙ sym (ap (λ (a : Alone User). a.state.inner.files) came);
       clocks = ap (λ (a : Alone User). a.clocks) came;
       replies = ap (λ (a : Alone User). a.replies) came;
     }
@@ -85,8 +83,8 @@ users_are_alone script u pos within =
     came : alone_of script (record_of script) u ≡ record { state = p; clocks = []; replies = [] }
     came = ap (λ (q : User). Rattle.time_sharing.specs.Private.alone M q (Rattle.time_sharing.specs.Feeds.feed_of u script.events r.system.entries)) (sym (first_is script u pos within)) ∙ come
 
-    seen : {X : Type 0} (f : User → List X) → f nobody ≡ [] → get_or (map f r.system.users) (u - 1) [] ≡ f p
-    seen {X = X} f none = ap (λ (d : List X). get_or (map f r.system.users) (u - 1) d) (sym none) ∙ mapped f r.system.users (u - 1) ∙ ap f (sym (at_user nobody r.system.users u pos))
+    observed : {X : Type 0} (f : User → List X) → f nobody ≡ [] → get_or (map f r.system.users) (u - 1) [] ≡ f p
+    observed {X = X} f none = ap (λ (d : List X). get_or (map f r.system.users) (u - 1) d) (sym none) ∙ mapped f r.system.users (u - 1) ∙ ap f (sym (at_user nobody r.system.users u pos))
 
 pub commons_are_one : CommonsAreOne
 unfolding record_of start_of run_to ended measure
@@ -122,7 +120,7 @@ each_moment script u r pos within after =
 
     IsReached : User → State → Type 0
     IsReached q s =
-        let o = seen u script.events s.entries in
+        let o = observed u script.events s.entries in
         let p = at nobody s.users u in
         Goes (machine user_rows) (o.items ++ Cut p.own End ∷ []) (record { state = q; clocks = o.clocks; replies = o.replies }) (record { state = p; clocks = []; replies = [] })
         × (p.own ≡ o.own + ran_of u s.service)

@@ -1,5 +1,5 @@
 -- Each case of a step is what the machine says.
-use Rattle.std.proofs.Common.{◌≡◌, ℕ, zero, suc, ◌+◌, ◌-◌, ◌<◌, ◌≤◌, Bool, true, false, cond, nat_eq, nat_le, nat_lt, List, [], ◌∷◌, ◌++◌, Option, Some, None, drop, set, get_or, map, append_assoc, refl, sym, ◌∙◌, ap, arith, lt-ltb, le-ltb, eq-eqb, ne_eqb, ◌≢◌}
+use Rattle.std.proofs.Common.{◌≡◌, ℕ, zero, suc, ◌+◌, ◌-◌, ◌<◌, ◌≤◌, Bool, true, false, cond, nat_eq, nat_le, nat_lt, List, [], ◌∷◌, ◌++◌, Option, Some, None, drop, set, get_or, append_assoc, refl, sym, ◌∙◌, ap, arith, lt-ltb, le-ltb, eq-eqb, ne_eqb, ◌≢◌}
 use Rattle.time_sharing.specs.Machine.{Line, CutKind, Quit, Hang, Spent, Ending}
 use Rattle.ctss_types.specs.declared.file.FileBody.{FileBody}
 use Rattle.time_sharing.specs.Rows.{machine}
@@ -7,12 +7,12 @@ use Rattle.time_sharing.specs.System as theory
 use Rattle.time_sharing.specs.System.{SystemState, Timed, Service, Console, Off, On, Password, Session, Entry, Taken, Login, Refused, Idle, Swap, Serve, EventKind, Event, Dials, Types, Quits, Hangs, LineTaken, DialTaken, kind_of, QuitTaken, HangTaken, Cause, Stop, Wait, Preempt, AtEnd, at, put, max_lines, without}
 use Rattle.user_model.specs.Session.{user_rows, nobody}
 use Rattle.user_model.specs.User.{User, typed, opened, cut, can_step, step, ending, asks_clock, asks_common}
-use Rattle.plan_model.specs.Levels.{Levels, chosen, user_of, level_in, has_time, charged, dropped, woken}
+use Rattle.plan_model.specs.Levels.{chosen, user_of, level_in, has_time, charged, dropped, woken}
 use Rattle.plan_model.specs.Plan.{Plan, must_load, places_cut, places_after}
 use Rattle.user_model.specs.Inner.{blocks_of}
-use Rattle.system_model.specs.Round.{round, leaves, line_blocks, asked, check}
+use Rattle.system_model.specs.Round.{round, line_blocks, asked, check}
 use Rattle.system_model.specs.Run.{Run, State, next, taken, at_console, awake, otherwise, attended, by_due, due_of, ended}
-use Rattle.system_model.specs.Cases.{brought, reply_for, levels_after, heard, line_taken, quit_taken, hang_taken, spent_taken, cut_taken, login_taken, dial_taken, idled, served, stepped, stepped_by, waited, user_at, with_user, closed, end_notes, idle_start, idle_notes, stop_notes, not_served}
+use Rattle.system_model.specs.Cases.{brought, reply_for, levels_after, heard, line_taken, quit_taken, hang_taken, spent_taken, cut_taken, login_taken, dial_taken, idled, served, stepped, waited, user_at, with_user, closed, end_notes, idle_start, idle_notes, stop_notes, not_served}
 
 pub at_user : {X : Type 0} (d : X) (xs : List X) (u : ℕ) → 0 < u → at d xs u ≡ get_or xs (u - 1) d
 at_user d xs zero h = absurd (omega arith)

@@ -1,8 +1,8 @@
 -- What holds behind each case of an event holds behind every event.
-use Rattle.std.proofs.Common.{◌≡◌, ℕ, zero, suc, ◌+◌, ◌-◌, ◌<◌, ◌≤◌, Bool, true, false, nat_lt, List, [], ◌∷◌, Option, Some, None, length, get_or, refl, sym, ◌∙◌, ap, subst, arith, ◌⊎◌, inl, inr, lt-ltb, le-ltb, cond}
+use Rattle.std.proofs.Common.{◌≡◌, ℕ, ◌-◌, ◌<◌, Bool, true, false, nat_lt, [], ◌∷◌, Option, Some, None, get_or, refl, sym, subst, arith, cond}
 use Rattle.std.proofs.lemmas.Bool.Decides.{nat_tests}
 use Rattle.time_sharing.specs.Machine.{Line}
-use Rattle.time_sharing.specs.System.{Timed, Console, Off, On, Password, Session, Entry, Refused, EventKind, Event, Dials, Types, Quits, Hangs, LineTaken, DialTaken, QuitTaken, HangTaken, max_lines}
+use Rattle.time_sharing.specs.System.{Timed, Console, Off, On, Password, Session, Refused, EventKind, Event, Dials, Types, Quits, Hangs, LineTaken, DialTaken, QuitTaken, HangTaken, max_lines}
 use Rattle.system_model.specs.Round.{asked, check}
 use Rattle.system_model.specs.Run.{Run, taken, at_console}
 use Rattle.system_model.specs.Cases.{heard, line_taken, quit_taken, hang_taken, spent_taken, login_taken, dial_taken, user_at}

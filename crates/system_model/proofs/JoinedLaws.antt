@@ -1,24 +1,24 @@
 -- What a step does to a run that is joined with its users' words and files.
-use Rattle.std.proofs.Common.{◌≡◌, ◌≢◌, ℕ, zero, suc, ◌+◌, ◌-◌, ◌*◌, ◌<◌, ◌≤◌, Bool, true, false, cond, not, nat_eq, nat_le, nat_lt, eq-eqb, ne_eqb, List, [], ◌∷◌, ◌++◌, Option, Some, None, length, drop, set, get_or, refl, sym, ◌∙◌, ap, subst, arith, ◌⊎◌, inl, inr, lt-ltb, le-ltb}
+use Rattle.std.proofs.Common.{◌≡◌, ◌≢◌, ℕ, zero, suc, ◌+◌, ◌-◌, ◌*◌, ◌<◌, ◌≤◌, Bool, true, false, cond, nat_eq, nat_lt, eq-eqb, ne_eqb, List, [], ◌∷◌, ◌++◌, Option, Some, None, length, drop, set, get_or, refl, sym, ◌∙◌, ap, arith, ◌⊎◌, inl, inr, lt-ltb, le-ltb}
 use Rattle.std.proofs.lemmas.Bool.Decides.{nat_tests}
 use Rattle.std.proofs.lemmas.List.{get_or-set_same}
-use Rattle.time_sharing.specs.Machine.{Line, CutKind, Quit, Hang, Spent, Ending, Went, Stopped, Resized, Replaced, LoggedOut, CommonOp}
+use Rattle.time_sharing.specs.Machine.{Line, CutKind, Quit, Hang, Spent, Ending, CommonOp}
 use Rattle.time_sharing.specs.System.{Timed, Service, Console, Off, On, Password, Session, Entry, Taken, Login, Swap, Refused, kind_of, without, EventKind, at, Event, Dials, Types, Quits, Hangs, LineTaken, DialTaken, QuitTaken, HangTaken, Cause, Time, Wait, Stop, Size, Preempt, AtEnd, max_lines, cause_of, service_after, service_entry, clock_entry, common_entry, consoles_after}
 use Rattle.user_model.specs.Session.{user_rows, nobody}
 use Rattle.user_model.specs.Inner.{Stored, blocks_of}
-use Rattle.user_model.specs.User.{User, typed, opened, cut, can_step, step, ending, asks_clock, asks_common, in_store, hung}
+use Rattle.user_model.specs.User.{User, typed, opened, cut, step, ending, asks_clock, asks_common, in_store, hung}
 use Rattle.plan_model.specs.Levels.{Levels, charged, dropped, woken, has_time, chosen, user_of}
 use Rattle.plan_model.specs.Loads.{loaded, count_below, is_dumped, is_read, is_fresh}
 use Rattle.plan_model.specs.Plan.{must_load, with_load, move_of, places_after, places_cut}
-use Rattle.system_model.specs.Round.{round, asked, check, line_blocks, leaves}
+use Rattle.system_model.specs.Round.{round, asked, check, line_blocks}
 use Rattle.time_sharing.specs.Machine.{Machine}
 use Rattle.time_sharing.specs.Rows.{machine}
 use Rattle.time_sharing.specs.System.{World}
 use Rattle.ctss_types.specs.declared.file.FileBody.{FileBody}
 use Rattle.plan_model.specs.Plan.{Plan}
 use Rattle.time_sharing.specs.Record as whole
-use Rattle.system_model.specs.Run.{Run, taken, at_console, attended, measure}
-use Rattle.system_model.specs.Cases.{brought, reply_for, commons_for, levels_after, heard, line_taken, quit_taken, hang_taken, spent_taken, login_taken, dial_taken, idled, served, stepped, stepped_by, waited, idle_notes, stop_notes, not_served, cut_taken, user_at, with_user}
+use Rattle.system_model.specs.Run.{Run, taken, at_console, measure}
+use Rattle.system_model.specs.Cases.{brought, reply_for, commons_for, levels_after, heard, line_taken, quit_taken, hang_taken, spent_taken, login_taken, dial_taken, idled, served, stepped, waited, idle_notes, stop_notes, not_served, cut_taken, user_at, with_user}
 use Rattle.system_model.specs.Joined.{with_stores, joined, with_store, hung_up, cut_user, stepped_to, counted, moved, at_places}
 use Rattle.system_model.specs.Sound.{Sound, IsUser, HasSeat}
 use Rattle.system_model.proofs.SoundLaws.{Alike, user_too, seats_too, checked_is_user}
@@ -32,7 +32,7 @@ W r = round r.swap r.common r.accounts
 
 -- lists of users with their words and files
 
-same_stores : (k : ℕ) (f g : ℕ → Stored) (ps : List User) → ((v : ℕ) → k ≤ v → f v ≡ g v) → with_stores k f ps ≡ with_stores k g ps
+pub same_stores : (k : ℕ) (f g : ℕ → Stored) (ps : List User) → ((v : ℕ) → k ≤ v → f v ≡ g v) → with_stores k f ps ≡ with_stores k g ps
 same_stores k f g [] h = refl
 same_stores k f g (p ∷ ps) h =
     ap (λ (c : Stored). in_store c p ∷ with_stores (suc k) f ps) (h k (omega arith))
@@ -363,10 +363,6 @@ stepped_joined f v store common p t asked made r who leaves_it ends asks makes f
 accounts_same : (f : ℕ → Stored) (r : Run) → (joined f r).accounts ≡ r.accounts
 unfolding joined
 accounts_same f r = refl
-
--- the stores behind an event
-cut_stores : Console → Event → Run → (ℕ → Stored) → ℕ → Stored
-cut_stores console e r f = hung_up (cut_user console e r.system.users) f
 
 -- an event that no session hears
 quiet : (f : ℕ → Stored) (c : ℕ) (kind : EventKind) (now : Console) (more : List Entry) (r x y : Run) → x ≡ heard c kind now more (joined f r) → y ≡ heard c kind now more r → x ≡ joined (hung_up 0 f) y

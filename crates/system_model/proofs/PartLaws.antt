@@ -1,11 +1,11 @@
 -- Runs in parts, and events that come late.
-use Rattle.std.proofs.Common.{◌≡◌, ℕ, ◌≤◌, List, refl}
+use Rattle.std.proofs.Common.{refl}
 use Rattle.time_sharing.specs.Rows.{machine}
 use Rattle.time_sharing.proofs.Limits.{run_in_parts}
 use Rattle.time_sharing.proofs.Late.{run_then_given}
 use Rattle.user_model.specs.Session.{user_rows}
 use Rattle.system_model.specs.Round.{round}
-use Rattle.system_model.specs.Run.{Run, run_to, measure}
+use Rattle.system_model.specs.Run.{run_to, measure}
 use Rattle.system_model.specs.Claims.{RunsInParts, LateEventsWait, StepsEnd}
 use Rattle.system_model.proofs.RunLaws.{ends, measure_next}
 

@@ -1,13 +1,12 @@
 -- Many steps of the user that is served, as steps of the whole machine.
-use Rattle.std.proofs.Common.{◌≡◌, ℕ, zero, suc, ◌+◌, ◌-◌, ◌<◌, ◌≤◌, Bool, true, false, cond, nat_le, min, List, [], ◌∷◌, ◌++◌, length, set, get_or, Option, Some, None, refl, sym, ap, subst, ◌∙◌, arith, le-ltb}
+use Rattle.std.proofs.Common.{◌≡◌, ℕ, zero, suc, ◌+◌, ◌-◌, ◌<◌, ◌≤◌, Bool, true, false, cond, nat_le, List, [], ◌∷◌, ◌++◌, length, Option, Some, None, refl, sym, ap, subst, ◌∙◌, arith}
 use Rattle.std.proofs.lemmas.List.{get_or-set_same, set-get_or, set-set, append-nil}
 use Rattle.std.proofs.lemmas.Bool.Decides.{nat_tests}
 use Rattle.time_sharing.specs.Machine.{Ending, Went, CommonOp, Done}
-use Rattle.time_sharing.specs.System.{Timed, Service, Entry, Cause, cause_of, consoles_after, service_after, service_entry, clock_entry, common_entry, next_tick}
+use Rattle.time_sharing.specs.System.{Timed, Service, cause_of, consoles_after, service_after, service_entry, clock_entry, common_entry, next_tick}
 use Rattle.ctss_types.specs.declared.session.Waiting.{Waiting}
 use Rattle.cpu_regs.specs.declared.regs.Regs.{Regs}
 use Rattle.machine_model.specs.Step.{went}
-use Rattle.machine_model.specs.Machine.{table}
 use Rattle.machine_model.specs.Runs.{many}
 use Rattle.machine_model.proofs.Runs.{many_less}
 use Rattle.user_model.specs.Session.{nobody}
@@ -15,7 +14,7 @@ use Rattle.user_model.specs.Inner.{Stored, blocks_of}
 use Rattle.user_model.specs.User.{User, can_step, step, ending, asks_clock, asks_common, in_store}
 use Rattle.user_model.specs.Runs.{IsAtWork, gone, HaveGone}
 use Rattle.user_model.proofs.RunLaws.{work_on, work_can, work_ends, work_asks, work_makes, gone_more, gone_none}
-use Rattle.plan_model.specs.Levels.{Levels, chosen, user_of, has_time, charged}
+use Rattle.plan_model.specs.Levels.{chosen, has_time, charged}
 use Rattle.plan_model.specs.Spent.{spent}
 use Rattle.plan_model.specs.Plan.{must_load, places_after}
 use Rattle.plan_model.proofs.SpentLaws.{still_chosen, still_time, charged_more, spent_none}

@@ -1,5 +1,5 @@
 use Rattle.std.specs.Prelude.{slice_index_or}
-use Rattle.std.proofs.Common.{Bool, true, false, not, nat_eq, zero, drop, replicate, eq-eqb, arith, ◌≡◌, ℕ, suc, ◌+◌, ◌<◌, ◌≤◌, ◌^◌, List, [], ◌∷◌, ◌++◌, Option, Some, None, ap, refl, sym, ◌∙◌, append_assoc, lt-ltb, le-ltb}
+use Rattle.std.proofs.Common.{Bool, false, not, nat_eq, zero, drop, replicate, eq-eqb, arith, ◌≡◌, ℕ, suc, ◌<◌, ◌≤◌, List, ◌++◌, ap, refl, sym, ◌∙◌, lt-ltb, le-ltb}
 use Rattle.ctss_types.specs.declared.script.Account.{Account}
 use Rattle.time_sharing.specs.Rows.{machine}
 use Rattle.time_sharing.specs.System as theory
@@ -7,7 +7,7 @@ use Rattle.time_sharing.specs.System.{Timed, Service, Serve, AtEnd, Idle}
 use Rattle.time_sharing.specs.Record as whole
 use Rattle.time_sharing.proofs.RepeatLaws as laws
 use Rattle.time_sharing.proofs.Ending as ending
-use Rattle.user_model.specs.Session.{user_rows, nobody}
+use Rattle.user_model.specs.Session.{user_rows}
 use Rattle.user_model.specs.Inner.{blocks_of}
 use Rattle.plan_model.specs.Loads.{count_below}
 use Rattle.plan_model.specs.Plan.{Plan, must_load, with_load}
@@ -31,7 +31,7 @@ pub ends : (swap common : ℕ) (accounts : List Account) → whole.Ends (round s
 ends swap common accounts = record { loaded = λ q u p now. load_is_done q u (blocks_of p.inner); same_choice = λ q u p now. refl }
 
 before : Run → ℕ → State → Rattle.std.specs.Prelude.Bool
-before r limit s = whole.before (machine user_rows) (round r.swap r.common r.accounts) limit s
+before r limit s = whole.clock_is_below (machine user_rows) (round r.swap r.common r.accounts) limit s
 
 pub measure_next : (limit : ℕ) (r : Run) → r.system.clock < limit → measure limit (next limit r) < measure limit r
 unfolding next measure
@@ -41,14 +41,14 @@ pub run_to_next : (limit : ℕ) (r : Run) → r.system.clock < limit → run_to 
 unfolding next run_to measure
 run_to_next limit r h = λ i. record r {
   system =
-      laws.whole-step (whole.before (machine user_rows) (round r.swap r.common r.accounts) limit) (theory.next (machine user_rows) (round r.swap r.common r.accounts) limit) (whole.measure (machine user_rows) (round r.swap r.common r.accounts) limit) (ending.falls (machine user_rows) (round r.swap r.common r.accounts) (ends r.swap r.common r.accounts) limit) r.system (lt-ltb r.system.clock limit h) i;
+      laws.whole-step (whole.clock_is_below (machine user_rows) (round r.swap r.common r.accounts) limit) (theory.next (machine user_rows) (round r.swap r.common r.accounts) limit) (whole.measure (machine user_rows) (round r.swap r.common r.accounts) limit) (ending.falls (machine user_rows) (round r.swap r.common r.accounts) (ends r.swap r.common r.accounts) limit) r.system (lt-ltb r.system.clock limit h) i;
 }
 
 pub run_to_done : (limit : ℕ) (r : Run) → limit ≤ r.system.clock → run_to limit r ≡ r
 unfolding run_to measure
 run_to_done limit r h = λ i. record r {
   system =
-      laws.whole-done (whole.before (machine user_rows) (round r.swap r.common r.accounts) limit) (theory.next (machine user_rows) (round r.swap r.common r.accounts) limit) (whole.measure (machine user_rows) (round r.swap r.common r.accounts) limit) (ending.falls (machine user_rows) (round r.swap r.common r.accounts) (ends r.swap r.common r.accounts) limit) r.system (le-ltb r.system.clock limit h) i;
+      laws.whole-done (whole.clock_is_below (machine user_rows) (round r.swap r.common r.accounts) limit) (theory.next (machine user_rows) (round r.swap r.common r.accounts) limit) (whole.measure (machine user_rows) (round r.swap r.common r.accounts) limit) (ending.falls (machine user_rows) (round r.swap r.common r.accounts) (ends r.swap r.common r.accounts) limit) r.system (le-ltb r.system.clock limit h) i;
 }
 
 pub after_next : (limit : ℕ) (old r : Run) → AfterSteps limit old r → r.system.clock < limit → AfterSteps limit old (next limit r)
@@ -56,8 +56,8 @@ unfolding next AfterSteps
 after_next limit old r h up = (
   suc h.0,
   ap (next limit) h.1 ∙ (λ i. record old {
-    system = sym (laws.repeat-last (whole.before (machine user_rows) (round old.swap old.common old.accounts) limit) (theory.next (machine user_rows) (round old.swap old.common old.accounts) limit) (whole.measure (machine user_rows) (round old.swap old.common old.accounts) limit) (ending.falls (machine user_rows) (round old.swap old.common old.accounts) (ends old.swap old.common old.accounts) limit) h.0 old.system
-        (ap (λ (q : Run). whole.before (machine user_rows) (round old.swap old.common old.accounts) limit q.system) (sym h.1) ∙ lt-ltb r.system.clock limit up)) i;
+    system = sym (laws.repeat-last (whole.clock_is_below (machine user_rows) (round old.swap old.common old.accounts) limit) (theory.next (machine user_rows) (round old.swap old.common old.accounts) limit) (whole.measure (machine user_rows) (round old.swap old.common old.accounts) limit) (ending.falls (machine user_rows) (round old.swap old.common old.accounts) (ends old.swap old.common old.accounts) limit) h.0 old.system
+        (ap (λ (q : Run). whole.clock_is_below (machine user_rows) (round old.swap old.common old.accounts) limit q.system) (sym h.1) ∙ lt-ltb r.system.clock limit up)) i;
   }),
 )
 

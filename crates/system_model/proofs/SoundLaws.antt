@@ -7,19 +7,19 @@ use Rattle.std.proofs.lemmas.Bool.Decides.{nat_tests}
 use Rattle.ctss_types.specs.declared.session.Waiting.{Waiting}
 use Rattle.time_sharing.specs.System.{Timed, Service, Console, Off, On, Password, Session, out_of, without, next_tick, service_after, consoles_after, Entry, EventKind, Event, Dials, Types, Quits, Hangs, LineTaken, DialTaken, QuitTaken, HangTaken, max_lines, Cause, Time, Wait, Stop, Size, Preempt, AtEnd}
 use Rattle.plan_model.specs.Levels.{Levels, chosen, first_of, user_of, waits, is_in, is_user, dropped, without_user, woken, one_less, entered, level_of_words, charged, ticked, sunk, entered_again, level_in, has_time, command_blocks}
-use Rattle.system_model.specs.Run.{Run, next, taken, at_console, otherwise, attended, by_due, due_of, given}
-use Rattle.time_sharing.specs.Machine.{Line, CutKind, Quit, Hang, Ending, LoggedOut, Went, Stopped, Resized, Replaced}
-use Rattle.time_sharing.specs.Rows.{machine, some_line}
+use Rattle.system_model.specs.Run.{Run, next, taken, at_console, otherwise, attended, by_due, due_of, with_one_event}
+use Rattle.time_sharing.specs.Machine.{Line, Ending, LoggedOut, Went, Stopped, Resized, Replaced}
+use Rattle.time_sharing.specs.Rows.{some_line}
 use Rattle.user_model.specs.Inner.{blocks_of}
 use Rattle.time_sharing.specs.System as theory
-use Rattle.user_model.specs.Session.{user_rows, nobody}
-use Rattle.user_model.specs.User.{User, typed, opened, cut, can_step, step, ending, asks_clock, asks_common}
-use Rattle.system_model.specs.Round.{round, asked, check, account_in, account_with, password_by}
+use Rattle.user_model.specs.Session.{nobody}
+use Rattle.user_model.specs.User.{User, typed, opened, cut, can_step, step, ending, asks_common}
+use Rattle.system_model.specs.Round.{asked, check, account_in, account_with, password_by}
 use Rattle.ctss_types.specs.Words.{words_of}
 use Rattle.ctss_types.specs.declared.script.Account.{Account}
 use Rattle.system_model.proofs.CaseLaws.{next_due, taken_at, off_dials, off_types, off_quits, off_hangs, on_dials, on_no_name, on_name, on_quits, on_hangs, asked_dials, wrong_word, already_on, logs_in, asked_quits, asked_hangs, in_dials, in_types, in_spends, in_quits, in_hangs, idles, preempts_none, begins, goes_on, preempts, attended_loads, attended_steps, attended_waits}
 use Rattle.plan_model.specs.Plan.{must_load}
-use Rattle.system_model.specs.Cases.{brought, reply_for, levels_after, user_at, heard, line_taken, quit_taken, hang_taken, spent_taken, cut_taken, login_taken, dial_taken, idled, served, stepped, waited, not_served}
+use Rattle.system_model.specs.Cases.{brought, reply_for, levels_after, user_at, heard, line_taken, quit_taken, hang_taken, spent_taken, login_taken, dial_taken, idled, served, stepped, waited, not_served}
 use Rattle.system_model.specs.Sound.{Sound, IsUser, HasSeat}
 
 first_holds : (rows : List (List Waiting)) (l m : ℕ) (x : Waiting) → first_of l rows ≡ Some (m, x) → is_in x.user rows ≡ true
@@ -470,8 +470,8 @@ sound_next limit r up sound = subst Sound (sym (next_due limit r)) (by_events r.
     by_events [] is = sound_otherwise limit r (subst (λ (es : List Timed). r.system.clock ≤ next_tick limit es) (sym is) (omega (arith, up))) sound
     by_events (e ∷ rest) is = by_test e rest is (nat_le e.tick r.system.clock) refl
 
-pub sound_given : (e : Timed) (r : Run) → HasSeat e r → Sound r → Sound (given e r)
-unfolding given
+pub sound_given : (e : Timed) (r : Run) → HasSeat e r → Sound r → Sound (with_one_event e r)
+unfolding with_one_event
 sound_given e r seat sound =
-    sound_by r (given e r) (record { users = refl; accounts = refl; consoles = refl }) sound (All-push (λ (x : Timed). HasSeat x r) r.system.events e sound.seats seat)
+    sound_by r (with_one_event e r) (record { users = refl; accounts = refl; consoles = refl }) sound (All-push (λ (x : Timed). HasSeat x r) r.system.events e sound.seats seat)
     sound.sits (still r sound) sound.queued sound.owns

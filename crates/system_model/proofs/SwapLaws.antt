@@ -1,15 +1,14 @@
 -- What each case of a step adds to the blocks that the schedule's loads moved.
-use Rattle.std.proofs.Common.{◌≡◌, ℕ, ◌+◌, ◌-◌, Bool, true, false, nat_eq, cond, List, [], ◌∷◌, ◌++◌, Option, Some, None, refl, ◌∙◌, arith}
+use Rattle.std.proofs.Common.{◌≡◌, ℕ, ◌+◌, Bool, true, false, nat_eq, cond, List, [], ◌∷◌, ◌++◌, Option, Some, None, refl, ◌∙◌, arith}
 use Rattle.time_sharing.specs.Machine.{Ending, CutKind, Quit, Hang, Spent, CommonOp, Reply}
-use Rattle.time_sharing.specs.System.{Timed, Service, Console, Off, On, Entry, Taken, Login, Refused, Idle, Swap, Serve, Clock, Common, EventKind, LineTaken, kind_of, Cause, Stop, Wait, cause_of, service_entry, clock_entry, common_entry, without}
-use Rattle.user_model.specs.User.{User}
+use Rattle.time_sharing.specs.System.{Timed, Service, Console, On, Entry, Taken, Login, Refused, Idle, Swap, Serve, Clock, Common, EventKind, LineTaken, kind_of, Cause, Stop, cause_of, service_entry, clock_entry, common_entry}
 use Rattle.plan_model.specs.Levels.{has_time}
 use Rattle.system_model.specs.Run.{Run, taken}
 use Rattle.system_model.specs.Cases.{user_at, idle_notes, stop_notes, heard, line_taken, quit_taken, hang_taken, spent_taken, cut_taken, login_taken, dial_taken, idled, served, waited}
 use Rattle.system_model.specs.Joined.{counted, moved}
 use Rattle.system_model.specs.Sound.{Sound, HasSeat}
 use Rattle.schedule_model.specs.Sums.{dumped_in, read_in}
-use Rattle.system_model.proofs.EventLaws.{EachCase, by_event}
+use Rattle.system_model.proofs.EventLaws.{by_event}
 
 -- the moves of two parts of a schedule add up
 

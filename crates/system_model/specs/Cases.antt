@@ -1,17 +1,17 @@
 -- claim: each case of a step, field by field.
-use Rattle.std.specs.Prelude.{ℕ, suc, ◌+◌, ◌-◌, Bool, true, false, if◌then◌else◌, nat_eq, List, [], ◌∷◌, ◌++◌, Option, Some, None, drop, set, get_or}
-use Rattle.time_sharing.specs.Machine.{Line, CutKind, Quit, Hang, Spent, Ending, CommonOp, Reply}
+use Rattle.std.specs.Prelude.{ℕ, suc, ◌+◌, ◌-◌, if◌then◌else◌, nat_eq, List, [], ◌∷◌, ◌++◌, Option, Some, None, drop, set, get_or}
+use Rattle.time_sharing.specs.Machine.{Line, CutKind, Quit, Hang, Spent, CommonOp, Reply}
 use Rattle.time_sharing.specs.Rows.{machine}
 use Rattle.time_sharing.specs.System.{SystemState, Timed, Service, Console, Session, Entry, Taken, Login, Idle, Swap, Serve, EventKind, LineTaken, DialTaken, kind_of, Cause, Stop, Wait, AtEnd, without, Off, consoles_after, cause_of, service_after, service_entry, clock_entry, common_entry, next_tick}
 use Rattle.user_model.specs.Session.{user_rows, nobody}
 use Rattle.user_model.specs.Inner.{blocks_of}
-use Rattle.user_model.specs.User.{User, typed, opened, cut, can_step, step, ending, asks_clock, asks_common}
-use Rattle.plan_model.specs.Levels.{Levels, chosen, has_time, charged, dropped, woken}
+use Rattle.user_model.specs.User.{User, typed, opened, cut, step, ending, asks_clock, asks_common}
+use Rattle.plan_model.specs.Levels.{Levels, has_time, charged, dropped, woken}
 use Rattle.plan_model.specs.Plan.{with_load, move_of, places_after, places_cut}
 use Rattle.time_sharing.specs.System as theory
 use Rattle.ctss_types.specs.declared.file.FileBody.{FileBody}
 use Rattle.system_model.specs.Round.{round, leaves, line_blocks}
-use Rattle.system_model.specs.Run.{Run, State}
+use Rattle.system_model.specs.Run.{Run}
 
 abbrev pub user_at : ℕ → List User → User
 user_at u users = get_or users (u - 1) nobody

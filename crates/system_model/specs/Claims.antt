@@ -7,10 +7,10 @@ use Rattle.time_sharing.specs.Rows.{machine}
 use Rattle.time_sharing.specs.System.{at}
 use Rattle.time_sharing.specs.Private.{Cut}
 use Rattle.time_sharing.specs.Reach.{Goes}
-use Rattle.time_sharing.specs.Feeds.{feed_of, seen, ran_of}
+use Rattle.time_sharing.specs.Feeds.{feed_of, observed, ran_of}
 use Rattle.time_sharing.specs.Record.{AreLate}
 use Rattle.user_model.specs.Session.{user_rows, nobody}
-use Rattle.system_model.specs.Run.{Run, AfterSteps, next, run_to, measure, given_all}
+use Rattle.system_model.specs.Run.{Run, AfterSteps, next, run_to, measure, with_all_events}
 use Rattle.system_model.specs.Record.{start_of, record_of, first_of_user, EachIsAlone, IsOneList}
 
 -- in the record of every script each user is alone
@@ -26,7 +26,7 @@ CommonsAreOne = (script : Script) → IsOneList script (record_of script)
 abbrev pub EachMomentIsAlone : Type 0
 EachMomentIsAlone =
     (script : Script) (u : ℕ) (r : Run) → 0 < u → u ≤ length script.accounts → AfterSteps script.end (start_of script) r →
-    let o = seen u script.events r.system.entries in
+    let o = observed u script.events r.system.entries in
     let p = at nobody r.system.users u in
     Goes (machine user_rows) (o.items ++ Cut p.own End ∷ []) (record { state = first_of_user script u; clocks = o.clocks; replies = o.replies }) (record { state = p; clocks = []; replies = [] })
     × (p.own ≡ o.own + ran_of u r.system.service)
@@ -52,4 +52,4 @@ RunsInParts = (j k : ℕ) (r : Run) → j ≤ k → run_to k (run_to j r) ≡ ru
 abbrev pub LateEventsWait : Type 0
 LateEventsWait =
     (events : List Timed) (j k : ℕ) (r : Run) → j ≤ k → AreLate j events →
-    (run_to k (given_all events (run_to j r)) ≡ run_to k (given_all events r)) × ((given_all events r).system.events ≡ r.system.events ++ events)
+    (run_to k (with_all_events events (run_to j r)) ≡ run_to k (with_all_events events r)) × ((with_all_events events r).system.events ≡ r.system.events ++ events)

@@ -1,9 +1,9 @@
 -- proof: what lies outside users' sessions, the words of their programs and their files, and the common files, apart from the rest, and both
 -- joined.
 use Rattle.std.specs.Prelude.{ℕ, zero, suc, ◌+◌, ◌*◌, Bool, if◌then◌else◌, nat_eq, nat_lt, List, [], ◌∷◌, ◌++◌}
-use Rattle.time_sharing.specs.Machine.{Line, Ending}
+use Rattle.time_sharing.specs.Machine.{Ending}
 use Rattle.ctss_types.specs.declared.file.FileBody.{FileBody}
-use Rattle.time_sharing.specs.System.{Service, Console, Off, On, Password, Session, Event, Entry, Dials, Types, Quits, Hangs, Swap, Cause, max_lines, cause_of, consoles_after, service_after, service_entry, clock_entry}
+use Rattle.time_sharing.specs.System.{Service, Console, Off, On, Password, Session, Event, Entry, Dials, Types, Quits, Hangs, Swap, max_lines, cause_of, consoles_after, service_after, service_entry, clock_entry}
 use Rattle.user_model.specs.Inner.{Stored, blocks_of}
 use Rattle.user_model.specs.User.{User, in_store, hung}
 use Rattle.plan_model.specs.Levels.{charged, has_time}
@@ -29,10 +29,6 @@ with_store u store stores v = if nat_eq v u then store else stores v
 abbrev pub hung_up : ℕ → (ℕ → Stored) → ℕ → Stored
 hung_up zero stores = stores
 hung_up (suc u) stores = with_store (suc u) (hung (stores (suc u))) stores
-
--- the common files in the store of number 0
-abbrev pub common_store : List FileBody → Stored
-common_store files = record { core = []; files = files }
 
 -- the user whose session an event ends, by a hang or by a line too much; 0 for nobody
 abbrev pub cut_user : Console → Event → List User → ℕ

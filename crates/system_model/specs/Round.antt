@@ -1,13 +1,13 @@
 -- claim: what is round the users: the queues, the loads, the logins, the common files.
-use Rattle.std.specs.Prelude.{ℕ, suc, Bool, true, false, if◌then◌else◌, ◌&&◌, nat_eq, List, [], ◌∷◌, Option, Some, None, bytes_eq, codes}
+use Rattle.std.specs.Prelude.{ℕ, suc, if◌then◌else◌, ◌&&◌, nat_eq, List, [], ◌∷◌, Option, Some, None, bytes_eq, codes}
 use Rattle.ctss_types.specs.declared.script.Account.{Account}
 use Rattle.ctss_types.specs.declared.file.FileBody.{FileBody}
 use Rattle.ctss_types.specs.Words.{words_of}
-use Rattle.time_sharing.specs.Machine.{Line, CutKind}
+use Rattle.time_sharing.specs.Machine.{Line}
 use Rattle.time_sharing.specs.Rows.{some_line}
 use Rattle.time_sharing.specs.System.{World, Cause, Time, Wait, Stop, Size, Preempt, AtEnd}
 use Rattle.file_model.specs.Commons.{reply_to, files_after}
-use Rattle.user_model.specs.Inner.{Inner, blocks_of}
+use Rattle.user_model.specs.Inner.{blocks_of}
 use Rattle.user_model.specs.Session.{nobody, works_in}
 use Rattle.user_model.specs.Requests.{word_name}
 use Rattle.user_model.specs.User.{User}

@@ -3,17 +3,13 @@
 use Rattle.std.specs.Prelude.{◌≡◌, ℕ, List, [], ◌∷◌, codes}
 use Rattle.ctss_types.specs.Words.{name_of}
 use Rattle.ctss_types.specs.declared.script.Script.{Script}
-use Rattle.ctss_types.specs.declared.script.Params.{Params}
-use Rattle.ctss_types.specs.declared.script.Account.{Account}
 use Rattle.ctss_types.specs.declared.script.Timed.{Timed}
 use Rattle.ctss_types.specs.declared.script.Event.TheVariants as event
-use Rattle.ctss_types.specs.declared.history.Record.{Record}
 use Rattle.ctss_types.specs.declared.history.Item.TheVariants as item
 use Rattle.ctss_types.specs.declared.history.EventKind.TheVariants as kind
 use Rattle.ctss_types.specs.declared.history.Cause.TheVariants as cause
 use Rattle.ctss_types.specs.declared.history.Entry.TheVariants.{Taken, Login, Refused, Idle, Serve, Clock}
 use Rattle.ctss_types.specs.declared.file.FileBody.{FileBody}
-use Rattle.ctss_types.specs.declared.file.OwnedFile.{OwnedFile}
 use Rattle.system_model.specs.Record.{record_of}
 
 abbrev pub empty_script : Script

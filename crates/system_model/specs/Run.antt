@@ -1,5 +1,5 @@
 -- claim: the machine of all users, with its accounts, closed: what contracts cite.
-use Rattle.std.specs.Prelude.{◌≡◌, ℕ, ◌+◌, Bool, true, false, if◌then◌else◌, nat_le, List, [], ◌∷◌, ◌++◌, Option, Some, None, drop}
+use Rattle.std.specs.Prelude.{◌≡◌, ℕ, if◌then◌else◌, nat_le, List, [], ◌∷◌, Option, Some, None, drop}
 use Rattle.ctss_types.specs.declared.script.Account.{Account}
 use Rattle.ctss_types.specs.declared.file.FileBody.{FileBody}
 use Rattle.time_sharing.specs.Rows.{machine}
@@ -39,12 +39,12 @@ unfoldable pub AfterSteps : ℕ → Run → Run → Type 0
 AfterSteps limit old new = (n : ℕ) × (new ≡ record old { system = whole.iterate (machine user_rows) (round old.swap old.common old.accounts) limit n old.system })
 
 -- one more event behind those that are left
-unfoldable pub given : Timed → Run → Run
-given e r = record r { system = whole.given (e ∷ []) r.system }
+unfoldable pub with_one_event : Timed → Run → Run
+with_one_event e r = record r { system = whole.with_events (e ∷ []) r.system }
 
 -- more events behind those that are left
-abbrev pub given_all : List Timed → Run → Run
-given_all events r = record r { system = whole.given events r.system }
+abbrev pub with_all_events : List Timed → Run → Run
+with_all_events events r = record r { system = whole.with_events events r.system }
 
 -- an open service and open idling end
 unfoldable pub ended : Run → Run

@@ -1,5 +1,5 @@
 -- proof: many steps of the user that is served, which go on.
-use Rattle.std.specs.Prelude.{◌≡◌, ℕ, zero, suc, ◌+◌, ◌<◌, List, length, Option, Some, None}
+use Rattle.std.specs.Prelude.{◌≡◌, ℕ, zero, suc, ◌+◌, ◌<◌, length, Some, None}
 use Rattle.time_sharing.specs.System.{Service}
 use Rattle.user_model.specs.User.{User}
 use Rattle.plan_model.specs.Spent.{spent}

@@ -1,10 +1,10 @@
 -- proof: what is true of each state of a run: users, consoles and ticks are in range.
-use Rattle.std.specs.Prelude.{◌≡◌, ℕ, ◌-◌, ◌<◌, ◌≤◌, true, List, [], length, get_or, Some}
+use Rattle.std.specs.Prelude.{◌≡◌, ℕ, ◌<◌, ◌≤◌, true, length, get_or, Some}
 use Rattle.std.specs.List.{All}
-use Rattle.time_sharing.specs.System.{Timed, Service, Console, Off, Session}
+use Rattle.time_sharing.specs.System.{Timed, Service, Off, Session}
 use Rattle.plan_model.specs.Levels.{waits}
 use Rattle.system_model.specs.Run.{Run}
-use Rattle.user_model.specs.Session.{user_rows, nobody}
+use Rattle.user_model.specs.Session.{nobody}
 
 pub record IsUser (u : ℕ) (r : Run) : Type 0 where
   pub some : 0 < u

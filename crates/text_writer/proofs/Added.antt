@@ -49,7 +49,7 @@ both a b x y z (Added.Passed p) (Added.Passed q) = Added.Passed (record {
   put = p.put ++ q.put;
   due = both_due x.waiting y.waiting z.waiting a b p.put q.put p.due q.due;
   held = q.held ∙ ap (λ (o : Option (List ℕ)). after o q.put) p.held ∙ after_both x.held p.put q.put;
-  kept = omega (arith, p.kept, q.kept);
+  faults_grow = omega (arith, p.faults_grow, q.faults_grow);
 })
 both a b x y z (Added.Passed p) (Added.Lost q) = Added.Lost (record {
   before = p.before;
@@ -59,7 +59,7 @@ both a b x y z (Added.Passed p) (Added.Lost q) = Added.Lost (record {
   due = both_due x.waiting y.waiting q.rest a b p.put q.put p.due q.due;
   lost = q.lost;
   held = q.held ∙ ap (λ (o : Option (List ℕ)). after o q.put) p.held ∙ after_both x.held p.put q.put;
-  cause = rose_later x.faults y.faults z.faults p.kept q.cause;
+  cause = rose_later x.faults y.faults z.faults p.faults_grow q.cause;
 })
 both a b x y z (Added.Passed p) (Added.Dropped q) = absurd (grind (arith, q.before, p.now))
 both a b x y z (Added.Lost p) (Added.Passed q) = absurd (grind (arith, q.before, p.now))
@@ -93,7 +93,7 @@ written text due old new (Ok u) well is empty failed done short fault kept = Add
   put = due;
   due = is ∙ sym (append-nil due) ∙ ap (λ (l : List ℕ). due ++ l) (sym empty);
   held = done;
-  kept = kept;
+  faults_grow = kept;
 })
 written text due old new (Err e) well is empty failed done short fault kept = Added.Lost (record {
   before = well;
@@ -128,7 +128,7 @@ none_by false x is = Added.Passed (record {
   put = [];
   due = append-nil x.waiting;
   held = sym (after_none x.held);
-  kept = omega arith;
+  faults_grow = omega arith;
 })
 none_by true x is = Added.Dropped (record { before = is; now = is; held = refl; faults = refl })
 
@@ -189,8 +189,3 @@ part_came text x z well none bad (Added.Lost p) =
     let size : length text ≡ length p.put + length p.rest = ap length is ∙ length-append p.put p.rest in
     (length p.put, omega (arith, size, p.lost), p.held ∙ ap (λ (l : List ℕ). after x.held l) (sym front))
 part_came text x z well none bad (Added.Dropped p) = absurd (grind (arith, well, p.before))
-
-pub put_failed : (text : List ℕ) (x z : WriterSeen) → x.failed ≡ false → z.failed ≡ true → Added text x z → Rose x.faults z.faults
-put_failed text x z well bad (Added.Passed p) = absurd (grind (arith, bad, p.now))
-put_failed text x z well bad (Added.Lost p) = p.cause
-put_failed text x z well bad (Added.Dropped p) = absurd (grind (arith, well, p.before))

@@ -19,7 +19,7 @@ pub record Passes (text : List ℕ) (old new : WriterSeen) : Type 0 where
   pub put : List ℕ
   pub due : old.waiting ++ text ≡ put ++ new.waiting
   pub held : new.held ≡ after old.held put
-  pub kept : old.faults ≤ new.faults
+  pub faults_grow : old.faults ≤ new.faults
 
 -- a part has come to the sink; then a put failed, and a rest that is not empty is lost
 pub record Loses (text : List ℕ) (old new : WriterSeen) : Type 0 where

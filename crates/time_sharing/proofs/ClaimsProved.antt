@@ -1,6 +1,6 @@
 use Rattle.std.proofs.Common.{ap, ap₂, sym, ◌∙◌}
 use Rattle.time_sharing.specs.Rows.{machine}
-use Rattle.time_sharing.specs.Record.{before, measure}
+use Rattle.time_sharing.specs.Record.{clock_is_below, measure}
 use Rattle.time_sharing.specs.System.{next}
 use Rattle.time_sharing.specs.Claims.{AllIsolated, RowsIsolated, AllRunsEnd, CommonsAreOne, RunsInParts, FeedsDecide, EachMomentIsAlone, LateEventsWait, WatchingIsStill}
 use Rattle.time_sharing.specs.Private.{alone}
@@ -23,8 +23,8 @@ pub all_runs_end : (S P F : Type 0) → AllRunsEnd S P F
 all_runs_end S P F m w ends =
     record {
       falls = λ limit s e. falls m w ends limit s e;
-      step = λ limit s e. whole-step (before m w limit) (next m w limit) (measure m w limit) (falls m w ends limit) s e;
-      done = λ limit s e. whole-done (before m w limit) (next m w limit) (measure m w limit) (falls m w ends limit) s e;
+      step = λ limit s e. whole-step (clock_is_below m w limit) (next m w limit) (measure m w limit) (falls m w ends limit) s e;
+      done = λ limit s e. whole-done (clock_is_below m w limit) (next m w limit) (measure m w limit) (falls m w ends limit) s e;
     }
 
 pub commons_are_one : (S P F : Type 0) → CommonsAreOne S P F

@@ -4,7 +4,7 @@ use Rattle.time_sharing.specs.Machine.{Machine, CutKind, Quit, Hang, Spent, Comm
 use Rattle.time_sharing.specs.System as system
 use Rattle.time_sharing.specs.System.{SystemState, World, Timed, Service, Console, Off, On, Password, Session, Dials, Types, Quits, Hangs, Entry, Taken, Login, Refused, Idle, Swap, Serve, Clock, Common, Cause, state_of, next, clock_entry, common_entry, service_entry, cause_of, clock_for}
 use Rattle.time_sharing.specs.Repeat.{repeat}
-use Rattle.time_sharing.specs.Record.{before, iterate, start}
+use Rattle.time_sharing.specs.Record.{clock_is_below, iterate, start}
 use Rattle.time_sharing.specs.Commons.{operations_of, replies_of, common_run, files_left}
 
 operations-append : (es fs : List Entry) → operations_of (es ++ fs) ≡ operations_of es ++ operations_of fs
@@ -197,7 +197,7 @@ module _ {S P F : Type 0} (m : Machine S) (w : World S P F) where
   iterate_serves : (limit n : ℕ) (s : SystemState S P F) → Serves s (iterate m w limit n s)
   iterate_serves limit zero s = stays s
   iterate_serves limit (suc n) s =
-      elim (nat_lt s.clock limit) as (λ b. Serves s (elim b [ true ↦ repeat (before m w limit) (next m w limit) n (next m w limit s) | false ↦ s ])) [
+      elim (nat_lt s.clock limit) as (λ b. Serves s (elim b [ true ↦ repeat (clock_is_below m w limit) (next m w limit) n (next m w limit s) | false ↦ s ])) [
         | true ↦ chain s (next m w limit s) _ (next_serves limit s s.events) (iterate_serves limit n (next m w limit s))
         | false ↦ stays s
       ]

@@ -5,7 +5,7 @@ use Rattle.std.proofs.lemmas.Bool.Decides.{eqb_tells}
 use Rattle.std.proofs.Common.{inl, inr}
 use Rattle.time_sharing.specs.System as system
 use Rattle.time_sharing.specs.System.{SystemState, World, Timed, Service, Console, Off, On, Password, Session, Dials, Types, Quits, Hangs, state_of, next}
-use Rattle.time_sharing.specs.Record.{is_open, as_number, must_load_of, at_once, measure, before, Ends}
+use Rattle.time_sharing.specs.Record.{is_open, as_number, must_load_of, at_once, measure, clock_is_below, Ends}
 use Rattle.time_sharing.specs.Repeat.{Falls}
 
 scaled : (a b k k' few : ℕ) → a < b → k' ≤ k → few < k' → a * k' + few < b * k
@@ -143,5 +143,5 @@ module _ {S P F : Type 0} (m : Machine S) (w : World S P F) where
         by_test false q = otherwise_falls limit s (w.choose s.plan) s.service refl refl h (rw is (omega (arith, leb-false e.tick s.clock q)))
 
     -- each run ends
-    pub falls : (limit : ℕ) → Falls (before m w limit) (next m w limit) (measure m w limit)
+    pub falls : (limit : ℕ) → Falls (clock_is_below m w limit) (next m w limit) (measure m w limit)
     falls limit s e = next_falls limit s s.events refl (ltb-true s.clock limit e)

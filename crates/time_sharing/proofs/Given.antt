@@ -4,11 +4,11 @@ use Rattle.std.proofs.lemmas.Bool.{cases_Bool}
 use Rattle.time_sharing.specs.Machine.{Machine, CutKind, Quit, Hang, Spent}
 use Rattle.time_sharing.specs.System as system
 use Rattle.time_sharing.specs.System.{SystemState, World, Timed, Service, Console, Off, On, Password, Session, Dials, Types, Quits, Hangs, state_of, next, next_by, next_tick, otherwise, idled}
-use Rattle.time_sharing.specs.Record.{given, AreLate}
+use Rattle.time_sharing.specs.Record.{with_events, AreLate}
 
 module _ {S P F : Type 0} (m : Machine S) (w : World S P F) (es : List Timed) where
   abbrev pub g : SystemState S P F → SystemState S P F
-  g s = given es s
+  g s = with_events es s
 
   stop_given : (v : ℕ) (service : Option Service) (s : SystemState S P F) → system.stop_served_of m w service v (g s) ≡ g (system.stop_served_of m w service v s)
   stop_given v None s = refl

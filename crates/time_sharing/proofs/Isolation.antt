@@ -3,18 +3,18 @@ use Rattle.time_sharing.specs.Machine.{Machine, Laws, CutKind, Line, CommonOp, R
 use Rattle.time_sharing.specs.Private.{Alone, Open, Typed, Cut, with_clock, with_reply, next}
 use Rattle.time_sharing.specs.Reach.{Reaches, Goes, more, line_in}
 use Rattle.time_sharing.specs.System.{Console, Off, Session, clock_for, at, Timed}
-use Rattle.time_sharing.specs.Feeds.{Seen, rest_of}
+use Rattle.time_sharing.specs.Feeds.{Observed, rest_of}
 use Rattle.time_sharing.proofs.Runs as runs
 
 -- a state with no answer left to take
 abbrev pub settled : {S : Type 0} (m : Machine S) → S → Alone S
 settled m p = record { state = p; clocks = []; replies = [] }
 
-abbrev pub starts : {S : Type 0} (m : Machine S) → S → Seen → Alone S
+abbrev pub starts : {S : Type 0} (m : Machine S) → S → Observed → Alone S
 starts m first o = record { state = first; clocks = o.clocks; replies = o.replies }
 
 -- What is true of a user in state p, with ran ticks of an open service, where the entries show o.
-pub record Holds {S : Type 0} (m : Machine S) (first : S) (u : ℕ) (left : List Timed) (p : S) (ran : ℕ) (consoles : List Console) (o : Seen) : Type 0 where
+pub record Holds {S : Type 0} (m : Machine S) (first : S) (u : ℕ) (left : List Timed) (p : S) (ran : ℕ) (consoles : List Console) (o : Observed) : Type 0 where
   pub left_is : o.left ≡ left
   pub own : m.own p ≡ o.own + ran
   -- where the feed leads before the last run, and that run
@@ -28,13 +28,13 @@ pub record Holds {S : Type 0} (m : Machine S) (first : S) (u : ℕ) (left : List
 
 module _ {S : Type 0} (m : Machine S) (laws : Laws m) (first : S) (u : ℕ) where
   -- Run(k) at k = the own steps so far
-  pub run_here : (left : List Timed) (p : S) (ran : ℕ) (cs : List Console) (o : Seen) (h : Holds m first u left p ran cs o) → Reaches m (m.own p - m.own h.mid.state) h.mid (settled m p)
+  pub run_here : (left : List Timed) (p : S) (ran : ℕ) (cs : List Console) (o : Observed) (h : Holds m first u left p ran cs o) → Reaches m (m.own p - m.own h.mid.state) h.mid (settled m p)
   run_here left p ran cs o h =
       let e : h.count ≡ m.own p - m.own h.mid.state = omega (arith, runs.reaches_own m laws h.count h.mid (settled m p) h.reaches) in
       subst (λ n. Reaches m n h.mid (settled m p)) e h.reaches
 
   -- a line comes
-  pub holds_line : (left rest : List Timed) (p : S) (ran : ℕ) (cs cs' : List Console) (o : Seen) (l : Line) → m.is_open p ≡ true → rest_of left ≡ rest →
+  pub holds_line : (left rest : List Timed) (p : S) (ran : ℕ) (cs cs' : List Console) (o : Observed) (l : Line) → m.is_open p ≡ true → rest_of left ≡ rest →
       Holds m first u left p ran cs o → Holds m first u rest (m.typed p l) ran cs' (record o { left = rest_of o.left; items = o.items ++ Typed l ∷ [] })
   holds_line left rest p ran cs cs' o l up r h =
       let up' : m.is_open (m.typed p l) ≡ true = laws.typed_open p l ∙ up in
@@ -50,7 +50,7 @@ module _ {S : Type 0} (m : Machine S) (laws : Laws m) (first : S) (u : ℕ) wher
       }
 
   -- the user's session is cut, while no service of the user is open
-  pub holds_cut : (left rest : List Timed) (p : S) (cs cs' : List Console) (o : Seen) (kind : CutKind) → rest_of left ≡ rest →
+  pub holds_cut : (left rest : List Timed) (p : S) (cs cs' : List Console) (o : Observed) (kind : CutKind) → rest_of left ≡ rest →
       ((c : ℕ) → at Off cs' c ≡ Session u → m.is_open (m.cut kind p) ≡ true) →
       Holds m first u left p 0 cs o → Holds m first u rest (m.cut kind p) 0 cs' (record o { left = rest_of o.left; items = o.items ++ Cut (m.own p) kind ∷ [] })
   holds_cut left rest p cs cs' o kind r live h =
@@ -66,7 +66,7 @@ module _ {S : Type 0} (m : Machine S) (laws : Laws m) (first : S) (u : ℕ) wher
       }
 
   -- the user logs in
-  pub holds_open : (left : List Timed) (p : S) (ran : ℕ) (cs cs' : List Console) (o : Seen) → m.is_open p ≡ false →
+  pub holds_open : (left : List Timed) (p : S) (ran : ℕ) (cs cs' : List Console) (o : Observed) → m.is_open p ≡ false →
       Holds m first u left p ran cs o → Holds m first u left (m.opened p) ran cs' (record o { items = o.items ++ Open o.own ∷ [] })
   holds_open left p ran cs cs' o down h =
       let none : ran ≡ 0 = elim h.served [ inl e ↦ e | inr up ↦ cc (down, up) ] in
@@ -107,7 +107,7 @@ next_own_answers m p t r none can = rw (can, with_clock_in) (with_reply_in (m.as
 
 module _ {S : Type 0} (m : Machine S) (laws : Laws m) (first : S) (u : ℕ) where
   -- one step of the user
-  pub holds_step : (left : List Timed) (p : S) (ran ran' : ℕ) (cs cs' : List Console) (o o' : Seen) (t : ℕ) (r : Reply) →
+  pub holds_step : (left : List Timed) (p : S) (ran ran' : ℕ) (cs cs' : List Console) (o o' : Observed) (t : ℕ) (r : Reply) →
       (m.asks_common p ≡ None → r ≡ Done) → m.can_step p ≡ true →
       let q = m.step p (clock_for (m.asks_clock p) t) r in
       o'.left ≡ o.left → o'.items ≡ o.items → o'.clocks ≡ o.clocks ++ clocks_in (m.asks_clock p) t → o'.replies ≡ o.replies ++ replies_in (m.asks_common p) r → suc (o.own + ran) ≡ o'.own + ran' →
@@ -129,19 +129,19 @@ module _ {S : Type 0} (m : Machine S) (laws : Laws m) (first : S) (u : ℕ) wher
       }
 
   -- an entry that adds own steps of a service
-  pub holds_served : (left : List Timed) (p : S) (ran ran' own' : ℕ) (cs : List Console) (o : Seen) → o.own + ran ≡ own' + ran' → (ran' ≡ 0) ⊎ (m.is_open p ≡ true) →
+  pub holds_served : (left : List Timed) (p : S) (ran ran' own' : ℕ) (cs : List Console) (o : Observed) → o.own + ran ≡ own' + ran' → (ran' ≡ 0) ⊎ (m.is_open p ≡ true) →
       Holds m first u left p ran cs o → Holds m first u left p ran' cs (record o { own = own' })
   holds_served left p ran ran' own' cs o e served h =
       record { left_is = h.left_is; own = h.own ∙ e; mid = h.mid; goes = h.goes; count = h.count; reaches = h.reaches; live = h.live; served = served }
 
   -- consoles in the user's session become no more
-  pub holds_consoles : (left : List Timed) (p : S) (ran : ℕ) (cs cs' : List Console) (o : Seen) → ((c : ℕ) → at Off cs' c ≡ Session u → (d : ℕ) × (at Off cs d ≡ Session u)) →
+  pub holds_consoles : (left : List Timed) (p : S) (ran : ℕ) (cs cs' : List Console) (o : Observed) → ((c : ℕ) → at Off cs' c ≡ Session u → (d : ℕ) × (at Off cs d ≡ Session u)) →
       Holds m first u left p ran cs o → Holds m first u left p ran cs' o
   holds_consoles left p ran cs cs' o f h =
       record { left_is = h.left_is; own = h.own; mid = h.mid; goes = h.goes; count = h.count; reaches = h.reaches; live = λ c e. let g = f c e in h.live g.0 g.1; served = h.served }
 
   -- an event that isn't the user's
-  pub holds_taken : (left rest : List Timed) (p : S) (ran : ℕ) (cs : List Console) (o : Seen) → rest_of left ≡ rest →
+  pub holds_taken : (left rest : List Timed) (p : S) (ran : ℕ) (cs : List Console) (o : Observed) → rest_of left ≡ rest →
       Holds m first u left p ran cs o → Holds m first u rest p ran cs (record o { left = rest_of o.left })
   holds_taken left rest p ran cs o r h =
       record { left_is = ap rest_of h.left_is ∙ r; own = h.own; mid = h.mid; goes = h.goes; count = h.count; reaches = h.reaches; live = h.live; served = h.served }

@@ -5,7 +5,7 @@ use Rattle.time_sharing.specs.Machine.{Machine, CutKind, Quit, Hang, Spent}
 use Rattle.time_sharing.specs.System as system
 use Rattle.time_sharing.specs.System.{SystemState, World, Timed, Service, Console, Off, On, Password, Session, Dials, Types, Quits, Hangs, state_of, next, next_by, next_tick, otherwise}
 use Rattle.time_sharing.specs.Repeat.{repeat}
-use Rattle.time_sharing.specs.Record.{before, iterate, run_to, measure, Ends, given, AreLate, as_number, must_load_of}
+use Rattle.time_sharing.specs.Record.{clock_is_below, iterate, run_to, measure, Ends, with_events, AreLate, as_number, must_load_of}
 use Rattle.time_sharing.proofs.RepeatLaws.{repeat-enough}
 use Rattle.time_sharing.proofs.Ending.{falls}
 use Rattle.time_sharing.proofs.Given.{taken_given, attended_given, late_tick as is_later, not_due}
@@ -21,7 +21,7 @@ later_tick limit (e ∷ events) es h = refl
 
 module _ {S P F : Type 0} (m : Machine S) (w : World S P F) (es : List Timed) where
   abbrev g : SystemState S P F → SystemState S P F
-  g s = given es s
+  g s = with_events es s
 
   otherwise_given : (limit : ℕ) → AreLate limit es → (s : SystemState S P F) (chosen : Option ℕ) (service : Option Service) → otherwise m w limit chosen service (g s) ≡ g (otherwise m w limit chosen service s)
   otherwise_given limit late s None None = ap (λ c. record (g s) { clock = c; idling = Some (system.idle_from m w s.idling s.clock) }) (later_tick limit s.events es late)
@@ -41,7 +41,7 @@ module _ {S P F : Type 0} (m : Machine S) (w : World S P F) (es : List Timed) wh
   iterate_given limit late (suc n) s = by_test (nat_lt s.clock limit) refl (iterate_given limit late n (next m w limit s))
     where
       by_test : (b : Bool) → nat_lt s.clock limit ≡ b → iterate m w limit n (g (next m w limit s)) ≡ g (iterate m w limit n (next m w limit s)) →
-          (elim b [ true ↦ repeat (before m w limit) (next m w limit) n (next m w limit (g s)) | false ↦ g s ]) ≡ g (elim b [ true ↦ repeat (before m w limit) (next m w limit) n (next m w limit s) | false ↦ s ])
+          (elim b [ true ↦ repeat (clock_is_below m w limit) (next m w limit) n (next m w limit (g s)) | false ↦ g s ]) ≡ g (elim b [ true ↦ repeat (clock_is_below m w limit) (next m w limit) n (next m w limit s) | false ↦ s ])
       by_test true q ih = ap (iterate m w limit n) (next_given limit late s s.events refl (ltb-true s.clock limit q)) ∙ ih
       by_test false q ih = refl
 
@@ -59,11 +59,11 @@ module _ {S P F : Type 0} (m : Machine S) (w : World S P F) (es : List Timed) wh
 
   module _ (ends : Ends w) where
     -- what is given late may be given before
-    pub run_given : (limit : ℕ) → AreLate limit es → (s : SystemState S P F) → run_to m w limit (given es s) ≡ given es (run_to m w limit s)
+    pub run_given : (limit : ℕ) → AreLate limit es → (s : SystemState S P F) → run_to m w limit (with_events es s) ≡ with_events es (run_to m w limit s)
     run_given limit late s =
         iterate_given limit late (measure m w limit (g s)) s
-        ∙ ap (given es) (repeat-enough (before m w limit) (next m w limit) (measure m w limit) (falls m w ends limit) (measure m w limit (g s)) (measure m w limit s) s (fewer limit s) (omega arith))
+        ∙ ap (with_events es) (repeat-enough (clock_is_below m w limit) (next m w limit) (measure m w limit) (falls m w ends limit) (measure m w limit (g s)) (measure m w limit s) s (fewer limit s) (omega arith))
 
     -- a run, then more events, then a longer run: as if all events had been there
-    pub run_then_given : (j k : ℕ) (s : SystemState S P F) → j ≤ k → AreLate j es → run_to m w k (given es (run_to m w j s)) ≡ run_to m w k (given es s)
-    run_then_given j k s le late = ap (run_to m w k) (sym (run_given j late s)) ∙ run_in_parts m w ends j k (given es s) le
+    pub run_then_given : (j k : ℕ) (s : SystemState S P F) → j ≤ k → AreLate j es → run_to m w k (with_events es (run_to m w j s)) ≡ run_to m w k (with_events es s)
+    run_then_given j k s le late = ap (run_to m w k) (sym (run_given j late s)) ∙ run_in_parts m w ends j k (with_events es s) le

@@ -5,7 +5,7 @@ use Rattle.time_sharing.specs.Machine.{Machine}
 use Rattle.time_sharing.specs.System as system
 use Rattle.time_sharing.specs.System.{SystemState, World, Timed, Service, state_of, next, idled, next_tick, otherwise, next_by}
 use Rattle.time_sharing.specs.Repeat.{repeat}
-use Rattle.time_sharing.specs.Record.{before, iterate, run_to, measure, Ends}
+use Rattle.time_sharing.specs.Record.{clock_is_below, iterate, run_to, measure, Ends}
 use Rattle.time_sharing.proofs.RepeatLaws.{whole-step}
 use Rattle.time_sharing.proofs.Ending.{falls}
 
@@ -43,7 +43,7 @@ module _ {S P F : Type 0} (m : Machine S) (w : World S P F) where
 
   module _ (ends : Ends w) where
     step_to : (limit : ℕ) (s : SystemState S P F) → s.clock < limit → run_to m w limit (next m w limit s) ≡ run_to m w limit s
-    step_to limit s h = whole-step (before m w limit) (next m w limit) (measure m w limit) (falls m w ends limit) s (lt-ltb s.clock limit h)
+    step_to limit s h = whole-step (clock_is_below m w limit) (next m w limit) (measure m w limit) (falls m w ends limit) s (lt-ltb s.clock limit h)
 
     -- idling to the lesser limit, and on
     idle_on : (j k : ℕ) (s : SystemState S P F) → j ≤ k → s.clock < j → w.choose s.plan ≡ None → s.service ≡ None → run_to m w k (idled m w j s) ≡ run_to m w k (idled m w k s)
@@ -68,7 +68,7 @@ module _ {S P F : Type 0} (m : Machine S) (w : World S P F) where
         ]
 
     by_test : (j k n : ℕ) (s : SystemState S P F) → j ≤ k → run_to m w k (iterate m w j n (next m w j s)) ≡ run_to m w k (next m w j s) → (b : Bool) → nat_lt s.clock j ≡ b →
-        run_to m w k (elim b [ true ↦ repeat (before m w j) (next m w j) n (next m w j s) | false ↦ s ]) ≡ run_to m w k s
+        run_to m w k (elim b [ true ↦ repeat (clock_is_below m w j) (next m w j) n (next m w j s) | false ↦ s ]) ≡ run_to m w k s
     by_test j k n s le turns true q = turns ∙ one_step j k s le (ltb-true s.clock j q)
     by_test j k n s le turns false q = refl
 

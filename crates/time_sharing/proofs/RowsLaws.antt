@@ -1,7 +1,7 @@
 -- Every machine made of rows keeps the laws of a machine.
 use Rattle.std.proofs.Common.{◌≡◌, ◌≢◌, suc, ◌-◌, Bool, true, false, not, ◌&&◌, ◌||◌, cond, List, [], ◌∷◌, ◌++◌, refl, sym, ap, ◌∙◌, append_assoc}
 use Rattle.time_sharing.specs.Machine.{Laws, CutKind, Quit, Hang, Spent, End, Ending, Went, Stopped, Resized, Replaced, LoggedOut, Line}
-use Rattle.time_sharing.specs.Rows.{Rows, Private, Outcome, machine, line_of, first_line, some_line, done, result_of, is_logout, behind, cut_all, before_of, one_less}
+use Rattle.time_sharing.specs.Rows.{Rows, Private, Outcome, machine, line_of, first_line, some_line, done, result_of, is_logout, behind, cut_all, own_at_command_of, one_less}
 
 both : (a b : Bool) → (a && b) ≡ true → (a ≡ true) × (b ≡ true)
 both true true e = (refl, refl)
@@ -65,7 +65,7 @@ module _ {A : Type 0} (rows : Rows A) where
         typed_common = λ p l can. ap (rows.asks_common p.inner) (first_more (rows.takes_line p.inner) p.unread l (both p.on _ can).1);
         commutes = λ p l t r can up.
             let h = (both p.on _ can).1 in
-            ap (done rows (line_more p l)) (ap (λ z. rows.act p.inner z (suc p.own - before_of rows p) (one_less z p.given) t r) (first_more (rows.takes_line p.inner) p.unread l h))
+            ap (done rows (line_more p l)) (ap (λ z. rows.act p.inner z (suc p.own - own_at_command_of rows p) (one_less z p.fed) t r) (first_more (rows.takes_line p.inner) p.unread l h))
             ∙ done_more p l (result_of rows p t r) h up;
         can_open = λ p can. (both p.on _ can).0;
         typed_open = λ p l. refl;

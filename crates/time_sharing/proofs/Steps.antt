@@ -7,7 +7,7 @@ use Rattle.time_sharing.specs.Machine.{Machine, Laws, CutKind, Quit, Hang, Spent
 use Rattle.time_sharing.specs.Private.{FeedItem, Cut}
 use Rattle.time_sharing.specs.System as system
 use Rattle.time_sharing.specs.System.{SystemState, World, Service, Console, Off, On, Password, Session, Event, Dials, Types, Quits, Hangs, Entry, Taken, Login, Refused, Idle, Swap, at, put, out_of, without, Timed, Cause, Time, Wait, Stop, Size, Preempt, AtEnd, Serve, Clock, Common, EventKind, DialTaken, LineTaken, QuitTaken, HangTaken, SpentTaken, kind_of, service_after, service_entry, clock_entry, common_entry, cause_of, clock_for, consoles_cut, consoles_after}
-use Rattle.time_sharing.specs.Feeds.{Seen, see, seen, given, steps_of, first_text, text_of, ran_of}
+use Rattle.time_sharing.specs.Feeds.{Observed, observe, observed, feed_items, steps_of, first_text, text_of, ran_of}
 use Rattle.time_sharing.proofs.Isolation as one
 use Rattle.time_sharing.proofs.Isolation.{Holds, clocks_in, replies_in}
 use Rattle.time_sharing.proofs.Tables.{at-put_same, at-put_other, length-put, put_was, without_was}
@@ -15,7 +15,7 @@ use Rattle.time_sharing.proofs.Tables.{at-put_same, at-put_other, length-put, pu
 -- u's part of the state, where the events of pending aren't in the entries yet
 pub record Inv {S P F : Type 0} (m : Machine S) (w : World S P F) (first : S) (u : ℕ) (script pending : List Timed) (s : SystemState S P F) : Type 0 where
   pub inside : u ≤ length s.users
-  pub holds : Holds m first u (pending ++ s.events) (system.state_of m w s u) (ran_of u s.service) s.consoles (seen u script s.entries)
+  pub holds : Holds m first u (pending ++ s.events) (system.state_of m w s u) (ran_of u s.service) s.consoles (observed u script s.entries)
 
 in_same : (v u : ℕ) → Session v ≡ Session u → v ≡ u
 in_same v u e = cc
@@ -26,12 +26,12 @@ served_counts false own ran st e = refl
 
 module _ {S P F : Type 0} (m : Machine S) (laws : Laws m) (w : World S P F) (first : S) (u : ℕ) (pos : 0 < u) (script : List Timed) where
   -- entries more
-  noting : (left : List Timed) (p : S) (ran : ℕ) (cs : List Console) (old new : List Entry) → Holds m first u left p ran cs (fold (see u) (seen u script old) new) → Holds m first u left p ran cs (seen u script (old ++ new))
-  noting left p ran cs old new h = subst (Holds m first u left p ran cs) (sym (fold-append (see u) _ old new)) h
+  noting : (left : List Timed) (p : S) (ran : ℕ) (cs : List Console) (old new : List Entry) → Holds m first u left p ran cs (fold (observe u) (observed u script old) new) → Holds m first u left p ran cs (observed u script (old ++ new))
+  noting left p ran cs old new h = subst (Holds m first u left p ran cs) (sym (fold-append (observe u) _ old new)) h
 
   inv_end_service : (pending : List Timed) (s : SystemState S P F) (v : Service) (cause : Cause) → steps_of cause v.ran ≡ v.ran → s.service ≡ Some v → Inv m w first u script pending s → Inv m w first u script pending (system.end_service m w cause v s)
   inv_end_service pending s v cause same is i =
-      let o = seen u script s.entries in
+      let o = observed u script s.entries in
       record {
         inside = i.inside;
         holds = noting _ _ _ _ s.entries _ (one.holds_served m laws first u _ _ (ran_of u s.service) 0 (if nat_eq v.user u then o.own + steps_of cause v.ran else o.own) _ o
@@ -66,10 +66,10 @@ module _ {S P F : Type 0} (m : Machine S) (laws : Laws m) (w : World S P F) (fir
   nobody's : nat_eq 0 u ≡ false
   nobody's = elim (eqb_tells 0 u) [ inl h ↦ absurd (omega (arith, h.1)) | inr h ↦ h.0 ]
 
-  inv_heard : (e : Timed) (s : SystemState S P F) (c : ℕ) (kind : EventKind) (now : Console) (more : List Entry) → (now ≡ Session u → ⊥) → ((o : Seen) → fold (see u) o more ≡ o) →
+  inv_heard : (e : Timed) (s : SystemState S P F) (c : ℕ) (kind : EventKind) (now : Console) (more : List Entry) → (now ≡ Session u → ⊥) → ((o : Observed) → fold (observe u) o more ≡ o) →
       Inv m w first u script (e ∷ []) s → Inv m w first u script [] (system.heard m w c kind now more s)
   inv_heard e s c kind now more out silent i =
-      let o = seen u script s.entries in
+      let o = observed u script s.entries in
       record {
         inside = i.inside;
         holds = noting _ _ _ _ s.entries (Taken s.clock c kind 0 0 ∷ more) (rw (silent, nobody's)
@@ -84,15 +84,15 @@ module _ {S P F : Type 0} (m : Machine S) (laws : Laws m) (w : World S P F) (fir
         | inr h ↦ other h.0 h.1
       ]
     where
-      o : Seen
-      o = seen u script s.entries
+      o : Observed
+      o = observed u script s.entries
 
       own : m.is_open (system.state_of m w s u) ≡ false → Inv m w first u script [] (system.opens m w c u s)
       own down =
           record {
             inside = rw length-put i.inside;
             holds = noting _ _ _ _ s.entries (Taken s.clock c LineTaken 0 0 ∷ Login s.clock c u ∷ []) (rw (at-put_same w.nobody s.users u (m.opened (system.state_of m w s u)) pos i.inside, nobody's, eq-eqb u u refl)
-                (one.holds_open m laws first u _ _ _ s.consoles _ _ down (one.holds_taken m laws first u _ s.events _ _ _ (seen u script s.entries) refl i.holds)));
+                (one.holds_open m laws first u _ _ _ s.consoles _ _ down (one.holds_taken m laws first u _ s.events _ _ _ (observed u script s.entries) refl i.holds)));
           }
 
       other : nat_eq v u ≡ false → v ≢ u → Inv m w first u script [] (system.opens m w c v s)
@@ -101,7 +101,7 @@ module _ {S P F : Type 0} (m : Machine S) (laws : Laws m) (w : World S P F) (fir
             inside = rw length-put i.inside;
             holds = noting _ _ _ _ s.entries (Taken s.clock c LineTaken 0 0 ∷ Login s.clock c v ∷ []) (rw (at-put_other w.nobody s.users v u (m.opened (system.state_of m w s v)) (λ q. ne (sym q)), nobody's, e')
                 (one.holds_consoles m laws first u _ _ _ s.consoles _ _ (λ k q. elim (put_was Off s.consoles c k (Session v) (Session u) q) [ inl is ↦ absurd (ne (in_same v u is)) | inr was ↦ (k, was) ])
-                (one.holds_taken m laws first u _ s.events _ _ _ (seen u script s.entries) refl i.holds)));
+                (one.holds_taken m laws first u _ s.events _ _ _ (observed u script s.entries) refl i.holds)));
           }
 
   -- a line to v's session
@@ -114,7 +114,7 @@ module _ {S P F : Type 0} (m : Machine S) (laws : Laws m) (w : World S P F) (fir
     where
       own : at Off s.consoles c ≡ Session u → Inv m w first u script [] (system.line_at m w c u l s)
       own there =
-          let o = seen u script s.entries in
+          let o = observed u script s.entries in
           let text : first_text o.left ≡ l = ap first_text i.holds.left_is ∙ ap text_of is in
           record {
             inside = rw length-put i.inside;
@@ -128,7 +128,7 @@ module _ {S P F : Type 0} (m : Machine S) (laws : Laws m) (w : World S P F) (fir
             inside = rw length-put i.inside;
             holds = noting _ _ _ _ s.entries (Taken s.clock c LineTaken v (m.own (system.state_of m w s v)) ∷ []) (rw (at-put_other w.nobody s.users v u (m.typed (system.state_of m w s v) l) (λ q. ne (sym q)), e')
                 (one.holds_consoles m laws first u _ _ _ s.consoles _ _ (λ k q. (k, q))
-                (one.holds_taken m laws first u _ s.events _ _ _ (seen u script s.entries) refl i.holds)));
+                (one.holds_taken m laws first u _ s.events _ _ _ (observed u script s.entries) refl i.holds)));
           }
 
   -- consoles after a cut of v's session were in the same session before
@@ -145,7 +145,7 @@ module _ {S P F : Type 0} (m : Machine S) (laws : Laws m) (w : World S P F) (fir
   cut_live Spent c k p cs live e = absurd ((without_was u cs k u e).1 refl)
   cut_live End c k p cs live e = ap m.is_open (laws.at_end p) ∙ live k e
 
-  inv_cut : (e : Timed) (s : SystemState S P F) (kind : CutKind) (c v : ℕ) → ((own : ℕ) (l : Line) → given (kind_of kind) own l ≡ Cut own kind ∷ []) → (v ≡ u → ran_of u s.service ≡ 0) → Inv m w first u script (e ∷ []) s → Inv m w first u script [] (system.cut_at m w kind c v s)
+  inv_cut : (e : Timed) (s : SystemState S P F) (kind : CutKind) (c v : ℕ) → ((own : ℕ) (l : Line) → feed_items (kind_of kind) own l ≡ Cut own kind ∷ []) → (v ≡ u → ran_of u s.service ≡ 0) → Inv m w first u script (e ∷ []) s → Inv m w first u script [] (system.cut_at m w kind c v s)
   inv_cut e s kind c v gives none i =
       elim (eqb_tells v u) [
         | inl h ↦ subst (λ z. Inv m w first u script [] (system.cut_at m w kind c z s)) (sym h.1) (own (none h.1))
@@ -154,7 +154,7 @@ module _ {S P F : Type 0} (m : Machine S) (laws : Laws m) (w : World S P F) (fir
     where
       own : ran_of u s.service ≡ 0 → Inv m w first u script [] (system.cut_at m w kind c u s)
       own none =
-          let o = seen u script s.entries in
+          let o = observed u script s.entries in
           let p = system.state_of m w s u in
           let h = subst (λ ran. Holds m first u (e ∷ s.events) p ran s.consoles o) none i.holds in
           record {
@@ -169,13 +169,13 @@ module _ {S P F : Type 0} (m : Machine S) (laws : Laws m) (w : World S P F) (fir
             inside = rw length-put i.inside;
             holds = noting _ _ _ _ s.entries (Taken s.clock c (kind_of kind) v (m.own (system.state_of m w s v)) ∷ []) (rw (at-put_other w.nobody s.users v u (m.cut kind (system.state_of m w s v)) (λ q. ne (sym q)), e')
                 (one.holds_consoles m laws first u _ _ _ s.consoles _ _ (λ k q. cut_was kind c v k s.consoles q)
-                (one.holds_taken m laws first u _ s.events _ _ _ (seen u script s.entries) refl i.holds)));
+                (one.holds_taken m laws first u _ s.events _ _ _ (observed u script s.entries) refl i.holds)));
           }
 
   -- a dial in v's session
   inv_dialed : (e : Timed) (s : SystemState S P F) (c v own : ℕ) → Inv m w first u script (e ∷ []) s → Inv m w first u script [] (system.noted m w (Taken s.clock c DialTaken v own ∷ []) s)
   inv_dialed e s c v own i =
-      let o = seen u script s.entries in
+      let o = observed u script s.entries in
       record {
         inside = i.inside;
         holds = noting _ _ _ _ s.entries (Taken s.clock c DialTaken v own ∷ []) (rw (same (nat_eq v u) o.items) (one.holds_taken m laws first u _ s.events _ _ _ o refl i.holds));
@@ -186,16 +186,16 @@ module _ {S P F : Type 0} (m : Machine S) (laws : Laws m) (w : World S P F) (fir
       same false xs = refl
 
   -- what the entries of one step of the user add
-  answers_seen : (o : Seen) (b : Bool) (t : ℕ) (c : Option CommonOp) (r : Reply) (es : List Entry) →
-      fold (see u) o (clock_entry b t u ++ (common_entry c u r ++ es)) ≡ fold (see u) (record o { clocks = o.clocks ++ clocks_in b t; replies = o.replies ++ replies_in c r }) es
-  answers_seen o false t None r es = ap (λ z. fold (see u) z es) (λ i. record o { clocks = sym (append-nil o.clocks) i; replies = sym (append-nil o.replies) i })
-  answers_seen o true t None r es = rw (eq-eqb u u refl) (ap (λ z. fold (see u) z es) (λ i. record o { clocks = o.clocks ++ t ∷ []; replies = sym (append-nil o.replies) i }))
-  answers_seen o false t (Some op) r es = rw (eq-eqb u u refl) (ap (λ z. fold (see u) z es) (λ i. record o { clocks = sym (append-nil o.clocks) i; replies = o.replies ++ r ∷ [] }))
+  answers_seen : (o : Observed) (b : Bool) (t : ℕ) (c : Option CommonOp) (r : Reply) (es : List Entry) →
+      fold (observe u) o (clock_entry b t u ++ (common_entry c u r ++ es)) ≡ fold (observe u) (record o { clocks = o.clocks ++ clocks_in b t; replies = o.replies ++ replies_in c r }) es
+  answers_seen o false t None r es = ap (λ z. fold (observe u) z es) (λ i. record o { clocks = sym (append-nil o.clocks) i; replies = sym (append-nil o.replies) i })
+  answers_seen o true t None r es = rw (eq-eqb u u refl) (ap (λ z. fold (observe u) z es) (λ i. record o { clocks = o.clocks ++ t ∷ []; replies = sym (append-nil o.replies) i }))
+  answers_seen o false t (Some op) r es = rw (eq-eqb u u refl) (ap (λ z. fold (observe u) z es) (λ i. record o { clocks = sym (append-nil o.clocks) i; replies = o.replies ++ r ∷ [] }))
   answers_seen o true t (Some op) r es = rw (eq-eqb u u refl) refl
 
   -- what the entries of another's step add
-  nothing_seen : (o : Seen) (x : Service) → nat_eq x.user u ≡ false → (b : Bool) (t : ℕ) (c : Option CommonOp) (r : Reply) (cause : Option Cause) →
-      fold (see u) o (clock_entry b t x.user ++ (common_entry c x.user r ++ service_entry x cause)) ≡ o
+  nothing_seen : (o : Observed) (x : Service) → nat_eq x.user u ≡ false → (b : Bool) (t : ℕ) (c : Option CommonOp) (r : Reply) (cause : Option Cause) →
+      fold (observe u) o (clock_entry b t x.user ++ (common_entry c x.user r ++ service_entry x cause)) ≡ o
   nothing_seen o x e false t None r None = refl
   nothing_seen o x e true t None r None = rw e refl
   nothing_seen o x e false t (Some op) r None = rw e refl
@@ -223,10 +223,10 @@ module _ {S P F : Type 0} (m : Machine S) (laws : Laws m) (w : World S P F) (fir
       t : ℕ
       t = clock_for (m.asks_clock p) s.clock
 
-      o : Seen
-      o = seen u script s.entries
+      o : Observed
+      o = observed u script s.entries
 
-      o2 : Seen
+      o2 : Observed
       o2 = record o { clocks = o.clocks ++ clocks_in (m.asks_clock p) s.clock; replies = o.replies ++ replies_in (m.asks_common p) r }
 
       none : m.asks_common p ≡ None → r ≡ Done
@@ -247,7 +247,7 @@ module _ {S P F : Type 0} (m : Machine S) (laws : Laws m) (w : World S P F) (fir
       open_after ending e ne = laws.step_open p t r can (λ z. ne (sym e ∙ z))
 
       by_ending : (ending : Ending) (left : Bool) → m.ending p t r ≡ ending →
-          Holds m first u s.events (m.step p t r) (ran_of u (service_after (record x { user = u }) (cause_of ending left))) (consoles_after ending u s.consoles) (fold (see u) o2 (service_entry (record x { user = u }) (cause_of ending left)))
+          Holds m first u s.events (m.step p t r) (ran_of u (service_after (record x { user = u }) (cause_of ending left))) (consoles_after ending u s.consoles) (fold (observe u) o2 (service_entry (record x { user = u }) (cause_of ending left)))
       by_ending Went true e = on (open_after Went e (λ z. cc))
       by_ending Went false e = off (suc x.ran) s.consoles refl (λ c z. open_after Went e (λ z. cc))
       by_ending Stopped left e = off (suc x.ran) s.consoles refl (λ c z. open_after Stopped e (λ z. cc))
@@ -261,7 +261,7 @@ module _ {S P F : Type 0} (m : Machine S) (laws : Laws m) (w : World S P F) (fir
       record {
         inside = rw length-put i.inside;
         holds = noting _ _ _ _ s.entries _ (rw (at-put_other w.nobody s.users x.user u (m.step p t r) (λ q. ne (sym q)), nothing_seen, none_ran)
-            (one.holds_consoles m laws first u _ _ _ s.consoles _ _ (λ k. consoles_was (m.ending p t r) k) (subst (λ ran. Holds m first u s.events (system.state_of m w s u) ran s.consoles (seen u script s.entries)) counts i.holds)));
+            (one.holds_consoles m laws first u _ _ _ s.consoles _ _ (λ k. consoles_was (m.ending p t r) k) (subst (λ ran. Holds m first u s.events (system.state_of m w s u) ran s.consoles (observed u script s.entries)) counts i.holds)));
       }
     where
       p : S
@@ -286,7 +286,7 @@ module _ {S P F : Type 0} (m : Machine S) (laws : Laws m) (w : World S P F) (fir
 
   inv_waits : (s : SystemState S P F) (x : Service) (p : S) → ran_of u s.service ≡ ran_of u (Some x) → Inv m w first u script [] s → Inv m w first u script [] (system.waits m w x p s)
   inv_waits s x p counts i =
-      let o = seen u script s.entries in
+      let o = observed u script s.entries in
       record {
         inside = i.inside;
         holds = noting _ _ _ _ s.entries _ (one.holds_served m laws first u _ _ (ran_of u s.service) 0 (if nat_eq x.user u then o.own + steps_of Wait (suc x.ran) else o.own) _ o
@@ -326,7 +326,7 @@ module _ {S P F : Type 0} (m : Machine S) (laws : Laws m) (w : World S P F) (fir
       by_test true = inv_attended s x (ap (ran_of u) is) i
       by_test false = inv_preempt s x is i
 
-  inv_session_cut : (e : Timed) (s : SystemState S P F) (kind : CutKind) (c v : ℕ) → ((own : ℕ) (l : Line) → given (kind_of kind) own l ≡ Cut own kind ∷ []) → Inv m w first u script (e ∷ []) s → Inv m w first u script [] (system.cut_at m w kind c v (system.stop_served m w v s))
+  inv_session_cut : (e : Timed) (s : SystemState S P F) (kind : CutKind) (c v : ℕ) → ((own : ℕ) (l : Line) → feed_items (kind_of kind) own l ≡ Cut own kind ∷ []) → Inv m w first u script (e ∷ []) s → Inv m w first u script [] (system.cut_at m w kind c v (system.stop_served m w v s))
   inv_session_cut e s kind c v gives i =
       inv_cut e (system.stop_served m w v s) kind c v gives
       (λ same. subst (λ z. ran_of u (system.stop_served_of m w s.service z s).service ≡ 0) (sym same) (none_served s s.service refl))
@@ -369,7 +369,7 @@ module _ {S P F : Type 0} (m : Machine S) (laws : Laws m) (w : World S P F) (fir
 
   inv_taken : (e : Timed) (rest : List Timed) (s : SystemState S P F) → s.events ≡ e ∷ rest → Inv m w first u script [] s → Inv m w first u script [] (system.taken m w e rest s)
   inv_taken e rest s is i =
-      let popped : Inv m w first u script (e ∷ []) (record s { events = rest }) = record { inside = i.inside; holds = subst (λ (z : List Timed). Holds m first u z (system.state_of m w s u) (ran_of u s.service) s.consoles (seen u script s.entries)) is i.holds } in
+      let popped : Inv m w first u script (e ∷ []) (record s { events = rest }) = record { inside = i.inside; holds = subst (λ (z : List Timed). Holds m first u z (system.state_of m w s u) (ran_of u s.service) s.consoles (observed u script s.entries)) is i.holds } in
       inv_at_console e (system.end_idling_of m w s.idling (record s { events = rest })) e.console _ e.event refl refl (inv_end_idling (e ∷ []) (record s { events = rest }) s.idling popped)
 
   inv_next_by : (limit : ℕ) (events : List Timed) (s : SystemState S P F) → s.events ≡ events → Inv m w first u script [] s → Inv m w first u script [] (system.next_by m w limit events s)

@@ -4,9 +4,9 @@ use Rattle.time_sharing.specs.Machine.{Machine, Laws, End}
 use Rattle.time_sharing.specs.Private.{Cut}
 use Rattle.time_sharing.specs.Reach.{Goes}
 use Rattle.time_sharing.specs.System.{SystemState, World, Timed, Service, Off, Session, at, state_of, next, ended, end_open, end_idling_of}
-use Rattle.time_sharing.specs.Feeds.{seen, feed_of, ran_of}
+use Rattle.time_sharing.specs.Feeds.{observed, feed_of, ran_of}
 use Rattle.time_sharing.specs.Repeat.{repeat}
-use Rattle.time_sharing.specs.Record.{before, iterate, start, IsAlone}
+use Rattle.time_sharing.specs.Record.{clock_is_below, iterate, start, IsAlone}
 use Rattle.time_sharing.proofs.Runs as runs
 use Rattle.time_sharing.proofs.Isolation.{run_here, settled, starts}
 use Rattle.time_sharing.proofs.Steps.{Inv, inv_next, inv_ended}
@@ -41,15 +41,15 @@ module _ {S P F : Type 0} (m : Machine S) (laws : Laws m) (w : World S P F) (u :
 
   inv_iterate : (first : S) (events : List Timed) (limit n : ℕ) (s : SystemState S P F) → Inv m w first u events [] s → Inv m w first u events [] (iterate m w limit n s)
   inv_iterate first events limit zero s i = i
-  inv_iterate first events limit (suc n) s i = elim (nat_lt s.clock limit) as (λ b. Inv m w first u events [] (elim b [ true ↦ repeat (before m w limit) (next m w limit) n (next m w limit s) | false ↦ s ]))
+  inv_iterate first events limit (suc n) s i = elim (nat_lt s.clock limit) as (λ b. Inv m w first u events [] (elim b [ true ↦ repeat (clock_is_below m w limit) (next m w limit) n (next m w limit s) | false ↦ s ]))
       [ true ↦ inv_iterate first events limit n (next m w limit s) (inv_next m laws w first u pos events limit s i) | false ↦ i ]
 
   -- at each moment: the feed so far, cut after the user's own steps
   pub goes_here : (first : S) (events : List Timed) (s : SystemState S P F) → Inv m w first u events [] s →
-      let o = seen u events s.entries in
+      let o = observed u events s.entries in
       Goes m (o.items ++ Cut (m.own (state_of m w s u)) End ∷ []) (starts m first o) (settled m (state_of m w s u))
   goes_here first events s i =
-      let o = seen u events s.entries in
+      let o = observed u events s.entries in
       let p = state_of m w s u in
       runs.goes_on m laws o.items (Cut (m.own p) End ∷ []) (starts m first o) i.holds.mid _ i.holds.goes
       (settled m p, run_here m laws first u _ p _ s.consoles o i.holds, refl, ap (settled m) (laws.at_end p))
@@ -57,7 +57,7 @@ module _ {S P F : Type 0} (m : Machine S) (laws : Laws m) (w : World S P F) (u :
   -- where no service is open: the whole feed
   pub alone_here : (first : S) (events : List Timed) (s : SystemState S P F) → s.service ≡ None → Inv m w first u events [] s → IsAlone m first (feed_of u events s.entries) (state_of m w s u)
   alone_here first events s none i =
-      let o = seen u events s.entries in
+      let o = observed u events s.entries in
       let p = state_of m w s u in
       let k : m.own p ≡ o.own = omega (arith, i.holds.own, ap (ran_of u) none) in
       runs.goes_alone m laws (o.items ++ Cut o.own End ∷ []) (starts m first o) (settled m p)
@@ -85,7 +85,7 @@ module _ {S P F : Type 0} (m : Machine S) (laws : Laws m) (w : World S P F) (u :
   -- each moment of a run
   pub moment : (firsts : List S) (files : F) (plan : P) (consoles limit n : ℕ) (events : List Timed) → u ≤ length firsts → m.own (at w.nobody firsts u) ≡ 0 →
       let s = iterate m w limit n (start m w firsts files plan consoles events) in
-      let o = seen u events s.entries in
+      let o = observed u events s.entries in
       let p = state_of m w s u in
       Goes m (o.items ++ Cut (m.own p) End ∷ []) (starts m (at w.nobody firsts u) o) (settled m p) × (m.own p ≡ o.own + ran_of u s.service)
   moment firsts files plan consoles limit n events inside own =

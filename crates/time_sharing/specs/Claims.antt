@@ -5,10 +5,10 @@ use Rattle.time_sharing.specs.Rows.{Rows, Private, machine}
 use Rattle.time_sharing.specs.System.{SystemState, World, Timed, state_of, next, ended, at}
 use Rattle.time_sharing.specs.Private.{Cut}
 use Rattle.time_sharing.specs.Reach.{Goes}
-use Rattle.time_sharing.specs.Feeds.{feed_of, seen, ran_of}
+use Rattle.time_sharing.specs.Feeds.{feed_of, observed, ran_of}
 use Rattle.time_sharing.specs.Commons.{operations_of, replies_of, common_run, files_left}
 use Rattle.time_sharing.specs.Texts.{Watched, watched_to}
-use Rattle.time_sharing.specs.Record.{start, iterate, run_to, measure, Ends, IsAlone, given, AreLate}
+use Rattle.time_sharing.specs.Record.{start, iterate, run_to, measure, Ends, IsAlone, with_events, AreLate}
 
 -- after any number of steps and the end of the record, a user's state is that of the user's machine alone
 abbrev pub AllIsolated : (S P F : Type 0) → Type 0
@@ -63,14 +63,14 @@ EachMomentIsAlone S P F =
     (m : Machine S) → Laws m → (w : World S P F) (u : ℕ) → 0 < u → (firsts : List S) (files : F) (plan : P) (consoles limit n : ℕ) (events : List Timed) →
     u ≤ length firsts → m.own (at w.nobody firsts u) ≡ 0 →
     let s = iterate m w limit n (start m w firsts files plan consoles events) in
-    let o = seen u events s.entries in
+    let o = observed u events s.entries in
     let p = state_of m w s u in
     Goes m (o.items ++ Cut (m.own p) End ∷ []) (record { state = at w.nobody firsts u; clocks = o.clocks; replies = o.replies }) (record { state = p; clocks = []; replies = [] })
     × (m.own p ≡ o.own + ran_of u s.service)
 
 -- a run, then events at its limit or later, then a longer run: as if the events had been there from the first
 abbrev pub LateEventsWait : (S P F : Type 0) → Type 0
-LateEventsWait S P F = (m : Machine S) (w : World S P F) → Ends w → (es : List Timed) (j k : ℕ) (s : SystemState S P F) → j ≤ k → AreLate j es → run_to m w k (given es (run_to m w j s)) ≡ run_to m w k (given es s)
+LateEventsWait S P F = (m : Machine S) (w : World S P F) → Ends w → (es : List Timed) (j k : ℕ) (s : SystemState S P F) → j ≤ k → AreLate j es → run_to m w k (with_events es (run_to m w j s)) ≡ run_to m w k (with_events es s)
 
 -- to watch the consoles changes nothing
 abbrev pub WatchingIsStill : (S P F : Type 0) → Type 0

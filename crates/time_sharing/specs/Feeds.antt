@@ -5,7 +5,7 @@ use Rattle.time_sharing.specs.Private.{FeedItem, Open, Typed, Cut, Feed}
 use Rattle.time_sharing.specs.System.{Cause, Time, Wait, Stop, Size, Preempt, AtEnd, Entry, Taken, Login, Refused, Idle, Swap, Serve, Clock, Common, EventKind, DialTaken, LineTaken, QuitTaken, HangTaken, SpentTaken, Event, Dials, Types, Quits, Hangs, Timed, Service}
 
 -- what the entries so far say of a user: the events that none of them took, the own steps, and the feed
-pub record Seen : Type 0 where
+pub record Observed : Type 0 where
   pub left : List Timed
   pub own : ℕ
   pub items : List FeedItem
@@ -28,12 +28,12 @@ first_text [] = []
 first_text (e ∷ es) = text_of e.event
 
 -- what a Taken entry of the user gives
-abbrev pub given : EventKind → ℕ → Line → List FeedItem
-given DialTaken own l = []
-given LineTaken own l = Typed l ∷ []
-given QuitTaken own l = Cut own Quit ∷ []
-given HangTaken own l = Cut own Hang ∷ []
-given SpentTaken own l = Cut own Spent ∷ []
+abbrev pub feed_items : EventKind → ℕ → Line → List FeedItem
+feed_items DialTaken own l = []
+feed_items LineTaken own l = Typed l ∷ []
+feed_items QuitTaken own l = Cut own Quit ∷ []
+feed_items HangTaken own l = Cut own Hang ∷ []
+feed_items SpentTaken own l = Cut own Spent ∷ []
 
 -- the own steps of a service
 abbrev pub steps_of : Cause → ℕ → ℕ
@@ -48,21 +48,21 @@ steps_of AtEnd ran = ran
 abbrev pub mine : {A : Type 0} → ℕ → ℕ → List A → List A → List A
 mine u v xs more = if nat_eq v u then xs ++ more else xs
 
-abbrev pub see : ℕ → Seen → Entry → Seen
-see u o (Taken tick console kind v own) = record o { left = rest_of o.left; items = mine u v o.items (given kind own (first_text o.left)) }
-see u o (Login tick console v) = record o { items = mine u v o.items (Open o.own ∷ []) }
-see u o (Refused tick console cause) = o
-see u o (Idle from until) = o
-see u o (Swap tick v dumped read fresh) = o
-see u o (Serve tick v level ran cause) = record o { own = if nat_eq v u then o.own + steps_of cause ran else o.own }
-see u o (Clock answer v) = record o { clocks = mine u v o.clocks (answer ∷ []) }
-see u o (Common v op reply) = record o { replies = mine u v o.replies (reply ∷ []) }
+abbrev pub observe : ℕ → Observed → Entry → Observed
+observe u o (Taken tick console kind v own) = record o { left = rest_of o.left; items = mine u v o.items (feed_items kind own (first_text o.left)) }
+observe u o (Login tick console v) = record o { items = mine u v o.items (Open o.own ∷ []) }
+observe u o (Refused tick console cause) = o
+observe u o (Idle from until) = o
+observe u o (Swap tick v dumped read fresh) = o
+observe u o (Serve tick v level ran cause) = record o { own = if nat_eq v u then o.own + steps_of cause ran else o.own }
+observe u o (Clock answer v) = record o { clocks = mine u v o.clocks (answer ∷ []) }
+observe u o (Common v op reply) = record o { replies = mine u v o.replies (reply ∷ []) }
 
-abbrev pub seen : ℕ → List Timed → List Entry → Seen
-seen u events entries = fold (see u) (record { left = events; own = 0; items = []; clocks = []; replies = [] }) entries
+abbrev pub observed : ℕ → List Timed → List Entry → Observed
+observed u events entries = fold (observe u) (record { left = events; own = 0; items = []; clocks = []; replies = [] }) entries
 
 abbrev pub feed_of : ℕ → List Timed → List Entry → Feed
-feed_of u events entries = let o = seen u events entries in record { items = o.items ++ Cut o.own End ∷ []; clocks = o.clocks; replies = o.replies }
+feed_of u events entries = let o = observed u events entries in record { items = o.items ++ Cut o.own End ∷ []; clocks = o.clocks; replies = o.replies }
 
 -- the ticks of u's open service
 abbrev pub ran_of : ℕ → Option Service → ℕ

@@ -26,12 +26,12 @@ module _ {S P F : Type 0} (m : Machine S) (w : World S P F) where
   abbrev pub measure : ℕ → SystemState S P F → ℕ
   measure limit s = (limit - s.clock) * (4 * length s.events + 4) + at_once s
 
-  abbrev pub before : ℕ → SystemState S P F → Bool
-  before limit s = nat_lt s.clock limit
+  abbrev pub clock_is_below : ℕ → SystemState S P F → Bool
+  clock_is_below limit s = nat_lt s.clock limit
 
   -- at most n steps
   abbrev pub iterate : ℕ → ℕ → SystemState S P F → SystemState S P F
-  iterate limit n s = repeat (before limit) (next m w limit) n s
+  iterate limit n s = repeat (clock_is_below limit) (next m w limit) n s
 
   -- Next, repeated while the clock is below the limit
   abbrev pub run_to : ℕ → SystemState S P F → SystemState S P F
@@ -54,8 +54,8 @@ pub record Ends {State Plan Files : Type 0} (w : World State Plan Files) : Type 
   pub same_choice : (plan : Plan) (u : ℕ) (p : State) (now : ℕ) → w.choose (w.load plan u p now) ≡ w.choose plan
 
 -- more events behind those that are left
-abbrev pub given : {S P F : Type 0} → List Timed → SystemState S P F → SystemState S P F
-given es s = record s { events = s.events ++ es }
+abbrev pub with_events : {S P F : Type 0} → List Timed → SystemState S P F → SystemState S P F
+with_events es s = record s { events = s.events ++ es }
 
 -- no event is due before the limit
 abbrev pub AreLate : ℕ → List Timed → Type 0

@@ -32,10 +32,10 @@ pub record Private (Inner : Type 0) : Type 0 where
   -- how many lines were typed in the session
   pub lines : ℕ
   -- how many of the unread lines are a command file's
-  pub given : ℕ
+  pub fed : ℕ
   pub transcript : List Item
   pub own : ℕ
-  pub before : ℕ
+  pub own_at_command : ℕ
 
 abbrev pub out_all : List Line → List Item
 out_all [] = []
@@ -75,11 +75,11 @@ module _ {A : Type 0} (rows : Rows A) where
   line_of p = first_line (rows.takes_line p.inner) p.unread
 
   -- the own steps before the last command, at this step
-  abbrev pub before_of : Private A → ℕ
-  before_of p = if rows.is_command p.inner then p.own else p.before
+  abbrev pub own_at_command_of : Private A → ℕ
+  own_at_command_of p = if rows.is_command p.inner then p.own else p.own_at_command
 
   abbrev pub result_of : Private A → ℕ → Reply → Outcome A
-  result_of p t r = rows.act p.inner (line_of p) (suc p.own - before_of p) (one_less (line_of p) p.given) t r
+  result_of p t r = rows.act p.inner (line_of p) (suc p.own - own_at_command_of p) (one_less (line_of p) p.fed) t r
 
   abbrev pub done : Private A → Outcome A → Private A
   done p o =
@@ -88,23 +88,23 @@ module _ {A : Type 0} (rows : Rows A) where
         on = not (is_logout o.ending);
         lines = p.lines;
         unread = if is_logout o.ending then [] else o.front ++ behind (line_of p) p.unread;
-        given = if is_logout o.ending then 0 else length o.front + one_less (line_of p) p.given;
+        fed = if is_logout o.ending then 0 else length o.front + one_less (line_of p) p.fed;
         transcript = p.transcript ++ (in_line (line_of p) ++ out_all o.written);
         own = suc p.own;
-        before = before_of p;
+        own_at_command = own_at_command_of p;
       }
 
   abbrev pub cut_all : CutKind → Private A → Private A
-  cut_all Quit p = record p { inner = rows.cut Quit p.inner; unread = []; given = 0; transcript = p.transcript ++ Quitted ∷ out_all (rows.cut_text Quit p.inner (p.own - p.before)) }
-  cut_all Hang p = record p { inner = rows.cut Hang p.inner; on = false; unread = []; given = 0; transcript = p.transcript ++ Hung ∷ [] }
-  cut_all Spent p = record p { inner = rows.cut Spent p.inner; on = false; unread = []; given = 0; transcript = p.transcript ++ Hung ∷ [] }
+  cut_all Quit p = record p { inner = rows.cut Quit p.inner; unread = []; fed = 0; transcript = p.transcript ++ Quitted ∷ out_all (rows.cut_text Quit p.inner (p.own - p.own_at_command)) }
+  cut_all Hang p = record p { inner = rows.cut Hang p.inner; on = false; unread = []; fed = 0; transcript = p.transcript ++ Hung ∷ [] }
+  cut_all Spent p = record p { inner = rows.cut Spent p.inner; on = false; unread = []; fed = 0; transcript = p.transcript ++ Hung ∷ [] }
   cut_all End p = p
 
   abbrev pub machine : Machine (Private A)
   machine =
       record {
         typed = λ p l. record p { unread = p.unread ++ l ∷ []; lines = suc p.lines };
-        opened = λ p. record p { inner = rows.opened p.inner; on = true; unread = []; lines = 0; given = 0; transcript = p.transcript ++ out_all (rows.opened_text p.inner) };
+        opened = λ p. record p { inner = rows.opened p.inner; on = true; unread = []; lines = 0; fed = 0; transcript = p.transcript ++ out_all (rows.opened_text p.inner) };
         cut = cut_all;
         is_open = λ p. p.on;
         can_step = λ p. p.on && (not (rows.takes_line p.inner) || some_line p.unread);

@@ -4,7 +4,7 @@ use Rattle.std.specs.List.{flat_map}
 use Rattle.time_sharing.specs.Machine.{Machine, Line, Item, In, Out, Quitted, Hung}
 use Rattle.time_sharing.specs.System.{SystemState, World, Console, Off, On, Password, Session, Entry, Taken, Login, Refused, Idle, Swap, Serve, Clock, Common, Timed, at, state_of, next}
 use Rattle.time_sharing.specs.Repeat.{repeat}
-use Rattle.time_sharing.specs.Record.{before, measure, start}
+use Rattle.time_sharing.specs.Record.{clock_is_below, measure, start}
 
 -- the lines that items write
 abbrev pub written : List Item → List Line
@@ -78,7 +78,7 @@ module _ {S P F : Type 0} (m : Machine S) (w : World S P F) where
 
   -- Next, repeated while the clock is below the limit
   abbrev pub watched_to : ℕ → Watched S P F → Watched S P F
-  watched_to limit x = repeat (λ (y : Watched S P F). before m w limit y.system) (next_watched limit) (measure m w limit x.system) x
+  watched_to limit x = repeat (λ (y : Watched S P F). clock_is_below m w limit y.system) (next_watched limit) (measure m w limit x.system) x
 
   -- no console has shown anything
   abbrev pub unwatched : SystemState S P F → Watched S P F

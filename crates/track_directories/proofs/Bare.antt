@@ -28,7 +28,7 @@ quotas_sum (d ∷ ds) = ap (λ (n : ℕ). d.quota + n) (quotas_sum ds) ∙ sym (
 seen_none : (o : Option (List (List ℕ))) → seen o [] ≡ []
 unfolding seen
 seen_none None = refl
-seen_none (Some rows) = refl
+seen_none (Some contents) = refl
 
 none_at : (o : Option (List (List ℕ))) (ds : List TrackTable) → All IsBare ds → (u : ℕ) → files_at o ds u ≡ []
 none_at o [] h u = refl
@@ -36,19 +36,19 @@ none_at o (d ∷ ds) h zero = ap (seen o) (All-head IsBare d ds h).0 ∙ seen_no
 none_at o (d ∷ ds) h (suc u) = none_at o ds (All-tail IsBare d ds h) u
 
 module _ (s : Tracked) (ds : List TrackTable) (empty : AreEmpty s.taken ds) where
-  pub sound_first : Serves s.rows s.count s.each (length s.taken) → IsSound s ds
+  pub sound_first : Serves s.contents s.count s.each (length s.taken) → IsSound s ds
   sound_first serves = record {
-    all = subst (λ (taken : List Bool). AreDirectories s.rows taken ds) (sym empty.free) (are_first s.rows (length s.taken) ds (bare_all ds empty.bare) empty.fits);
+    all = subst (λ (taken : List Bool). AreDirectories s.contents taken ds) (sym empty.free) (are_first s.contents (length s.taken) ds (bare_all ds empty.bare) empty.fits);
     serves = serves;
     small = empty.small;
     some = empty.some;
   }
 
-  pub none_yet : HaveNone (map (λ (t : TrackTable). t.quota) ds) (tells_of s.rows) s.faults (state_of s ds)
+  pub none_yet : HaveNone (map (λ (t : TrackTable). t.quota) ds) (tells_of s.contents) s.faults (state_of s ds)
   none_yet = record {
-    own = none_at s.rows ds empty.bare;
+    own = none_at s.contents ds empty.bare;
     may = λ u. refl;
-    common = none_at s.rows ds empty.bare 0;
+    common = none_at s.contents ds empty.bare 0;
     common_may = refl;
     count = ap (λ (n : ℕ). n - 1) (sym (length-map ds (λ (t : TrackTable). t.quota)));
     tells = refl;

@@ -12,29 +12,29 @@ use Rattle.file_tracks.proofs.Known.{with_both}
 use Rattle.track_directories.specs.Tables.{Tracked}
 use Rattle.track_directories.specs.Calls.{files_in, IsReady, LeavesOne}
 
-module _ (old new : Tracked) (d d' : TrackTable) (ready : IsReady old d) (rows : new.rows ≡ old.rows) where
-  pub one_dropped : new.count ≡ old.count → new.each ≡ old.each → new.faults ≡ old.faults → IsDirectory new.rows new.taken d'.quota d'.used d'.files.items → d'.quota ≡ d.quota
+module _ (old new : Tracked) (d d' : TrackTable) (ready : IsReady old d) (contents : new.contents ≡ old.contents) where
+  pub one_dropped : new.count ≡ old.count → new.each ≡ old.each → new.faults ≡ old.faults → IsDirectory new.contents new.taken d'.quota d'.used d'.files.items → d'.quota ≡ d.quota
       → length new.taken ≡ length old.taken → count_taken new.taken + d.used ≡ count_taken old.taken + d'.used
       → ((others : ℕ → ℕ) → StandBeside others old.taken d.files.items → StandBeside others new.taken d'.files.items)
       → LeavesOne {T = Unit {0}} (Ok tt) old new d d'
-  one_dropped count each faults works quota many counts others = record {
+  one_dropped count each faults usable quota many counts others = record {
     quota = quota;
     ready = λ x. record {
-      directory = works;
-      serves = serves_still _ _ _ _ _ _ _ _ ready.serves rows count each many;
+      directory = usable;
+      serves = serves_still _ _ _ _ _ _ _ _ ready.serves contents count each many;
       small = subst (λ (q : ℕ). q < 65536) (sym quota) ready.small;
       well = refl;
     };
-    after = λ x. after_taking old.rows new.rows old.taken new.taken d d' rows many counts others;
+    after = λ x. after_taking old.contents new.contents old.taken new.taken d d' contents many counts others;
     left = λ x. absurd (let e = x in cc);
     faults = le_of_eq (sym faults);
     cause = λ x. absurd (let e = x in cc);
   }
 
-  pub left_seen : IsDirectory new.rows new.taken d'.quota d'.used d'.files.items → length new.taken ≡ length old.taken
+  pub left_seen : IsDirectory new.contents new.taken d'.quota d'.used d'.files.items → length new.taken ≡ length old.taken
       → ((r : List (List ℕ)) → files_on r d'.files.items ≡ lasting (files_on r d.files.items)) → files_in new d' ≡ lasting (files_in old d)
-  left_seen works many left =
-      let same : IsDirectory old.rows new.taken d'.quota d'.used d'.files.items = subst (λ (o : Option (List (List ℕ))). IsDirectory o new.taken d'.quota d'.used d'.files.items) rows works in
+  left_seen usable many left =
+      let same : IsDirectory old.contents new.taken d'.quota d'.used d'.files.items = subst (λ (o : Option (List (List ℕ))). IsDirectory o new.taken d'.quota d'.used d'.files.items) contents usable in
       let P : List FileBody → List FileBody → Type 0 = λ (xs ys : List FileBody). ys ≡ lasting xs in
-      ap (λ (o : Option (List (List ℕ))). seen o d'.files.items) rows
-      ∙ with_both P old.rows old.taken new.taken d.quota d.used d'.quota d'.used d.files.items d'.files.items ready.directory same many left
+      ap (λ (o : Option (List (List ℕ))). seen o d'.files.items) contents
+      ∙ with_both P old.contents old.taken new.taken d.quota d.used d'.quota d'.used d.files.items d'.files.items ready.directory same many left

@@ -42,43 +42,43 @@ count_each t (d ∷ ds) common =
     let k = count_each t ds common in
     omega (arith, a, b, k)
 
-module _ (rows : List (List ℕ)) where
+module _ (contents : List (List ℕ)) where
   -- the words of a file are as many as it says
-  one_lies : (f : Filed) → HasTracks f → IsWhole rows f → LiesOn rows (body_on rows f) f.tracks.items
+  one_lies : (f : Filed) → HasTracks f → IsWhole contents f → LiesOn contents (body_on contents f) f.tracks.items
   one_lies f has whole =
-      let l = content-length rows f has whole in
+      let l = content-length contents f has whole in
       record {
         many = has ∙ ap tracks_of_words (sym l);
-        words = ap (λ (n : ℕ). take n (joined rows f.tracks.items)) (sym l);
+        words = ap (λ (n : ℕ). take n (joined contents f.tracks.items)) (sym l);
       }
 
-  each_one : (fs : List Filed) → All HasTracks fs → All (IsWhole rows) fs → EachLiesOn rows (files_on rows fs) (tracks_in fs)
+  each_one : (fs : List Filed) → All HasTracks fs → All (IsWhole contents) fs → EachLiesOn contents (files_on contents fs) (tracks_in fs)
   each_one [] has whole = tt
   each_one (f ∷ fs) has whole = (
-    one_lies f (All-head HasTracks f fs has) (All-head (IsWhole rows) f fs whole),
-    each_one fs (All-tail HasTracks f fs has) (All-tail (IsWhole rows) f fs whole),
+    one_lies f (All-head HasTracks f fs has) (All-head (IsWhole contents) f fs whole),
+    each_one fs (All-tail HasTracks f fs has) (All-tail (IsWhole contents) f fs whole),
   )
 
-  each_both : (fs gs : List FileBody) (xs ys : List (List ℕ)) → EachLiesOn rows fs xs → EachLiesOn rows gs ys → EachLiesOn rows (fs ++ gs) (xs ++ ys)
+  each_both : (fs gs : List FileBody) (xs ys : List (List ℕ)) → EachLiesOn contents fs xs → EachLiesOn contents gs ys → EachLiesOn contents (fs ++ gs) (xs ++ ys)
   each_both [] gs [] ys h k = k
   each_both [] gs (x ∷ xs) ys h k = absurd h
   each_both (f ∷ fs) gs [] ys h k = absurd h
   each_both (f ∷ fs) gs (x ∷ xs) ys h k = (h.0, each_both fs gs xs ys h.1 k)
 
   abbrev pub files_in : TrackTable → List FileBody
-  files_in d = files_on rows d.files.items
+  files_in d = files_on contents d.files.items
 
-  one_table : (d : TrackTable) → IsOne (Some rows) d → EachLiesOn rows (files_in d) (tracks_in d.files.items)
+  one_table : (d : TrackTable) → IsOne (Some contents) d → EachLiesOn contents (files_in d) (tracks_in d.files.items)
   one_table d h = each_one d.files.items h.tracked h.whole
 
-  each_lies : (ds : List TrackTable) (common : TrackTable) → ((j : ℕ) (e : TrackTable) → j < length ds → IsOne (Some rows) (get_or ds j e)) → IsOne (Some rows) common
-      → EachLiesOn rows (all_files (map files_in ds) (files_in common)) (all_tracks ds common.files.items)
+  each_lies : (ds : List TrackTable) (common : TrackTable) → ((j : ℕ) (e : TrackTable) → j < length ds → IsOne (Some contents) (get_or ds j e)) → IsOne (Some contents) common
+      → EachLiesOn contents (all_files (map files_in ds) (files_in common)) (all_tracks ds common.files.items)
   each_lies [] common h k = one_table common k
   each_lies (d ∷ ds) common h k =
       each_both (files_in d) (all_files (map files_in ds) (files_in common)) (tracks_in d.files.items) (all_tracks ds common.files.items)
       (one_table d (h 0 d (omega arith))) (each_lies ds common (λ j e low. h (suc j) e (omega (arith, low))) k)
 
-  pub they_lie : (taken : List Bool) (common : TrackTable) (own : List TrackTable) → AreDirectories (Some rows) taken (common ∷ own) → LieOn rows (map files_in own) (files_in common)
+  pub they_lie : (taken : List Bool) (common : TrackTable) (own : List TrackTable) → AreDirectories (Some contents) taken (common ∷ own) → LieOn contents (map files_in own) (files_in common)
   they_lie taken common own all = record {
     tracks = all_tracks own common.files.items;
     each = each_lies own common (λ j e low. all.each (suc j) e (omega (arith, low))) (all.each 0 common (omega arith));
@@ -87,23 +87,23 @@ module _ (rows : List (List ℕ)) where
 
 -- what was read lies so, where the disk tells
 pub lists_lie : (o : Option (List (List ℕ))) (taken : List Bool) (common : TrackTable) (own : List TrackTable) → AreDirectories o taken (common ∷ own)
-    → (xs : List (List FileBody)) (y : List FileBody) → WhereTold o (λ rows. xs ≡ map (files_in rows) own) → WhereTold o (λ rows. y ≡ files_in rows common)
-    → WhereTold o (λ rows. LieOn rows xs y)
+    → (xs : List (List FileBody)) (y : List FileBody) → WhereTold o (λ contents. xs ≡ map (files_in contents) own) → WhereTold o (λ contents. y ≡ files_in contents common)
+    → WhereTold o (λ contents. LieOn contents xs y)
 lists_lie None taken common own all xs y h k = tt
-lists_lie (Some rows) taken common own all xs y h k =
-    subst (λ (zs : List (List FileBody)). LieOn rows zs y) (sym h) (subst (λ (z : List FileBody). LieOn rows (map (files_in rows) own) z) (sym k) (they_lie rows taken common own all))
+lists_lie (Some contents) taken common own all xs y h k =
+    subst (λ (zs : List (List FileBody)). LieOn contents zs y) (sym h) (subst (λ (z : List FileBody). LieOn contents (map (files_in contents) own) z) (sym k) (they_lie contents taken common own all))
 
 -- and is what is seen
-pub lists_seen : (o : Option (List (List ℕ))) (own : List TrackTable) (xs : List (List FileBody)) → tells_of o ≡ true → WhereTold o (λ rows. xs ≡ map (files_in rows) own)
+pub lists_seen : (o : Option (List (List ℕ))) (own : List TrackTable) (xs : List (List FileBody)) → tells_of o ≡ true → WhereTold o (λ contents. xs ≡ map (files_in contents) own)
     → xs ≡ map (λ (t : TrackTable). seen o t.files.items) own
 unfolding tells_of seen
 lists_seen None own xs told h = absurd (true≢false (sym told))
-lists_seen (Some rows) own xs told h = h
+lists_seen (Some contents) own xs told h = h
 
-pub list_seen : (o : Option (List (List ℕ))) (d : TrackTable) (y : List FileBody) → tells_of o ≡ true → WhereTold o (λ rows. y ≡ files_in rows d) → y ≡ seen o d.files.items
+pub list_seen : (o : Option (List (List ℕ))) (d : TrackTable) (y : List FileBody) → tells_of o ≡ true → WhereTold o (λ contents. y ≡ files_in contents d) → y ≡ seen o d.files.items
 unfolding tells_of seen
 list_seen None d y told h = absurd (true≢false (sym told))
-list_seen (Some rows) d y told h = h
+list_seen (Some contents) d y told h = h
 
 -- the first table, and the others
 pub tables_split : (xs : List TrackTable) (d : TrackTable) → 1 ≤ length xs → d ≡ get_or xs 0 d → xs ≡ d ∷ take (length xs - 1) (drop 1 xs)

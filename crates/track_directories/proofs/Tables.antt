@@ -62,8 +62,8 @@ pub user_within : (s : Tracked) (tables : List TrackTable) → IsSound s tables 
 user_within s tables sound u v same low = let some = sound.some in omega (arith, some, same, low)
 
 -- each table is that of a directory
-pub all_ready : (s : Tracked) (tables : List TrackTable) → IsSound s tables → All (λ (t : TrackTable). IsDirectory s.rows s.taken t.quota t.used t.files.items) tables
-all_ready s tables sound k d low = directory_of s.rows s.taken tables sound.all k d low
+pub all_ready : (s : Tracked) (tables : List TrackTable) → IsSound s tables → All (λ (t : TrackTable). IsDirectory s.contents s.taken t.quota t.used t.files.items) tables
+all_ready s tables sound k d low = directory_of s.contents s.taken tables sound.all k d low
 
 pub if_ok_map : {A E : Type 0} {P Q : A → Type 0} (r : Result A E) → ((x : A) → P x → Q x) → IfOk r P → IfOk r Q
 if_ok_map (Ok x) f h = f x h
@@ -72,7 +72,7 @@ if_ok_map (Err e) f h = tt
 module _ (old : Tracked) (tables : List TrackTable) (sound : IsSound old tables) (u : ℕ) (low : u < length tables) (d : TrackTable) (is : d ≡ get_or tables u d) where
   pub ready_at : IsReady old d
   ready_at = subst (IsReady old) (sym is) (record {
-    directory = directory_of old.rows old.taken tables sound.all u d low;
+    directory = directory_of old.contents old.taken tables sound.all u d low;
     serves = sound.serves;
     small = All-get_or (λ (t : TrackTable). t.quota < 65536) tables u d low sound.small;
     well = refl;
@@ -81,38 +81,38 @@ module _ (old : Tracked) (tables : List TrackTable) (sound : IsSound old tables)
   pub quota_was : quota_at tables u ≡ d.quota
   quota_was = at_map (λ (t : TrackTable). t.quota) tables u d 0 low ∙ ap (λ (t : TrackTable). t.quota) (sym is)
 
-  pub mine_was : files_at old.rows tables u ≡ files_in old d
-  mine_was = at_map (λ (t : TrackTable). seen old.rows t.files.items) tables u d [] low ∙ ap (files_in old) (sym is)
+  pub mine_was : files_at old.contents tables u ≡ files_in old d
+  mine_was = at_map (λ (t : TrackTable). seen old.contents t.files.items) tables u d [] low ∙ ap (files_in old) (sym is)
 
   module _ (new : Tracked) (d' : TrackTable) where
-    pub mine_now : files_at new.rows (slice_set tables u d') u ≡ files_in new d'
+    pub mine_now : files_at new.contents (slice_set tables u d') u ≡ files_in new d'
     mine_now =
         let l = length-set tables u d' in
-        at_map (λ (t : TrackTable). seen new.rows t.files.items) (set tables u d') u d [] (omega (arith, l, low))
-        ∙ ap (λ (t : TrackTable). seen new.rows t.files.items) (get_or-set_same tables u d' d low)
+        at_map (λ (t : TrackTable). seen new.contents t.files.items) (set tables u d') u d [] (omega (arith, l, low))
+        ∙ ap (λ (t : TrackTable). seen new.contents t.files.items) (get_or-set_same tables u d' d low)
 
     -- what is said of the files of the directory is said of the user's
     over_at : (tells : Bool) (words words' : List ℕ) (R : Stored → Stored → Type 0) → Over tells (stored words (files_in old d)) (stored words' (files_in new d')) R
-        → Over tells (stored words (files_at old.rows tables u)) (stored words' (files_at new.rows (slice_set tables u d') u)) R
+        → Over tells (stored words (files_at old.contents tables u)) (stored words' (files_at new.contents (slice_set tables u d') u)) R
     over_at tells words words' R h =
-        subst (λ (fs : List FileBody). Over tells (stored words fs) (stored words' (files_at new.rows (slice_set tables u d') u)) R) (sym mine_was)
+        subst (λ (fs : List FileBody). Over tells (stored words fs) (stored words' (files_at new.contents (slice_set tables u d') u)) R) (sym mine_was)
         (subst (λ (fs : List FileBody). Over tells (stored words (files_in old d)) (stored words' fs) R) (sym mine_now) h)
 
     -- for the user of this number
     pub over_for : (v : ℕ) → u ≡ v → (tells : Bool) (words words' : List ℕ) (R : Stored → Stored → Type 0) → Over tells (stored words (files_in old d)) (stored words' (files_in new d')) R
-        → Over tells (stored words (files_at old.rows tables v)) (stored words' (files_at new.rows (slice_set tables u d') v)) R
+        → Over tells (stored words (files_at old.contents tables v)) (stored words' (files_at new.contents (slice_set tables u d') v)) R
     over_for v same tells words words' R h =
-        subst (λ (n : ℕ). Over tells (stored words (files_at old.rows tables n)) (stored words' (files_at new.rows (slice_set tables u d') n)) R) same (over_at tells words words' R h)
+        subst (λ (n : ℕ). Over tells (stored words (files_at old.contents tables n)) (stored words' (files_at new.contents (slice_set tables u d') n)) R) same (over_at tells words words' R h)
 
     module _ {T : Type 0} (result : Result T StepFault) (leaves : LeavesOne result old new d d') where
       at_place : LeavesOne result old new (get_or tables u d) d'
       at_place = subst (λ (x : TrackTable). LeavesOne result old new x d') is leaves
 
       pub sound_at : ¬ IsErrOf result Disk → IsSound new (slice_set tables u d')
-      sound_at works = record {
-        all = all_still old.rows old.taken tables sound.all u d low new.rows new.taken d' (leaves.ready works).directory (at_place.after works) at_place.quota;
-        serves = (leaves.ready works).serves;
-        small = All-set (λ (t : TrackTable). t.quota < 65536) tables u d' (leaves.ready works).small sound.small;
+      sound_at usable = record {
+        all = all_still old.contents old.taken tables sound.all u d low new.contents new.taken d' (leaves.ready usable).directory (at_place.after usable) at_place.quota;
+        serves = (leaves.ready usable).serves;
+        small = All-set (λ (t : TrackTable). t.quota < 65536) tables u d' (leaves.ready usable).small sound.small;
         some = (let l = length-set tables u d' in let s = sound.some in omega (arith, l, s));
       }
 
@@ -125,17 +125,17 @@ module _ (old : Tracked) (tables : List TrackTable) (sound : IsSound old tables)
             count = ap (λ (n : ℕ). n - 1) (length-set tables u d');
           }
 
-      pub others_at : ¬ IsErrOf result Disk → (j : ℕ) → j ≢ u → files_at new.rows (slice_set tables u d') j ≡ files_at old.rows tables j
-      others_at works j other =
-          at_other (λ (t : TrackTable). seen new.rows t.files.items) (λ (t : TrackTable). seen old.rows t.files.items) tables u j d' d other
-          (λ within. seen_stays old.rows new.rows (get_or tables j d).files.items (leaves.after works).told
-          (λ was now p q. others_stay old.rows old.taken tables sound.all u d low new.rows new.taken d' (leaves.ready works).directory (at_place.after works) at_place.quota was now p q j within other))
+      pub others_at : ¬ IsErrOf result Disk → (j : ℕ) → j ≢ u → files_at new.contents (slice_set tables u d') j ≡ files_at old.contents tables j
+      others_at usable j other =
+          at_other (λ (t : TrackTable). seen new.contents t.files.items) (λ (t : TrackTable). seen old.contents t.files.items) tables u j d' d other
+          (λ within. seen_stays old.contents new.contents (get_or tables j d).files.items (leaves.after usable).telling
+          (λ was now p q. others_stay old.contents old.taken tables sound.all u d low new.contents new.taken d' (leaves.ready usable).directory (at_place.after usable) at_place.quota was now p q j within other))
 
       rest_at : 1 ≤ u → ¬ IsErrOf result Disk → LeavesRest u (state_of old tables) (state_of new (slice_set tables u d'))
-      rest_at user works = record {
-        others = λ j some other. others_at works j other;
-        common = others_at works 0 (let n : 0 ≢ u = omega arith in n);
-        tells = (leaves.after works).told;
+      rest_at user usable = record {
+        others = λ j some other. others_at usable j other;
+        common = others_at usable 0 (let n : 0 ≢ u = omega arith in n);
+        tells = (leaves.after usable).telling;
       }
 
       serves_here : 1 ≤ u → Serves u result (state_of old tables) (state_of new (slice_set tables u d'))
@@ -170,20 +170,20 @@ module _ (old : Tracked) (tables : List TrackTable) (sound : IsSound old tables)
 -- an operation on the common files
 module _ (old : Tracked) (tables : List TrackTable) (sound : IsSound old tables) (low : 0 < length tables) (d : TrackTable) (is : d ≡ get_or tables 0 d)
     (new : Tracked) (d' : TrackTable) (result : Result Reply StepFault) (leaves : LeavesOne result old new d d') where
-  pub shares_at : (op : CommonOp) → IfOk result (λ reply. IsApplied (tells_of old.rows) d.quota op reply (files_in old d) (files_in new d')) → IfOk result ReplyFits
+  pub shares_at : (op : CommonOp) → IfOk result (λ reply. IsApplied (tells_of old.contents) d.quota op reply (files_in old d) (files_in new d')) → IfOk result ReplyFits
       → Shares op result (state_of old tables) (state_of new (slice_set tables 0 d'))
   shares_at op done fits = record {
     users = users_at old tables sound 0 low d is new d' result leaves;
     done =
         if_ok_map result
         (λ reply h.
-        subst (λ (n : ℕ). IsApplied (tells_of old.rows) n op reply (files_at old.rows tables 0) (files_at new.rows (slice_set tables 0 d') 0)) (sym (quota_was old tables sound 0 low d is))
-        (subst (λ (fs : List FileBody). IsApplied (tells_of old.rows) d.quota op reply fs (files_at new.rows (slice_set tables 0 d') 0)) (sym (mine_was old tables sound 0 low d is))
-        (subst (λ (fs : List FileBody). IsApplied (tells_of old.rows) d.quota op reply (files_in old d) fs) (sym (mine_now old tables sound 0 low d is new d')) h)))
+        subst (λ (n : ℕ). IsApplied (tells_of old.contents) n op reply (files_at old.contents tables 0) (files_at new.contents (slice_set tables 0 d') 0)) (sym (quota_was old tables sound 0 low d is))
+        (subst (λ (fs : List FileBody). IsApplied (tells_of old.contents) d.quota op reply fs (files_at new.contents (slice_set tables 0 d') 0)) (sym (mine_was old tables sound 0 low d is))
+        (subst (λ (fs : List FileBody). IsApplied (tells_of old.contents) d.quota op reply (files_in old d) fs) (sym (mine_now old tables sound 0 low d is new d')) h)))
         done;
     fits = fits;
-    own = λ works j some. others_at old tables sound 0 low d is new d' result leaves works j (let n : j ≢ 0 = omega arith in n);
-    tells = λ works. (leaves.after works).told;
+    own = λ usable j some. others_at old tables sound 0 low d is new d' result leaves usable j (let n : j ≢ 0 = omega arith in n);
+    tells = λ usable. (leaves.after usable).telling;
     left = λ memory. mine_now old tables sound 0 low d is new d' ∙ leaves.left memory ∙ sym (mine_was old tables sound 0 low d is);
     faults = leaves.faults;
     cause = leaves.cause;
@@ -192,7 +192,7 @@ module _ (old : Tracked) (tables : List TrackTable) (sound : IsSound old tables)
 -- what two calls on one directory leave, both of which were done
 pub both_leave : {old mid new : Tracked} {d dm d' : TrackTable} → LeavesOne {T = Unit {0}} (Ok tt) old mid d dm → LeavesOne {T = Unit {0}} (Ok tt) mid new dm d' → LeavesOne {T = Unit {0}} (Ok tt) old new d d'
 both_leave {old = old} {mid = mid} {new = new} {d = d} {dm = dm} {d' = d'} one two =
-    let goes : (s s' : Tracked) (e e' : TrackTable) → LeavesOne {T = Unit {0}} (Ok tt) s s' e e' → Goes s.rows s'.rows s.taken s'.taken s.faults s'.faults e e' false false = λ s s' e e' l. record {
+    let goes : (s s' : Tracked) (e e' : TrackTable) → LeavesOne {T = Unit {0}} (Ok tt) s s' e e' → Goes s.contents s'.contents s.taken s'.taken s.faults s'.faults e e' false false = λ s s' e e' l. record {
       quota = l.quota;
       rises = l.faults;
       after = λ well. (refl, l.after (λ x. cc));
@@ -201,7 +201,7 @@ both_leave {old = old} {mid = mid} {new = new} {d = d} {dm = dm} {d' = d'} one t
     record {
       quota = both.quota;
       ready = two.ready;
-      after = λ works. (both.after refl).1;
+      after = λ usable. (both.after refl).1;
       left = λ x. absurd (let e = x in cc);
       faults = both.rises;
       cause = λ x. absurd (let e = x in cc);

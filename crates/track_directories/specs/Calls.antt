@@ -12,17 +12,17 @@ use Rattle.track_directories.specs.Tables.{Tracked}
 
 -- the files of a directory, as the disk tells them
 abbrev pub files_in : Tracked → TrackTable → List FileBody
-files_in s d = seen s.rows d.files.items
+files_in s d = seen s.contents d.files.items
 
 -- a port can be made over the directory: no call has failed at the disk
 abbrev pub IsReady : Tracked → TrackTable → Type 0
-IsReady s d = IsPort s.rows s.count s.each s.taken d false
+IsReady s d = IsPort s.contents s.count s.each s.taken d false
 
 -- unless the disk failed, the directory is ready again and what stands elsewhere is left; want of memory changes none of its files
 pub record LeavesOne {T : Type 0} (result : Result T StepFault) (old new : Tracked) (d d' : TrackTable) : Type 0 where
   pub quota : d'.quota ≡ d.quota
   pub ready : ¬ IsErrOf result Disk → IsReady new d'
-  pub after : ¬ IsErrOf result Disk → IsAfter old.rows new.rows old.taken new.taken d d'
+  pub after : ¬ IsErrOf result Disk → IsAfter old.contents new.contents old.taken new.taken d d'
   pub left : IsErrOf result NoMemory → files_in new d' ≡ files_in old d
   pub faults : old.faults ≤ new.faults
   pub cause : IsErrOf result Disk → Rose old.faults new.faults

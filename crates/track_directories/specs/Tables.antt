@@ -15,7 +15,7 @@ use Rattle.track_directories.specs.declared.all.TrackDirectories.{TrackDirectori
 -- what a store of tracks shows: the disk's records where it tells them, how many records it has and of how many words, how often it
 -- has failed, and which tracks are taken
 pub record Tracked : Type 0 where
-  pub rows : Option (List (List ℕ))
+  pub contents : Option (List (List ℕ))
   pub count : ℕ
   pub each : ℕ
   pub faults : ℕ
@@ -23,7 +23,7 @@ pub record Tracked : Type 0 where
 
 -- the files of a directory, as the disk tells them: the common ones have number 0
 abbrev pub files_at : Option (List (List ℕ)) → List TrackTable → ℕ → List FileBody
-files_at rows tables u = get_or (map (λ (t : TrackTable). seen rows t.files.items) tables) u []
+files_at contents tables u = get_or (map (λ (t : TrackTable). seen contents t.files.items) tables) u []
 
 -- how many tracks a directory may take
 abbrev pub quota_at : List TrackTable → ℕ → ℕ
@@ -33,19 +33,19 @@ quota_at tables u = get_or (map (λ (t : TrackTable). t.quota) tables) u 0
 abbrev pub state_of : Tracked → List TrackTable → DirectoriesState
 state_of s tables =
     record {
-      own = files_at s.rows tables;
+      own = files_at s.contents tables;
       may = quota_at tables;
-      common = files_at s.rows tables 0;
+      common = files_at s.contents tables 0;
       common_may = quota_at tables 0;
       count = length tables - 1;
-      tells = tells_of s.rows;
+      tells = tells_of s.contents;
       faults = s.faults;
     }
 
 -- each track that is taken stands in one place, all quotas fit together, and the disk serves the tracks
 pub record IsSound (s : Tracked) (tables : List TrackTable) : Type 0 where
-  pub all : AreDirectories s.rows s.taken tables
-  pub serves : Serves s.rows s.count s.each (length s.taken)
+  pub all : AreDirectories s.contents s.taken tables
+  pub serves : Serves s.contents s.count s.each (length s.taken)
   pub small : All (λ (t : TrackTable). t.quota < 65536) tables
   pub some : 1 ≤ length tables
 
@@ -57,7 +57,7 @@ module _ {F : Type 0} (g : Ghosts F) where
   abbrev pub tracked : TrackStore F → Tracked
   tracked s =
       record {
-        rows = g.rows s.disk.now;
+        contents = g.contents s.disk.now;
         count = g.record_count s.disk.now;
         each = g.words_each s.disk.now;
         faults = g.faults s.disk.now;

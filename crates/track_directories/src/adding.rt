@@ -25,7 +25,7 @@ fn put_over<F: Medium>(
     requires fits { tracks_of (with_new file.now.name file.now.words (files_in (tracked F.Medium store.old) table.old))
         ≤ table.old.quota }
     ensures made { OnOk result (files_in (tracked F.Medium store.new) table.new
-        ≡ known (tells_of (F.rows store.old.disk.now))
+        ≡ known (tells_of (F.contents store.old.disk.now))
         (with_new file.now.name file.now.words (files_in (tracked F.Medium store.old) table.old))) }
     ensures one { LeavesOne result (tracked F.Medium store.old) (tracked F.Medium store.new) table.old table.new }
     ensures same { store.new.disk.ghost_name ≡ store.old.disk.ghost_name }
@@ -84,7 +84,7 @@ pub(crate) fn add_over<F: Medium>(
     requires fits { tracks_of (files_in (tracked F.Medium store.old) table.old ++ file.now ∷ []) ≤ table.old.quota }
     requires mode { file.now.mode ≤ 3 }
     ensures added { OnOk result (files_in (tracked F.Medium store.new) table.new
-        ≡ known (tells_of (F.rows store.old.disk.now))
+        ≡ known (tells_of (F.contents store.old.disk.now))
         (files_in (tracked F.Medium store.old) table.old ++ file.now ∷ [])) }
     ensures one { LeavesOne result (tracked F.Medium store.old) (tracked F.Medium store.new) table.old table.new }
     ensures same { store.new.disk.ghost_name ≡ store.old.disk.ghost_name }

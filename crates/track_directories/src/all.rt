@@ -77,11 +77,11 @@ impl<F: Medium> Directories for TrackDirectories<'_, F> {
 
     ghost state = { λ d. shown F.Medium d };
 
-    ghost Works = { λ d. Sound F.Medium d };
+    ghost Usable = { λ d. Sound F.Medium d };
 
     ghost Keeps = { λ a b. (disk_of b).ghost_name ≡ (disk_of a).ghost_name };
 
-    ghost Lies = { λ d own common. WhereTold (F.rows (disk_of d).now) (λ rows. LieOn rows own common) };
+    ghost Lies = { λ d own common. WhereTold (F.contents (disk_of d).now) (λ contents. LieOn contents own common) };
 
     fn turn<M: MemoryPort>(
         &mut self,

@@ -62,11 +62,11 @@ impl EmptyDirectories {
 
     /// Lays them on the first records of a disk.
     pub fn over<'d, F: Medium>(self, disk: &'d mut F) -> TrackDirectories<'d, F>
-        requires serves { Serves (F.rows disk.old) (F.record_count disk.old) (F.words_each disk.old) self.tracks }
+        requires serves { Serves (F.contents disk.old) (F.record_count disk.old) (F.words_each disk.old) self.tracks }
         ensures same { (disk_of result).ghost_name ≡ disk.entry.ghost_name }
         ensures now { (disk_of result).now ≡ disk.old }
         ensures sound { Sound F.Medium result }
-        ensures none { HaveNone self.quotas (tells_of (F.rows disk.old)) (F.faults disk.old) (shown F.Medium result) }
+        ensures none { HaveNone self.quotas (tells_of (F.contents disk.old)) (F.faults disk.old) (shown F.Medium result) }
     {
         let EmptyDirectories {
             alloc,

@@ -18,18 +18,18 @@ pub(crate) fn lists_on<F: Medium>(
     tables: &[TrackTable],
     store: &mut TrackStore<'_, F>,
 ) -> Result<Vec<FileList>, StepFault>
-    requires works { All (λ (t : TrackTable). IsDirectory (F.rows store.old.disk.now) store.old.tracks.taken.items
+    requires usable { All (λ (t : TrackTable). IsDirectory (F.contents store.old.disk.now) store.old.tracks.taken.items
         t.quota t.used t.files.items) tables.now }
-    requires serves { Serves (F.rows store.old.disk.now) (F.record_count store.old.disk.now)
+    requires serves { Serves (F.contents store.old.disk.now) (F.record_count store.old.disk.now)
         (F.words_each store.old.disk.now) (length store.old.tracks.taken.items) }
-    ensures files { WhereTold (F.rows store.old.disk.now) (λ rows. IfOk result (λ lists. lists.items
-        ≡ map (λ (t : TrackTable). files_on rows t.files.items) tables.now)) }
+    ensures files { WhereTold (F.contents store.old.disk.now) (λ contents. IfOk result (λ lists. lists.items
+        ≡ map (λ (t : TrackTable). files_on contents t.files.items) tables.now)) }
     ensures same { store.new.disk.ghost_name ≡ store.old.disk.ghost_name }
     ensures tracks { store.new.tracks ≡ store.old.tracks }
-    ensures rows { OnOk result (F.rows store.new.disk.now ≡ F.rows store.old.disk.now) }
-    ensures serves { Serves (F.rows store.new.disk.now) (F.record_count store.new.disk.now)
+    ensures contents { OnOk result (F.contents store.new.disk.now ≡ F.contents store.old.disk.now) }
+    ensures serves { Serves (F.contents store.new.disk.now) (F.record_count store.new.disk.now)
         (F.words_each store.new.disk.now) (length store.new.tracks.taken.items) }
-    ensures kept { F.faults store.old.disk.now ≤ F.faults store.new.disk.now }
+    ensures faults_grow { F.faults store.old.disk.now ≤ F.faults store.new.disk.now }
     ensures cause { IsErrOf result StepFault.Disk → Rose (F.faults store.old.disk.now) (F.faults store.new.disk.now) }
 {
     let mut lists = Vec::new(alloc);

@@ -33,7 +33,7 @@ pub(crate) fn turn_over<M: MemoryPort, F: Medium>(
     requires size { length (M.words core.old) ≡ 256 * session.old.inner.blocks }
     requires fits { session.old.own < 2 ^ 64 - 1 }
     requires time { now < 2 ^ 35 }
-    ensures turn { IfOk result (λ turn. Over (tells_of (F.rows store.old.disk.now))
+    ensures turn { IfOk result (λ turn. Over (tells_of (F.contents store.old.disk.now))
         (stored (M.words core.old) (files_in (tracked F.Medium store.old) table.old))
         (stored (M.words core.new) (files_in (tracked F.Medium store.new) table.new))
         (IsTurn turn now session.old session.new)) }
@@ -65,14 +65,14 @@ pub(crate) fn reply_over<M: MemoryPort, F: Medium>(
 ) -> Result<Step, StepFault>
     requires ready { IsReady (tracked F.Medium store.old) table.old }
     requires quota { table.old.quota ≡ session.old.inner.account.tracks }
-    requires asks { (op : CommonOp) × IsToMake (tells_of (F.rows store.old.disk.now))
+    requires asks { (op : CommonOp) × IsToMake (tells_of (F.contents store.old.disk.now))
         (stored (M.words core.old) (files_in (tracked F.Medium store.old) table.old)) op session.old }
     requires size { length (M.words core.old) ≡ 256 * session.old.inner.blocks }
-    requires told { ReplyFits reply.now }
+    requires reply_fits { ReplyFits reply.now }
     requires fits { session.old.own < 2 ^ 64 - 1 }
-    ensures step { (op : CommonOp) → IsToMake (tells_of (F.rows store.old.disk.now))
+    ensures step { (op : CommonOp) → IsToMake (tells_of (F.contents store.old.disk.now))
         (stored (M.words core.old) (files_in (tracked F.Medium store.old) table.old)) op session.old
-        → IfOk result (λ s. Over (tells_of (F.rows store.old.disk.now))
+        → IfOk result (λ s. Over (tells_of (F.contents store.old.disk.now))
         (stored (M.words core.old) (files_in (tracked F.Medium store.old) table.old))
         (stored (M.words core.new) (files_in (tracked F.Medium store.new) table.new))
         (IsReplied s op reply.now now session.old session.new)) }
@@ -100,7 +100,7 @@ pub(crate) fn share_over<F: Medium>(
     op: &CommonOp,
 ) -> Result<Reply, StepFault>
     requires { IsReady (tracked F.Medium store.old) table.old }
-    ensures done { IfOk result (λ reply. IsApplied (tells_of (F.rows store.old.disk.now)) table.old.quota op.now reply
+    ensures done { IfOk result (λ reply. IsApplied (tells_of (F.contents store.old.disk.now)) table.old.quota op.now reply
         (files_in (tracked F.Medium store.old) table.old) (files_in (tracked F.Medium store.new) table.new)) }
     ensures fits { IfOk result ReplyFits }
     ensures one { LeavesOne result (tracked F.Medium store.old) (tracked F.Medium store.new) table.old table.new }

@@ -4,22 +4,18 @@ use Rattle.faults.specs.Faults.{WhereTold}
 use Rattle.medium.specs.Medium.{Call, CallList, with_record}
 
 -- the words of a record
-abbrev pub row : List (List ℕ) → ℕ → List ℕ
-row rows t = slice_index_or rows t []
+abbrev pub record_at : List (List ℕ) → ℕ → List ℕ
+record_at contents t = slice_index_or contents t []
 
 -- the words of these tracks, one after another
 abbrev pub joined : List (List ℕ) → List ℕ → List ℕ
-joined rows [] = []
-joined rows (t ∷ ts) = row rows t ++ joined rows ts
-
--- these tracks hold these words, where records are told
-abbrev pub Hold : Option (List (List ℕ)) → List ℕ → List ℕ → Type 0
-Hold rows ts ws = WhereTold rows (λ rows. joined rows ts ≡ ws)
+joined contents [] = []
+joined contents (t ∷ ts) = record_at contents t ++ joined contents ts
 
 -- the records with words written into these tracks, 432 each, where records are told
 abbrev pub with_words : Option (List (List ℕ)) → List ℕ → List ℕ → Option (List (List ℕ))
-with_words rows [] ws = rows
-with_words rows (t ∷ ts) ws = with_words (with_record rows t (take 432 ws)) ts (drop 432 ws)
+with_words contents [] ws = contents
+with_words contents (t ∷ ts) ws = with_words (with_record contents t (take 432 ws)) ts (drop 432 ws)
 
 -- the words that the reads among these calls gave, one after another
 abbrev pub given_by : List Call → List ℕ

@@ -48,7 +48,7 @@ impl<'a, F: Medium> TrackStore<'a, F> {
     /// After an error the clauses say nothing of the disk. Where that matters, make `Tracks` first and then the
     /// store with `over`.
     pub fn new(alloc: Global, disk: &'a mut F, tracks: u16) -> Result<TrackStore<'a, F>, NoMemory>
-        requires serves { Serves (F.rows disk.old) (F.record_count disk.old) (F.words_each disk.old) tracks }
+        requires serves { Serves (F.contents disk.old) (F.record_count disk.old) (F.words_each disk.old) tracks }
         ensures same { IfOk result (λ s. s.disk.ghost_name ≡ disk.entry.ghost_name) }
         ensures now { IfOk result (λ s. s.disk.now ≡ disk.old) }
         ensures taken { IfOk result (λ s. s.tracks.taken.items ≡ replicate tracks false) }
@@ -108,19 +108,19 @@ impl<'a, F: Medium> TrackStore<'a, F> {
         requires taken { is_taken self.old.tracks.taken.items track ≡ true }
         requires whole { length into.old ≡ 432 }
         requires words { AreWords into.old }
-        requires serves { Serves (F.rows self.old.disk.now) (F.record_count self.old.disk.now)
+        requires serves { Serves (F.contents self.old.disk.now) (F.record_count self.old.disk.now)
             (F.words_each self.old.disk.now) (length self.old.tracks.taken.items) }
         ensures same { self.new.disk.ghost_name ≡ self.old.disk.ghost_name }
         ensures tracks { self.new.tracks ≡ self.old.tracks }
-        ensures serves { Serves (F.rows self.new.disk.now) (F.record_count self.new.disk.now)
+        ensures serves { Serves (F.contents self.new.disk.now) (F.record_count self.new.disk.now)
             (F.words_each self.new.disk.now) (length self.new.tracks.taken.items) }
         ensures words { AreWords into.new }
         ensures len { length into.new ≡ 432 }
-        ensures given { OnOk result (Reads (F.rows self.old.disk.now) track into.new) }
-        ensures rows { OnOk result (F.rows self.new.disk.now ≡ F.rows self.old.disk.now) }
+        ensures given { OnOk result (Reads (F.contents self.old.disk.now) track into.new) }
+        ensures contents { OnOk result (F.contents self.new.disk.now ≡ F.contents self.old.disk.now) }
         ensures calls { F.calls self.new.disk.now
             ≡ with_call (F.calls self.old.disk.now) (read_call track (is_err result) into.new) }
-        ensures kept { F.faults self.old.disk.now ≤ F.faults self.new.disk.now }
+        ensures faults_grow { F.faults self.old.disk.now ≤ F.faults self.new.disk.now }
         ensures cause { OnErr result (Rose (F.faults self.old.disk.now) (F.faults self.new.disk.now)) }
     {
         self.disk.read(track, into)?;
@@ -133,16 +133,16 @@ impl<'a, F: Medium> TrackStore<'a, F> {
         requires taken { is_taken self.old.tracks.taken.items track ≡ true }
         requires whole { length from.now ≡ 432 }
         requires words { AreWords from.now }
-        requires serves { Serves (F.rows self.old.disk.now) (F.record_count self.old.disk.now)
+        requires serves { Serves (F.contents self.old.disk.now) (F.record_count self.old.disk.now)
             (F.words_each self.old.disk.now) (length self.old.tracks.taken.items) }
         ensures same { self.new.disk.ghost_name ≡ self.old.disk.ghost_name }
         ensures tracks { self.new.tracks ≡ self.old.tracks }
-        ensures serves { Serves (F.rows self.new.disk.now) (F.record_count self.new.disk.now)
+        ensures serves { Serves (F.contents self.new.disk.now) (F.record_count self.new.disk.now)
             (F.words_each self.new.disk.now) (length self.new.tracks.taken.items) }
-        ensures rows { OnOk result (F.rows self.new.disk.now ≡ with_record (F.rows self.old.disk.now) track from.now) }
+        ensures contents { OnOk result (F.contents self.new.disk.now ≡ with_record (F.contents self.old.disk.now) track from.now) }
         ensures calls { F.calls self.new.disk.now
             ≡ with_call (F.calls self.old.disk.now) (write_call track (is_err result)) }
-        ensures kept { F.faults self.old.disk.now ≤ F.faults self.new.disk.now }
+        ensures faults_grow { F.faults self.old.disk.now ≤ F.faults self.new.disk.now }
         ensures cause { OnErr result (Rose (F.faults self.old.disk.now) (F.faults self.new.disk.now)) }
     {
         self.disk.write(track, from)?;

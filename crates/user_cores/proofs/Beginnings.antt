@@ -17,23 +17,23 @@ none_whole : (blocks : ℕ → List ℕ) (owners : List ℕ) (all : Option (List
 none_whole blocks owners None quotas u = tt
 none_whole blocks owners (Some all) quotas u = All-nil (λ (b : List ℕ). length b ≡ 256)
 
-pub whole_at_first : (bank : List ℕ) (rows : Option (List (List ℕ))) (owners : List ℕ) (s : Slots) (sizes : List ℕ) (n : ℕ) → sizes ≡ replicate n 0
-    → (u : ℕ) → 1 ≤ u → AreWhole (image_in bank rows owners s sizes u)
-whole_at_first bank rows owners s sizes n small u some =
+pub whole_at_first : (bank : List ℕ) (contents : Option (List (List ℕ))) (owners : List ℕ) (s : Slots) (sizes : List ℕ) (n : ℕ) → sizes ≡ replicate n 0
+    → (u : ℕ) → 1 ≤ u → AreWhole (image_in bank contents owners s sizes u)
+whole_at_first bank contents owners s sizes n small u some =
     let size : size_of sizes u ≡ 0 = ap (λ (l : List ℕ). size_of l u) small ∙ none_in n u in
-    subst (λ (k : ℕ). AreWhole (image_over (block_at bank) owners (copies rows s.slots.items) s.quotas.items k u)) (sym size)
-    (none_whole (block_at bank) owners (copies rows s.slots.items) s.quotas.items u)
+    subst (λ (k : ℕ). AreWhole (image_over (block_at bank) owners (copies contents s.slots.items) s.quotas.items k u)) (sym size)
+    (none_whole (block_at bank) owners (copies contents s.slots.items) s.quotas.items u)
 
 no_words : (blocks : ℕ → List ℕ) (owners : List ℕ) (all : Option (List (Option (List ℕ)))) (quotas : List ℕ) (u : ℕ) → words_of (image_over blocks owners all quotas 0 u) ≡ []
 no_words blocks owners None quotas u = refl
 no_words blocks owners (Some all) quotas u = refl
 
-pub words_at_first : (bank : List ℕ) (rows : Option (List (List ℕ))) (owners : List ℕ) (s : Slots) (sizes : List ℕ) (n : ℕ) → sizes ≡ replicate n 0
-    → (u : ℕ) → 1 ≤ u → words_of (image_in bank rows owners s sizes u) ≡ []
-words_at_first bank rows owners s sizes n small u some =
+pub words_at_first : (bank : List ℕ) (contents : Option (List (List ℕ))) (owners : List ℕ) (s : Slots) (sizes : List ℕ) (n : ℕ) → sizes ≡ replicate n 0
+    → (u : ℕ) → 1 ≤ u → words_of (image_in bank contents owners s sizes u) ≡ []
+words_at_first bank contents owners s sizes n small u some =
     let size : size_of sizes u ≡ 0 = ap (λ (l : List ℕ). size_of l u) small ∙ none_in n u in
-    ap (λ (k : ℕ). words_of (image_over (block_at bank) owners (copies rows s.slots.items) s.quotas.items k u)) size
-    ∙ no_words (block_at bank) owners (copies rows s.slots.items) s.quotas.items u
+    ap (λ (k : ℕ). words_of (image_over (block_at bank) owners (copies contents s.slots.items) s.quotas.items k u)) size
+    ∙ no_words (block_at bank) owners (copies contents s.slots.items) s.quotas.items u
 
 and_no : (b : Bool) → (b && false) ≡ false
 and_no true = refl

@@ -12,7 +12,7 @@ use Rattle.image_map.specs.State as images
 use Rattle.image_map.specs.State.{ImageState, calls_of}
 use Rattle.user_cores.specs.Cores.{Loads}
 use Rattle.user_cores.specs.Memory.{words_of}
-use Rattle.user_cores.specs.Works.{cores_in}
+use Rattle.user_cores.specs.Usable.{cores_in}
 
 -- each call is a write or a read
 length-calls : (cs : List Call) → length cs ≡ count_writes cs + count_reads cs
@@ -20,9 +20,9 @@ length-calls [] = refl
 length-calls (c ∷ cs) = grind (arith, common_steps, length-calls cs)
 
 -- an image is told where the drum tells its records
-image_told : (bank : List ℕ) (rows : Option (List (List ℕ))) (owners : List ℕ) (slots : Slots) (sizes : List ℕ) (u : ℕ) → is_some (image_in bank rows owners slots sizes u) ≡ is_some rows
+image_told : (bank : List ℕ) (contents : Option (List (List ℕ))) (owners : List ℕ) (slots : Slots) (sizes : List ℕ) (u : ℕ) → is_some (image_in bank contents owners slots sizes u) ≡ is_some contents
 image_told bank None owners slots sizes u = refl
-image_told bank (Some rows) owners slots sizes u = refl
+image_told bank (Some contents) owners slots sizes u = refl
 
 -- a load of a user, as cores show it
 pub loads_shown : {E : Type 0} (result : Result Plan E) (u : ℕ) (s s' : ImageState) → images.Loads u result s s' → Loads u result (cores_in s) (cores_in s')
@@ -33,7 +33,7 @@ loads_shown (Ok plan) u s s' loads =
       faults = loads.keeps.faults;
       done = record {
         words = λ v some. ap words_of (loads.done.images v some);
-        tells = sym (image_told s'.words s'.drum.rows s'.owners s'.slots s'.sizes 1) ∙ ap is_some (loads.done.images 1 (omega arith)) ∙ image_told s.words s.drum.rows s.owners s.slots s.sizes 1;
+        tells = sym (image_told s'.words s'.drum.contents s'.owners s'.slots s'.sizes 1) ∙ ap is_some (loads.done.images 1 (omega arith)) ∙ image_told s.words s.drum.contents s.owners s.slots s.sizes 1;
         places = loads.done.places;
         dumped = loads.done.dumped;
         read = loads.done.read;

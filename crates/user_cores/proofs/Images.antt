@@ -28,34 +28,34 @@ whole_one : (n m : ℕ) (image : Option (List (List ℕ))) → AreWhole image �
 whole_one n m None whole = whole
 whole_one n m (Some blocks) whole = resized_whole n m blocks whole
 
-pub whole_resized : (bank bank' : List ℕ) (rows rows' : Option (List (List ℕ))) (owners owners' : List ℕ) (s s' : Slots) (sizes sizes' : List ℕ) (user m : ℕ)
-    → image_in bank' rows' owners' s' sizes' user ≡ resized (size_of sizes user) m (image_in bank rows owners s sizes user)
-    → ((u : ℕ) → 1 ≤ u → u ≢ user → image_in bank' rows' owners' s' sizes' u ≡ image_in bank rows owners s sizes u)
-    → ((u : ℕ) → 1 ≤ u → AreWhole (image_in bank rows owners s sizes u)) → (u : ℕ) → 1 ≤ u → AreWhole (image_in bank' rows' owners' s' sizes' u)
-whole_resized bank bank' rows rows' owners owners' s s' sizes sizes' user m mine others were =
-    let old = λ (u : ℕ). image_in bank rows owners s sizes u in
+pub whole_resized : (bank bank' : List ℕ) (contents rows' : Option (List (List ℕ))) (owners owners' : List ℕ) (s s' : Slots) (sizes sizes' : List ℕ) (user m : ℕ)
+    → image_in bank' rows' owners' s' sizes' user ≡ resized (size_of sizes user) m (image_in bank contents owners s sizes user)
+    → ((u : ℕ) → 1 ≤ u → u ≢ user → image_in bank' rows' owners' s' sizes' u ≡ image_in bank contents owners s sizes u)
+    → ((u : ℕ) → 1 ≤ u → AreWhole (image_in bank contents owners s sizes u)) → (u : ℕ) → 1 ≤ u → AreWhole (image_in bank' rows' owners' s' sizes' u)
+whole_resized bank bank' contents rows' owners owners' s s' sizes sizes' user m mine others were =
+    let old = λ (u : ℕ). image_in bank contents owners s sizes u in
     whole_all user (λ u. image_in bank' rows' owners' s' sizes' u) old (λ some. subst AreWhole (sym mine) (whole_one (size_of sizes user) m (old user) (were user some))) others were
 
-pub words_resized : (bank : List ℕ) (rows : Option (List (List ℕ))) (owners : List ℕ) (s : Slots) (sizes : List ℕ) (u m : ℕ) (new : Option (List (List ℕ)))
-    → new ≡ resized (size_of sizes u) m (image_in bank rows owners s sizes u) → AreWhole (image_in bank rows owners s sizes u) → is_some rows ≡ true
-    → words_of new ≡ recut m (words_of (image_in bank rows owners s sizes u))
+pub words_resized : (bank : List ℕ) (contents : Option (List (List ℕ))) (owners : List ℕ) (s : Slots) (sizes : List ℕ) (u m : ℕ) (new : Option (List (List ℕ)))
+    → new ≡ resized (size_of sizes u) m (image_in bank contents owners s sizes u) → AreWhole (image_in bank contents owners s sizes u) → is_some contents ≡ true
+    → words_of new ≡ recut m (words_of (image_in bank contents owners s sizes u))
 words_resized bank None owners s sizes u m new is whole told = absurd (false≢true told)
-words_resized bank (Some rows) owners s sizes u m new is whole told = ap words_of is ∙ joined_resized (size_of sizes u) m _ whole (length-first (size_of sizes u) _)
+words_resized bank (Some contents) owners s sizes u m new is whole told = ap words_of is ∙ joined_resized (size_of sizes u) m _ whole (length-first (size_of sizes u) _)
 
 -- one user's image is cut to nothing and extended
 
-pub whole_replaced : (bank bank' : List ℕ) (rows rows' : Option (List (List ℕ))) (owners owners' : List ℕ) (s s' : Slots) (sizes sizes' : List ℕ) (user m : ℕ)
-    → image_in bank' rows' owners' s' sizes' user ≡ resized 0 m (resized (size_of sizes user) 0 (image_in bank rows owners s sizes user))
-    → ((u : ℕ) → 1 ≤ u → u ≢ user → image_in bank' rows' owners' s' sizes' u ≡ image_in bank rows owners s sizes u)
-    → ((u : ℕ) → 1 ≤ u → AreWhole (image_in bank rows owners s sizes u)) → (u : ℕ) → 1 ≤ u → AreWhole (image_in bank' rows' owners' s' sizes' u)
-whole_replaced bank bank' rows rows' owners owners' s s' sizes sizes' user m mine others were =
-    let old = λ (u : ℕ). image_in bank rows owners s sizes u in
+pub whole_replaced : (bank bank' : List ℕ) (contents rows' : Option (List (List ℕ))) (owners owners' : List ℕ) (s s' : Slots) (sizes sizes' : List ℕ) (user m : ℕ)
+    → image_in bank' rows' owners' s' sizes' user ≡ resized 0 m (resized (size_of sizes user) 0 (image_in bank contents owners s sizes user))
+    → ((u : ℕ) → 1 ≤ u → u ≢ user → image_in bank' rows' owners' s' sizes' u ≡ image_in bank contents owners s sizes u)
+    → ((u : ℕ) → 1 ≤ u → AreWhole (image_in bank contents owners s sizes u)) → (u : ℕ) → 1 ≤ u → AreWhole (image_in bank' rows' owners' s' sizes' u)
+whole_replaced bank bank' contents rows' owners owners' s s' sizes sizes' user m mine others were =
+    let old = λ (u : ℕ). image_in bank contents owners s sizes u in
     whole_all user (λ u. image_in bank' rows' owners' s' sizes' u) old (λ some. subst AreWhole (sym mine) (whole_one 0 m (resized (size_of sizes user) 0 (old user)) (whole_one (size_of sizes user) 0 (old user) (were user some)))) others were
 
-pub words_replaced : (bank : List ℕ) (rows : Option (List (List ℕ))) (owners : List ℕ) (s : Slots) (sizes : List ℕ) (u m : ℕ) (new : Option (List (List ℕ)))
-    → new ≡ resized 0 m (resized (size_of sizes u) 0 (image_in bank rows owners s sizes u)) → is_some rows ≡ true → words_of new ≡ zeros m
+pub words_replaced : (bank : List ℕ) (contents : Option (List (List ℕ))) (owners : List ℕ) (s : Slots) (sizes : List ℕ) (u m : ℕ) (new : Option (List (List ℕ)))
+    → new ≡ resized 0 m (resized (size_of sizes u) 0 (image_in bank contents owners s sizes u)) → is_some contents ≡ true → words_of new ≡ zeros m
 words_replaced bank None owners s sizes u m new is told = absurd (false≢true told)
-words_replaced bank (Some rows) owners s sizes u m new is told = replaced (size_of sizes u) (image_in bank (Some rows) owners s sizes u) refl is
+words_replaced bank (Some contents) owners s sizes u m new is told = replaced (size_of sizes u) (image_in bank (Some contents) owners s sizes u) refl is
   where
     replaced : (n : ℕ) (image : Option (List (List ℕ))) → is_some image ≡ true → new ≡ resized 0 m (resized n 0 image) → words_of new ≡ zeros m
     replaced n None tells e = absurd (false≢true tells)
@@ -68,32 +68,32 @@ resident owners s n u is b below = elim (cases_eq (owner_of owners b) u) [
   | inr other ↦ absurd (false≢true (sym (loaded_no owners s n u b below other) ∙ is))
 ]
 
-pub words_resident : (bank : List ℕ) (rows : Option (List (List ℕ))) (owners : List ℕ) (s : Slots) (sizes : List ℕ) (u : ℕ)
-    → is_loaded (places_of owners s) u (size_of sizes u) ≡ true → is_some rows ≡ true
-    → words_of (image_in bank rows owners s sizes u) ≡ take (256 * size_of sizes u) bank
+pub words_resident : (bank : List ℕ) (contents : Option (List (List ℕ))) (owners : List ℕ) (s : Slots) (sizes : List ℕ) (u : ℕ)
+    → is_loaded (places_of owners s) u (size_of sizes u) ≡ true → is_some contents ≡ true
+    → words_of (image_in bank contents owners s sizes u) ≡ take (256 * size_of sizes u) bank
 words_resident bank None owners s sizes u is told = absurd (false≢true told)
-words_resident bank (Some rows) owners s sizes u is told =
-    ap words_of (image_resident bank (Some rows) owners s sizes u (resident owners s (size_of sizes u) u is)) ∙ joined_first (size_of sizes u) bank
+words_resident bank (Some contents) owners s sizes u is told =
+    ap words_of (image_resident bank (Some contents) owners s sizes u (resident owners s (size_of sizes u) u is)) ∙ joined_first (size_of sizes u) bank
 
-whole_told : (rows : Option (List (List ℕ))) (n : ℕ) (bank : List ℕ) → length bank ≡ 32768 → n ≤ 128 → AreWhole (where_told rows (first n (block_at bank)))
+whole_told : (contents : Option (List (List ℕ))) (n : ℕ) (bank : List ℕ) → length bank ≡ 32768 → n ≤ 128 → AreWhole (where_told contents (first n (block_at bank)))
 whole_told None n bank len most = tt
-whole_told (Some rows) n bank len most = first_whole n bank len most
+whole_told (Some contents) n bank len most = first_whole n bank len most
 
 -- while it works in its blocks
-pub whole_turned : (bank bank' : List ℕ) (rows : Option (List (List ℕ))) (owners : List ℕ) (s : Slots) (sizes : List ℕ) (user : ℕ)
+pub whole_turned : (bank bank' : List ℕ) (contents : Option (List (List ℕ))) (owners : List ℕ) (s : Slots) (sizes : List ℕ) (user : ℕ)
     → is_loaded (places_of owners s) user (size_of sizes user) ≡ true → size_of sizes user ≤ 128 → length bank' ≡ 32768
     → drop (256 * size_of sizes user) bank' ≡ drop (256 * size_of sizes user) bank
-    → ((u : ℕ) → 1 ≤ u → AreWhole (image_in bank rows owners s sizes u)) → (u : ℕ) → 1 ≤ u → AreWhole (image_in bank' rows owners s sizes u)
-whole_turned bank bank' rows owners s sizes user is most len same were =
+    → ((u : ℕ) → 1 ≤ u → AreWhole (image_in bank contents owners s sizes u)) → (u : ℕ) → 1 ≤ u → AreWhole (image_in bank' contents owners s sizes u)
+whole_turned bank bank' contents owners s sizes user is most len same were =
     let mine = resident owners s (size_of sizes user) user is in
-    whole_all user (λ u. image_in bank' rows owners s sizes u) (λ u. image_in bank rows owners s sizes u)
-    (λ some. subst AreWhole (sym (image_resident bank' rows owners s sizes user mine)) (whole_told rows (size_of sizes user) bank' len most))
-    (λ u some them. image_stays bank bank' rows owners s sizes user u mine same them)
+    whole_all user (λ u. image_in bank' contents owners s sizes u) (λ u. image_in bank contents owners s sizes u)
+    (λ some. subst AreWhole (sym (image_resident bank' contents owners s sizes user mine)) (whole_told contents (size_of sizes user) bank' len most))
+    (λ u some them. image_stays bank bank' contents owners s sizes user u mine same them)
     were
 
-pub words_stay : (bank bank' : List ℕ) (rows : Option (List (List ℕ))) (owners : List ℕ) (s : Slots) (sizes : List ℕ) (user u : ℕ)
+pub words_stay : (bank bank' : List ℕ) (contents : Option (List (List ℕ))) (owners : List ℕ) (s : Slots) (sizes : List ℕ) (user u : ℕ)
     → is_loaded (places_of owners s) user (size_of sizes user) ≡ true
     → drop (256 * size_of sizes user) bank' ≡ drop (256 * size_of sizes user) bank → u ≢ user
-    → words_of (image_in bank' rows owners s sizes u) ≡ words_of (image_in bank rows owners s sizes u)
-words_stay bank bank' rows owners s sizes user u is same them =
-    ap words_of (image_stays bank bank' rows owners s sizes user u (resident owners s (size_of sizes user) user is) same them)
+    → words_of (image_in bank' contents owners s sizes u) ≡ words_of (image_in bank contents owners s sizes u)
+words_stay bank bank' contents owners s sizes user u is same them =
+    ap words_of (image_stays bank bank' contents owners s sizes user u (resident owners s (size_of sizes user) user is) same them)

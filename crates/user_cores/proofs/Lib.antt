@@ -2,5 +2,5 @@ pub mod Blocks
 pub mod Calls
 pub mod Images
 pub mod Beginnings
-pub mod Works
+pub mod Usable
 pub mod Listed

@@ -1,6 +1,6 @@
 pub mod Cores
 pub mod Memory
 pub mod Swaps
-pub mod Works
+pub mod Usable
 pub mod Backing
 pub mod Settles

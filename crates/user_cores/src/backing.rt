@@ -31,7 +31,7 @@ pub trait Backing {
     ghost state: { Self → BackState };
 
     /// No fault has come.
-    ghost Works: { Self → Type 0 };
+    ghost Usable: { Self → Type 0 };
 
     /// The same drum and disk.
     ghost Keeps: { Self → Self → Type 0 };
@@ -46,42 +46,42 @@ pub trait Backing {
 
     /// Brings all of a user's blocks into core, and says what that moved.
     fn load(&mut self, user: UserNo) -> Result<Plan, DrumFault>
-        requires works { Works self.old }
+        requires usable { Usable self.old }
         requires user { user < length (state self.old).held.sizes }
-        ensures works { OnOk result (Works self.new) }
+        ensures usable { OnOk result (Usable self.new) }
         ensures keeps { Keeps self.old self.new }
         ensures loads { Loads user result (state self.old) (state self.new) };
 
     /// Gives a user another size: its words are cut, or extended by plus zeros.
     fn resize(&mut self, user: UserNo, blocks: u8)
-        requires works { Works self.old }
+        requires usable { Usable self.old }
         requires user { user < length (state self.old).held.sizes }
         requires quota { blocks ≤ quota_of (state self.old).held.quotas user }
-        ensures works { Works self.new }
+        ensures usable { Usable self.new }
         ensures keeps { Keeps self.old self.new }
         ensures resizes { Resizes user blocks (state self.old) (state self.new) };
 
     /// Gives a user so many blocks of plus zeros in place of all that it has.
     fn replace(&mut self, user: UserNo, blocks: u8)
-        requires works { Works self.old }
+        requires usable { Usable self.old }
         requires user { user < length (state self.old).held.sizes }
         requires quota { blocks ≤ quota_of (state self.old).held.quotas user }
-        ensures works { Works self.new }
+        ensures usable { Usable self.new }
         ensures keeps { Keeps self.old self.new }
         ensures replaces { Replaces user blocks (state self.old) (state self.new) };
 
     /// A user's session is over: its blocks go, and its files of mode 0.
     fn hang_up(&mut self, user: UserNo)
-        requires works { Works self.old }
+        requires usable { Usable self.old }
         requires user { user < length (state self.old).held.sizes }
         requires directory { user ≤ (state self.old).held.users }
-        ensures works { Works self.new }
+        ensures usable { Usable self.new }
         ensures keeps { Keeps self.old self.new }
         ensures hangs { HangsUp user (state self.old) (state self.new) };
 
     /// A step of the session of a user whose blocks are all in core.
     fn turn(&mut self, user: UserNo, session: &mut Session, now: u64) -> Result<Turn, StepFault>
-        requires works { Works self.old }
+        requires usable { Usable self.old }
         requires user { user < length (state self.old).held.sizes }
         requires directory { user ≤ (state self.old).held.users }
         requires loaded { is_loaded (state self.old).held.places user (size (state self.old) user) ≡ true }
@@ -94,10 +94,10 @@ pub trait Backing {
         ensures account { session.new.inner.account ≡ session.old.inner.account }
         ensures err { OnErr result (session.new ≡ session.old) }
         ensures left { IsErrOf result StepFault.NoMemory → (state self.new).window user ≡ (state self.old).window user }
-        ensures works { ¬ IsErrOf result StepFault.Disk → Works self.new }
+        ensures usable { ¬ IsErrOf result StepFault.Disk → Usable self.new }
         ensures keeps { Keeps self.old self.new }
         ensures worked { ¬ IsErrOf result StepFault.Disk → WorksIn 0 user (state self.old) (state self.new) }
-        ensures kept { (state self.old).disk_faults ≤ (state self.new).disk_faults }
+        ensures faults_grow { (state self.old).disk_faults ≤ (state self.new).disk_faults }
         ensures fails { IsErrOf result StepFault.Disk → DiskFails (state self.old) (state self.new) };
 
     /// A step of the session of a user whose blocks are all in core, which is to make an operation on the common files: that is done,
@@ -109,7 +109,7 @@ pub trait Backing {
         op: &CommonOp,
         now: u64,
     ) -> Result<Made, StepFault>
-        requires works { Works self.old }
+        requires usable { Usable self.old }
         requires user { user < length (state self.old).held.sizes }
         requires directory { user ≤ (state self.old).held.users }
         requires loaded { is_loaded (state self.old).held.places user (size (state self.old) user) ≡ true }
@@ -122,16 +122,16 @@ pub trait Backing {
         ensures account { session.new.inner.account ≡ session.old.inner.account }
         ensures err { OnErr result (session.new ≡ session.old) }
         ensures left { IsErrOf result StepFault.NoMemory → LeavesUsers (state self.old) (state self.new) }
-        ensures works { ¬ IsErrOf result StepFault.Disk → Works self.new }
+        ensures usable { ¬ IsErrOf result StepFault.Disk → Usable self.new }
         ensures keeps { Keeps self.old self.new }
         ensures worked { OnOk result (WorksIn 1 user (state self.old) (state self.new)) }
-        ensures kept { (state self.old).disk_faults ≤ (state self.new).disk_faults }
+        ensures faults_grow { (state self.old).disk_faults ≤ (state self.new).disk_faults }
         ensures fails { IsErrOf result StepFault.Disk → DiskFails (state self.old) (state self.new) };
 
     /// As many instructions as go on, at most so many, of the session of a user whose blocks are all in core; and how many
     /// they were.
     fn advance(&mut self, user: UserNo, session: &mut Session, most: u64) -> u64
-        requires works { Works self.old }
+        requires usable { Usable self.old }
         requires user { user < length (state self.old).held.sizes }
         requires loaded { is_loaded (state self.old).held.places user (size (state self.old) user) ≡ true }
         requires fits { session.old.own + most < 2 ^ 64 }
@@ -139,14 +139,14 @@ pub trait Backing {
         ensures gone { HaveGone result session.old session.new
             ((state self.old).window user).core ((state self.new).window user).core }
         ensures files { ((state self.new).window user).files ≡ ((state self.old).window user).files }
-        ensures works { Works self.new }
+        ensures usable { Usable self.new }
         ensures keeps { Keeps self.old self.new }
         ensures worked { WorksIn 0 user (state self.old) (state self.new) }
         ensures disk { (state self.new).disk_faults ≡ (state self.old).disk_faults };
 
     /// All files. Nothing may be asked behind it.
     fn take_lists(&mut self, alloc: Global) -> Result<Lists, StepFault>
-        requires works { Works self.old }
+        requires usable { Usable self.old }
         ensures lists { (state self.old).held.tells ≡ true → IfOk result (λ lists. lists.own.items
             ≡ lists_from 1 (state self.old).held.users (λ u. ((state self.old).held.stores u).files)) }
         ensures common { (state self.old).held.tells ≡ true

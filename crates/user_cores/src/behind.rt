@@ -41,7 +41,7 @@ impl<C: Cores + Drop, P: Directories + Drop> Backing for Behind<C, P> {
 
     ghost state = { λ b. back_of (C.state b.cores) (P.state b.files) };
 
-    ghost Works = { λ b. C.Works b.cores × P.Works b.files };
+    ghost Usable = { λ b. C.Usable b.cores × P.Usable b.files };
 
     ghost Keeps = { λ a b. C.Keeps a.cores b.cores × P.Keeps a.files b.files };
 

@@ -23,7 +23,7 @@ pub trait Cores {
     ghost state: { Self → CoresState };
 
     /// No drum fault has come.
-    ghost Works: { Self → Type 0 };
+    ghost Usable: { Self → Type 0 };
 
     /// The same drum.
     ghost Keeps: { Self → Self → Type 0 };
@@ -35,27 +35,27 @@ pub trait Cores {
 
     /// Brings all of a user's blocks into core, and says what that moved.
     fn load(&mut self, user: UserNo) -> Result<Plan, DrumFault>
-        requires works { Works self.old }
+        requires usable { Usable self.old }
         requires user { user < length (state self.old).memory.sizes }
-        ensures works { OnOk result (Works self.new) }
+        ensures usable { OnOk result (Usable self.new) }
         ensures keeps { Keeps self.old self.new }
         ensures loads { Loads user result (state self.old) (state self.new) };
 
     /// Gives a user another size: its words are cut, or extended by plus zeros.
     fn resize(&mut self, user: UserNo, blocks: u8)
-        requires works { Works self.old }
+        requires usable { Usable self.old }
         requires user { user < length (state self.old).memory.sizes }
         requires quota { blocks ≤ quota_of (state self.old).memory.quotas user }
-        ensures works { Works self.new }
+        ensures usable { Usable self.new }
         ensures keeps { Keeps self.old self.new }
         ensures resizes { Resizes user blocks (state self.old) (state self.new) };
 
     /// Gives a user so many blocks of plus zeros in place of all that it has.
     fn replace(&mut self, user: UserNo, blocks: u8)
-        requires works { Works self.old }
+        requires usable { Usable self.old }
         requires user { user < length (state self.old).memory.sizes }
         requires quota { blocks ≤ quota_of (state self.old).memory.quotas user }
-        ensures works { Works self.new }
+        ensures usable { Usable self.new }
         ensures keeps { Keeps self.old self.new }
         ensures replaces { Replaces user blocks (state self.old) (state self.new) };
 
@@ -67,13 +67,13 @@ pub trait Cores {
         files: &mut P,
         now: u64,
     ) -> Result<Turn, StepFault>
-        requires works { Works self.old }
+        requires usable { Usable self.old }
         requires user { user < length (state self.old).memory.sizes }
         requires loaded { is_loaded (state self.old).memory.places user (size (state self.old) user) ≡ true }
         requires size { size (state self.old) user ≡ blocks_of session.old.inner }
         requires fits { session.old.own < 2 ^ 64 - 1 }
         requires time { now < 2 ^ 35 }
-        requires open { P.Works files.old }
+        requires open { P.Usable files.old }
         requires directory { user ≤ (P.state files.old).count }
         requires tracks { (P.state files.old).may user ≡ session.old.inner.account.tracks }
         ensures turn { IfOk result (λ turn. Over (P.state files.old).tells
@@ -83,10 +83,10 @@ pub trait Cores {
         ensures account { session.new.inner.account ≡ session.old.inner.account }
         ensures err { OnErr result (session.new ≡ session.old) }
         ensures err_words { OnErr result ((state self.new).window user ≡ (state self.old).window user) }
-        ensures works { Works self.new }
+        ensures usable { Usable self.new }
         ensures keeps { Keeps self.old self.new }
         ensures worked { WorksIn user (state self.old) (state self.new) }
-        ensures open { ¬ IsErrOf result StepFault.Disk → P.Works files.new }
+        ensures open { ¬ IsErrOf result StepFault.Disk → P.Usable files.new }
         ensures same { P.Keeps files.old files.new }
         ensures serves { Serves user result (P.state files.old) (P.state files.new) };
 
@@ -99,15 +99,15 @@ pub trait Cores {
         reply: &Reply,
         now: u64,
     ) -> Result<Step, StepFault>
-        requires works { Works self.old }
+        requires usable { Usable self.old }
         requires user { user < length (state self.old).memory.sizes }
         requires loaded { is_loaded (state self.old).memory.places user (size (state self.old) user) ≡ true }
         requires size { size (state self.old) user ≡ blocks_of session.old.inner }
         requires asks { (op : CommonOp) × IsToMake (P.state files.old).tells
             (stored ((state self.old).window user) ((P.state files.old).own user)) op session.old }
-        requires told { ReplyFits reply.now }
+        requires reply_fits { ReplyFits reply.now }
         requires fits { session.old.own < 2 ^ 64 - 1 }
-        requires open { P.Works files.old }
+        requires open { P.Usable files.old }
         requires directory { user ≤ (P.state files.old).count }
         requires tracks { (P.state files.old).may user ≡ session.old.inner.account.tracks }
         ensures step { (op : CommonOp) → IsToMake (P.state files.old).tells
@@ -119,24 +119,24 @@ pub trait Cores {
         ensures account { session.new.inner.account ≡ session.old.inner.account }
         ensures err { OnErr result (session.new ≡ session.old) }
         ensures err_words { OnErr result ((state self.new).window user ≡ (state self.old).window user) }
-        ensures works { Works self.new }
+        ensures usable { Usable self.new }
         ensures keeps { Keeps self.old self.new }
         ensures worked { WorksIn user (state self.old) (state self.new) }
-        ensures open { ¬ IsErrOf result StepFault.Disk → P.Works files.new }
+        ensures open { ¬ IsErrOf result StepFault.Disk → P.Usable files.new }
         ensures same { P.Keeps files.old files.new }
         ensures serves { Serves user result (P.state files.old) (P.state files.new) };
 
     /// As many instructions as go on, at most so many, of the session of a user whose blocks are all in core; and how many
     /// they were.
     fn advance(&mut self, user: UserNo, session: &mut Session, most: u64) -> u64
-        requires works { Works self.old }
+        requires usable { Usable self.old }
         requires user { user < length (state self.old).memory.sizes }
         requires loaded { is_loaded (state self.old).memory.places user (size (state self.old) user) ≡ true }
         requires fits { session.old.own + most < 2 ^ 64 }
         ensures most { result ≤ most }
         ensures gone { HaveGone result session.old session.new
             ((state self.old).window user) ((state self.new).window user) }
-        ensures works { Works self.new }
+        ensures usable { Usable self.new }
         ensures keeps { Keeps self.old self.new }
         ensures worked { WorksIn user (state self.old) (state self.new) };
 

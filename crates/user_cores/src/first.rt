@@ -26,15 +26,15 @@ pub fn first_cores<'a, D: Medium>(
     requires limit { (u : ℕ) → quota_in slots u ≤ 128 }
     requires sizes { sizes.items ≡ replicate (length slots.quotas.items) 0 }
     requires words { AreWords bank }
-    requires serves { Serves (D.rows drum.old) (D.record_count drum.old) (D.words_each drum.old) (records_of slots) }
+    requires serves { Serves (D.contents drum.old) (D.record_count drum.old) (D.words_each drum.old) (records_of slots) }
     ensures seen { (state result).drum ≡ seen D.Medium drum.entry }
     ensures drum { drum_of result ≡ drum.old }
-    ensures works { ⟦<Image<'a, D> as Cores>⟧.Works result }
+    ensures usable { ⟦<Image<'a, D> as Cores>⟧.Usable result }
     ensures words { (u : ℕ) → 1 ≤ u → (⟦<Image<'a, D> as Cores>⟧.state result).memory.words u ≡ [] }
     ensures places { (⟦<Image<'a, D> as Cores>⟧.state result).memory.places ≡ no_places }
     ensures sizes { (⟦<Image<'a, D> as Cores>⟧.state result).memory.sizes ≡ replicate (length slots.quotas.items) 0 }
     ensures quotas { (⟦<Image<'a, D> as Cores>⟧.state result).memory.quotas ≡ slots.quotas.items }
-    ensures tells { (⟦<Image<'a, D> as Cores>⟧.state result).memory.tells ≡ is_some (D.rows drum.old) }
+    ensures tells { (⟦<Image<'a, D> as Cores>⟧.state result).memory.tells ≡ is_some (D.contents drum.old) }
 {
     Image::over(drum, slots, bank, sizes)
 }

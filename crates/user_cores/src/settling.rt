@@ -10,13 +10,13 @@ use ctss_types::{Ending, UserNo};
 
 /// A user's core becomes as large as its step left it.
 pub fn settle<C: Backing>(cores: &mut C, user: UserNo, ending: Ending, blocks: u8)
-    requires works { C.Works cores.old }
+    requires usable { C.Usable cores.old }
     requires user { user < length (C.state cores.old).held.sizes }
     requires quota { blocks ≤ quota_of (C.state cores.old).held.quotas user }
     requires same { ending ≡ Went → size_of (C.state cores.old).held.sizes user ≡ blocks }
     ensures settled { IsSettled ending user blocks (C.state cores.old).held (C.state cores.new).held }
     ensures calls { (C.state cores.new).calls ≡ (C.state cores.old).calls }
-    ensures works { C.Works cores.new }
+    ensures usable { C.Usable cores.new }
     ensures keeps { C.Keeps cores.old cores.new }
     ensures faults { (C.state cores.new).faults ≡ (C.state cores.old).faults }
     ensures disk { (C.state cores.new).disk_faults ≡ (C.state cores.old).disk_faults }

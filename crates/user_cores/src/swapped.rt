@@ -11,11 +11,11 @@ impl<D: Medium> Cores for Image<'_, D> {
     ghost use Rattle.std.specs.Prelude.{◌≡◌, refl};
     ghost use Rattle.std.proofs.Common.{◌∙◌};
     ghost use Rattle.image_map.specs.Image.{state as shown};
-    ghost use Rattle.user_cores.specs.Works.{IsWhole, cores_in};
+    ghost use Rattle.user_cores.specs.Usable.{IsWhole, cores_in};
 
     ghost state = { λ i. cores_in (shown i) };
 
-    ghost Works = { λ i. IsWhole (shown i) };
+    ghost Usable = { λ i. IsWhole (shown i) };
 
     ghost Keeps = { λ a b. (shown b).drum.name ≡ (shown a).drum.name };
 

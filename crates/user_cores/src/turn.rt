@@ -29,7 +29,7 @@ pub fn turn_in<P: Directories>(
     requires size { blocks ≡ blocks_of session.old.inner }
     requires fits { session.old.own < 2 ^ 64 - 1 }
     requires time { now < 2 ^ 35 }
-    requires open { P.Works files.old }
+    requires open { P.Usable files.old }
     requires directory { user ≤ (P.state files.old).count }
     requires tracks { (P.state files.old).may user ≡ session.old.inner.account.tracks }
     ensures words { AreWords bank.new }
@@ -42,7 +42,7 @@ pub fn turn_in<P: Directories>(
     ensures err { OnErr result (session.new ≡ session.old) }
     ensures err_words { OnErr result (take (256 * blocks) bank.new ≡ take (256 * blocks) bank.old) }
     ensures rest { drop (256 * blocks) bank.new ≡ drop (256 * blocks) bank.old }
-    ensures open { ¬ IsErrOf result StepFault.Disk → P.Works files.new }
+    ensures open { ¬ IsErrOf result StepFault.Disk → P.Usable files.new }
     ensures same { P.Keeps files.old files.new }
     ensures serves { Serves user result (P.state files.old) (P.state files.new) }
 {
@@ -66,9 +66,9 @@ pub fn reply_in<P: Directories>(
     requires size { blocks ≡ blocks_of session.old.inner }
     requires asks { (op : CommonOp) × IsToMake (P.state files.old).tells
         (stored (take (256 * blocks) bank.old) ((P.state files.old).own user)) op session.old }
-    requires told { ReplyFits reply.now }
+    requires reply_fits { ReplyFits reply.now }
     requires fits { session.old.own < 2 ^ 64 - 1 }
-    requires open { P.Works files.old }
+    requires open { P.Usable files.old }
     requires directory { user ≤ (P.state files.old).count }
     requires tracks { (P.state files.old).may user ≡ session.old.inner.account.tracks }
     ensures words { AreWords bank.new }
@@ -83,7 +83,7 @@ pub fn reply_in<P: Directories>(
     ensures err { OnErr result (session.new ≡ session.old) }
     ensures err_words { OnErr result (take (256 * blocks) bank.new ≡ take (256 * blocks) bank.old) }
     ensures rest { drop (256 * blocks) bank.new ≡ drop (256 * blocks) bank.old }
-    ensures open { ¬ IsErrOf result StepFault.Disk → P.Works files.new }
+    ensures open { ¬ IsErrOf result StepFault.Disk → P.Usable files.new }
     ensures same { P.Keeps files.old files.new }
     ensures serves { Serves user result (P.state files.old) (P.state files.new) }
 {

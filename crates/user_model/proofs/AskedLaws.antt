@@ -1,10 +1,10 @@
 -- What is known of a user whose next step is to make a common operation.
-use Rattle.std.proofs.Common.{◌≡◌, ℕ, Bool, true, false, ◌&&◌, List, [], ◌∷◌, Option, Some, None, refl, sym, ap, ◌∙◌}
+use Rattle.std.proofs.Common.{◌≡◌, Bool, true, false, ◌&&◌, List, [], ◌∷◌, Option, Some, None, refl, sym, ap, ◌∙◌}
 use Rattle.std.specs.Prelude.{slice_get}
 use Rattle.time_sharing.specs.Machine.{Line, CommonOp}
 use Rattle.time_sharing.specs.Rows.{some_line}
 use Rattle.ctss_types.specs.Names.{NamePair}
-use Rattle.machine_model.specs.Machine.{table}
+use Rattle.machine_model.specs.Machine.{step_of}
 use Rattle.program_model.specs.declared.Fill.{Fill}
 use Rattle.user_model.specs.Requests.{command_of}
 use Rattle.user_model.specs.Commands.{command_asks}
@@ -24,10 +24,10 @@ asked_on p can = (both p.on _ can).0
 
 -- a program that works has nothing that is still to be stored
 pub asked_filled : (p : User) (op : CommonOp) → works_in p.inner.state ≡ true → asks_common p ≡ Some op →
-    (p.inner.fill ≡ None) × (step_asks (table p.inner.regs p.inner.core) p.inner ≡ Some op)
+    (p.inner.fill ≡ None) × (step_asks (step_of p.inner.regs p.inner.core) p.inner ≡ Some op)
 asked_filled p op h makes = by_fill p.inner.fill refl (sym (program_makes p h) ∙ makes)
   where
-    by_fill : (f : Option Fill) → p.inner.fill ≡ f → program_asks_common p.inner.fill p.inner ≡ Some op → (p.inner.fill ≡ None) × (step_asks (table p.inner.regs p.inner.core) p.inner ≡ Some op)
+    by_fill : (f : Option Fill) → p.inner.fill ≡ f → program_asks_common p.inner.fill p.inner ≡ Some op → (p.inner.fill ≡ None) × (step_asks (step_of p.inner.regs p.inner.core) p.inner ≡ Some op)
     by_fill None is asks = (is, sym (ap (λ (f : Option Fill). program_asks_common f p.inner) is) ∙ asks)
     by_fill (Some f) is asks = let none : None ≡ Some op = sym (ap (λ (f : Option Fill). program_asks_common f p.inner) is) ∙ asks in cc
 

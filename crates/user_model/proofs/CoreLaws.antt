@@ -5,7 +5,7 @@ use Rattle.time_sharing.specs.Machine.{Line, Item, Ending, Went, Done}
 use Rattle.time_sharing.specs.Rows.{Outcome, is_logout, out_all, in_line, behind, first_line}
 use Rattle.cpu_regs.specs.declared.regs.Regs.{Regs}
 use Rattle.machine_model.specs.Step.{Step, went}
-use Rattle.machine_model.specs.Machine.{table}
+use Rattle.machine_model.specs.Machine.{step_of}
 use Rattle.user_model.specs.Inner.{Inner, Stored, recut}
 use Rattle.user_model.specs.Programs.{step_row, step_asks, reads_line}
 use Rattle.user_model.specs.Session.{works_in}
@@ -41,34 +41,34 @@ pub recut_none : (c : List ℕ) → recut 0 c ≡ []
 recut_none c = let e : 256 * 0 - length c ≡ 0 = omega arith in none_more (256 * 0 - length c) e
 
 -- what a step leaves that doesn't log out
-stays : (b : Bool) (line : Option Line) (o : Outcome Inner) (q : User) → is_logout o.ending ≡ false → q.on ≡ true → q.given ≡ 0 →
-    left b line o q ≡ record q { inner = o.inner; unread = behind line q.unread; transcript = q.transcript ++ (in_line line ++ out_all o.written); own = suc q.own; before = if b then q.own else q.before }
+stays : (b : Bool) (line : Option Line) (o : Outcome Inner) (q : User) → is_logout o.ending ≡ false → q.on ≡ true → q.fed ≡ 0 →
+    left b line o q ≡ record q { inner = o.inner; unread = behind line q.unread; transcript = q.transcript ++ (in_line line ++ out_all o.written); own = suc q.own; own_at_command = if b then q.own else q.own_at_command }
 unfolding left
-stays b line o q inside on zero_given = λ j. record q {
+stays b line o q inside on none_fed = λ j. record q {
   inner = o.inner;
   on = ((ap not inside) ∙ sym on) j;
   unread = cond (inside j) [] (behind line q.unread);
-  given = sym zero_given j;
+  fed = sym none_fed j;
   transcript = q.transcript ++ (in_line line ++ out_all o.written);
   own = suc q.own;
-  before = if b then q.own else q.before;
+  own_at_command = if b then q.own else q.own_at_command;
 }
 
 -- a step of a program, from the row of what the machine gives
-by_row : (t : ℕ) (p : User) (c : Stored) (words : List ℕ) (s : Step) (line : Option Line) (i : Inner) (written : List Line) (e : Ending) → works_in p.inner.state ≡ true → p.inner.fill ≡ None → table p.inner.regs c.core ≡ s → p.on ≡ true → p.given ≡ 0 →
+by_row : (t : ℕ) (p : User) (c : Stored) (words : List ℕ) (s : Step) (line : Option Line) (i : Inner) (written : List Line) (e : Ending) → works_in p.inner.state ≡ true → p.inner.fill ≡ None → step_of p.inner.regs c.core ≡ s → p.on ≡ true → p.fed ≡ 0 →
     first_line (reads_line s (in_store c p).inner) p.unread ≡ line → step_asks s (in_store c p).inner ≡ None →
-    step_row s (in_store c p).inner line (suc p.own - p.before) t ≡ record { inner = record i { core = words; files = c.files }; written = written; front = []; ending = e } → is_logout e ≡ false →
+    step_row s (in_store c p).inner line (suc p.own - p.own_at_command) t ≡ record { inner = record i { core = words; files = c.files }; written = written; front = []; ending = e } → is_logout e ≡ false →
     in_store (record c { core = words }) (record p { inner = i; unread = behind line p.unread; transcript = p.transcript ++ (in_line line ++ out_all written); own = suc p.own }) ≡ step t Done (in_store c p)
-by_row t p c words s line i written e h none is on zero_given first alone row inside = sym (
-    run_left t (in_store c p) s h none is zero_given alone
-    ∙ ap (λ (l : Option Line). left false l (step_row s (in_store c p).inner l (suc p.own - p.before) t) (in_store c p)) first
+by_row t p c words s line i written e h none is on none_fed first alone row inside = sym (
+    run_left t (in_store c p) s h none is none_fed alone
+    ∙ ap (λ (l : Option Line). left false l (step_row s (in_store c p).inner l (suc p.own - p.own_at_command) t) (in_store c p)) first
     ∙ ap (λ (o : Outcome Inner). left false line o (in_store c p)) row
-    ∙ stays false line (record { inner = record i { core = words; files = c.files }; written = written; front = []; ending = e }) (in_store c p) inside on zero_given
+    ∙ stays false line (record { inner = record i { core = words; files = c.files }; written = written; front = []; ending = e }) (in_store c p) inside on none_fed
     )
 
 -- other registers, and any words
-pub plain_step : (t : ℕ) (p : User) (c : Stored) (words : List ℕ) (r : Regs) → works_in p.inner.state ≡ true → p.inner.fill ≡ None → table p.inner.regs c.core ≡ went r words → p.on ≡ true → p.given ≡ 0 →
+pub plain_step : (t : ℕ) (p : User) (c : Stored) (words : List ℕ) (r : Regs) → works_in p.inner.state ≡ true → p.inner.fill ≡ None → step_of p.inner.regs c.core ≡ went r words → p.on ≡ true → p.fed ≡ 0 →
     in_store (record c { core = words }) (record p { inner = record p.inner { regs = r }; own = suc p.own }) ≡ step t Done (in_store c p)
-plain_step t p c words r h none is on zero_given =
+plain_step t p c words r h none is on none_fed =
     ap (λ (ts : List Item). in_store (record c { core = words }) (record p { inner = record p.inner { regs = r }; transcript = ts; own = suc p.own })) (sym (nil p.transcript))
-    ∙ by_row t p c words (went r words) None (record p.inner { regs = r }) [] Went h none is on zero_given refl refl refl refl
+    ∙ by_row t p c words (went r words) None (record p.inner { regs = r }) [] Went h none is on none_fed refl refl refl refl

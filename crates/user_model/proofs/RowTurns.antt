@@ -7,7 +7,7 @@ use Rattle.time_sharing.specs.Machine.{Line, Item, Ending, CommonOp, Reply, Done
 use Rattle.time_sharing.specs.Rows.{Outcome, some_line, is_logout, in_line, out_all, behind}
 use Rattle.ctss_types.specs.Names.{NamePair}
 use Rattle.machine_model.specs.Step.{Step, entry}
-use Rattle.machine_model.specs.Machine.{table}
+use Rattle.machine_model.specs.Machine.{step_of}
 use Rattle.program_model.specs.declared.Call.{Call}
 use Rattle.program_model.specs.declared.EntryFault.{EntryFault}
 use Rattle.program_model.specs.Calls.{call_of}
@@ -18,7 +18,7 @@ use Rattle.user_model.specs.Requests.{command_of}
 use Rattle.user_model.specs.Commands.{command_row, command_asks, command_replied, input_row}
 use Rattle.user_model.specs.Programs.{reads_line, asks_time, step_asks, step_replied, entry_asks, is_read, goes, filled_program}
 use Rattle.user_model.specs.Session.{works_in, is_none}
-use Rattle.user_model.specs.User.{User, can_step, asks_common, in_store, core_after, store_after, IsStep}
+use Rattle.user_model.specs.User.{User, can_step, asks_common, in_store, store_after, IsStep}
 use Rattle.user_model.specs.Steps.{left}
 use Rattle.user_model.specs.Answers.{IsRow, noted, line_count, by_row, step_line, step_said, DidStep, DidFill, DidEntry, DidCommand, DidInput, EntryReplied, CommandReplied}
 use Rattle.user_model.proofs.StepLaws.{run_left, run_ends, run_asks, run_makes, run_can, run_replied_left, run_replied_ends, run_replied_asks, run_takes_none, command_left, command_ends, command_clock, command_makes, command_can, command_replied_left, command_replied_ends, input_left, input_ends, input_asks, input_makes, fill_left, fill_ends, fill_asks, fill_makes, fill_can}
@@ -41,20 +41,20 @@ behind_is None xs = refl
 behind_is (Some l) [] = refl
 behind_is (Some l) (x ∷ xs) = refl
 
-given_back : (can b : Bool) (line : Option Line) (o : Outcome Inner) (asks : Bool) (e : Ending) (asked : Bool) (p q : User) (c d : Stored) → p.on ≡ true → p.given ≡ 0 → IsRow can b line o asks e asked p q d →
+given_back : (can b : Bool) (line : Option Line) (o : Outcome Inner) (asks : Bool) (e : Ending) (asked : Bool) (p q : User) (c d : Stored) → p.on ≡ true → p.fed ≡ 0 → IsRow can b line o asks e asked p q c d →
     in_store (store_after e q.inner.blocks d) q ≡ left b line o (in_store c p)
 unfolding left
-given_back can b line o asks e asked p q c d on zero_given is =
+given_back can b line o asks e asked p q c d on none_fed is =
     (λ j. in_store (store_after e (is.1 j).inner.blocks d) (is.1 j))
     ∙ (λ j. in_store (record { core = is.2 j; files = is.3 j }) (by_row b line o p))
     ∙ (λ j. record p {
       inner = o.inner;
       on = still_on (is_logout o.ending) p.on on j;
       unread = if is_logout o.ending then [] else behind_is line p.unread j;
-      given = zero_given j;
+      fed = none_fed j;
       transcript = noted_is p.transcript (in_line line ++ out_all o.written) j;
       own = suc p.own;
-      before = if b then p.own else p.before;
+      own_at_command = if b then p.own else p.own_at_command;
     })
 
 -- a step that could be done and makes no common operation
@@ -68,39 +68,41 @@ alone None h = refl
 alone (Some op) h = cc
 
 -- what the machine gave
-pub row_turn : (t : ℕ) (p q : User) (c d : Stored) (s : Step) (e : Ending) (asked : Bool) → works_in p.inner.state ≡ true → p.inner.fill ≡ None → table p.inner.regs c.core ≡ s → p.on ≡ true → p.given ≡ 0
+pub row_turn : (t : ℕ) (p q : User) (c d : Stored) (s : Step) (e : Ending) (asked : Bool) → works_in p.inner.state ≡ true → p.inner.fill ≡ None → step_of p.inner.regs c.core ≡ s → p.on ≡ true → p.fed ≡ 0
     → DidStep s e asked t p q c d
     → IsStep e asked None t Done p q c d
-row_turn t p q c d s e asked h none is on zero_given row =
+row_turn t p q c d s e asked h none is on none_fed row =
     let can = both (is_none (step_asks s (in_store c p).inner)) (not (reads_line s (in_store c p).inner) || some_line p.unread) row.0 in
     let made : step_asks s (in_store c p).inner ≡ None = alone (step_asks s (in_store c p).inner) can.0 in
     record {
       can = run_can (in_store c p) s h none is ∙ (λ j. on j && can.1 j);
-      left = given_back (is_none (step_asks s (in_store c p).inner) && (not (reads_line s (in_store c p).inner) || some_line p.unread)) false (step_line s (in_store c p)) (step_said s t (in_store c p)) (asks_time s (in_store c p).inner) e asked p q c d on zero_given row ∙ sym (run_left t (in_store c p) s h none is zero_given made);
+      left = given_back (is_none (step_asks s (in_store c p).inner) && (not (reads_line s (in_store c p).inner) || some_line p.unread)) false (step_line s (in_store c p)) (step_said s t (in_store c p)) (asks_time s (in_store c p).inner) e asked p q c d on none_fed row ∙ sym (run_left t (in_store c p) s h none is none_fed made);
       ends = row.4 ∙ sym (run_ends t (in_store c p) s h none is made);
       asks = row.5 ∙ sym (run_asks (in_store c p) s h none is);
       makes = sym (run_makes (in_store c p) s h none is ∙ made);
+      words = row.6;
     }
 
 -- what was still to be stored
-pub fill_turn : (t : ℕ) (p q : User) (c d : Stored) (f : Fill) (e : Ending) (asked : Bool) → works_in p.inner.state ≡ true → p.inner.fill ≡ Some f → p.on ≡ true → p.given ≡ 0
+pub fill_turn : (t : ℕ) (p q : User) (c d : Stored) (f : Fill) (e : Ending) (asked : Bool) → works_in p.inner.state ≡ true → p.inner.fill ≡ Some f → p.on ≡ true → p.fed ≡ 0
     → DidFill f e asked p q c d
     → IsStep e asked None t Done p q c d
-fill_turn t p q c d f e asked h is on zero_given row =
+fill_turn t p q c d f e asked h is on none_fed row =
     record {
       can = fill_can (in_store c p) f h is ∙ on;
-      left = given_back true false None (goes (filled_program f (in_store c p).inner)) false e asked p q c d on zero_given row ∙ sym (fill_left t (in_store c p) f h is zero_given);
+      left = given_back true false None (goes (filled_program f (in_store c p).inner)) false e asked p q c d on none_fed row ∙ sym (fill_left t (in_store c p) f h is none_fed);
       ends = row.4 ∙ sym (fill_ends t (in_store c p) f h is);
       asks = row.5 ∙ sym (fill_asks (in_store c p) f h is);
       makes = sym (fill_makes (in_store c p) f h is);
+      words = row.6;
     }
 
 -- a supervisor entry
-pub entry_turn : (t : ℕ) (p q : User) (c d : Stored) (w : ℕ) (call : Result Call EntryFault) (e : Ending) (asked : Bool) → works_in p.inner.state ≡ true → p.inner.fill ≡ None → table p.inner.regs c.core ≡ entry w → call_of p.inner.regs c.core w ≡ call → p.on ≡ true → p.given ≡ 0
+pub entry_turn : (t : ℕ) (p q : User) (c d : Stored) (w : ℕ) (call : Result Call EntryFault) (e : Ending) (asked : Bool) → works_in p.inner.state ≡ true → p.inner.fill ≡ None → step_of p.inner.regs c.core ≡ entry w → call_of p.inner.regs c.core w ≡ call → p.on ≡ true → p.fed ≡ 0
     → DidEntry call e asked t p q c d
     → IsStep e asked None t Done p q c d
-entry_turn t p q c d w call e asked h none is what on zero_given row =
-    row_turn t p q c d (entry w) e asked h none is on zero_given
+entry_turn t p q c d w call e asked h none is what on none_fed row =
+    row_turn t p q c d (entry w) e asked h none is on none_fed
     (subst (λ (r : Result Call EntryFault). DidEntry r e asked t p q c d) (sym what) row)
 
 -- a command
@@ -109,57 +111,61 @@ some_at : (xs : List Line) (l : Line) → slice_get xs 0 ≡ Some l → some_lin
 some_at [] l h = cc
 some_at (x ∷ xs) l h = refl
 
-pub command_turn : (t : ℕ) (p q : User) (c d : Stored) (l : Line) (command : Command) (e : Ending) (asked : Bool) → works_in p.inner.state ≡ false → p.inner.input ≡ None → slice_get p.unread 0 ≡ Some l → command_of l ≡ command → p.on ≡ true → p.given ≡ 0
+pub command_turn : (t : ℕ) (p q : User) (c d : Stored) (l : Line) (command : Command) (e : Ending) (asked : Bool) → works_in p.inner.state ≡ false → p.inner.input ≡ None → slice_get p.unread 0 ≡ Some l → command_of l ≡ command → p.on ≡ true → p.fed ≡ 0
     → DidCommand l command e asked t p q c d
     → IsStep e asked None t Done p q c d
-command_turn t p q c d l command e asked h none first what on zero_given row =
+command_turn t p q c d l command e asked h none first what on none_fed row =
     let made : command_asks command (in_store c p).inner ≡ None = alone (command_asks command (in_store c p).inner) row.0 in
     record {
       can = command_can (in_store c p) h ∙ (λ j. on j && some_at p.unread l first j);
-      left = given_back (is_none (command_asks command (in_store c p).inner)) true (Some l) (command_row command (in_store c p).inner 1 t) true e asked p q c d on zero_given row ∙ sym (command_left t (in_store c p) l command h none first zero_given what made);
+      left = given_back (is_none (command_asks command (in_store c p).inner)) true (Some l) (command_row command (in_store c p).inner 1 t) true e asked p q c d on none_fed row ∙ sym (command_left t (in_store c p) l command h none first none_fed what made);
       ends = row.4 ∙ sym (command_ends t (in_store c p) l command h none first what made);
       asks = row.5 ∙ sym (command_clock (in_store c p) l h none first);
       makes = sym (command_makes (in_store c p) l command h none first what ∙ made);
+      words = row.6;
     }
 
 -- a line of INPUT
-pub input_turn : (t : ℕ) (p q : User) (c d : Stored) (l : Line) (name : NamePair) (e : Ending) (asked : Bool) → works_in p.inner.state ≡ false → p.inner.input ≡ Some name → slice_get p.unread 0 ≡ Some l → p.on ≡ true → p.given ≡ 0
+pub input_turn : (t : ℕ) (p q : User) (c d : Stored) (l : Line) (name : NamePair) (e : Ending) (asked : Bool) → works_in p.inner.state ≡ false → p.inner.input ≡ Some name → slice_get p.unread 0 ≡ Some l → p.on ≡ true → p.fed ≡ 0
     → DidInput l name e asked p q c d
     → IsStep e asked None t Done p q c d
-input_turn t p q c d l name e asked h some first on zero_given row =
+input_turn t p q c d l name e asked h some first on none_fed row =
     record {
       can = command_can (in_store c p) h ∙ (λ j. on j && some_at p.unread l first j);
-      left = given_back true false (Some l) (input_row name l (in_store c p).inner (suc p.own - p.before)) false e asked p q c d on zero_given row ∙ sym (input_left t (in_store c p) l name h some first zero_given);
+      left = given_back true false (Some l) (input_row name l (in_store c p).inner (suc p.own - p.own_at_command)) false e asked p q c d on none_fed row ∙ sym (input_left t (in_store c p) l name h some first none_fed);
       ends = row.4 ∙ sym (input_ends t (in_store c p) l name h some first);
       asks = row.5 ∙ sym (input_asks (in_store c p) l name h some first);
       makes = sym (input_makes (in_store c p) l name h some first);
+      words = row.6;
     }
 
 -- a command that made a common operation
-pub command_replied_turn : (t : ℕ) (r : Reply) (p q : User) (c d : Stored) (l : Line) (command : Command) (op : CommonOp) (e : Ending) (asked : Bool) → works_in p.inner.state ≡ false → p.inner.input ≡ None → slice_get p.unread 0 ≡ Some l → command_of l ≡ command → p.on ≡ true → p.given ≡ 0
+pub command_replied_turn : (t : ℕ) (r : Reply) (p q : User) (c d : Stored) (l : Line) (command : Command) (op : CommonOp) (e : Ending) (asked : Bool) → works_in p.inner.state ≡ false → p.inner.input ≡ None → slice_get p.unread 0 ≡ Some l → command_of l ≡ command → p.on ≡ true → p.fed ≡ 0
     → CommandReplied l command op r e asked t p q c d
     → IsStep e asked (Some op) t r p q c d
-command_replied_turn t r p q c d l command op e asked h none first what on zero_given row =
+command_replied_turn t r p q c d l command op e asked h none first what on none_fed row =
     record {
       can = command_can (in_store c p) h ∙ (λ j. on j && some_at p.unread l first j);
-      left = given_back true true (Some l) (command_replied command (in_store c p).inner 1 t r) true e asked p q c d on zero_given row.1 ∙ sym (command_replied_left t r (in_store c p) l command op h none first zero_given what row.0);
+      left = given_back true true (Some l) (command_replied command (in_store c p).inner 1 t r) true e asked p q c d on none_fed row.1 ∙ sym (command_replied_left t r (in_store c p) l command op h none first none_fed what row.0);
       ends = row.1.4 ∙ sym (command_replied_ends t r (in_store c p) l command op h none first what row.0);
       asks = row.1.5 ∙ sym (command_clock (in_store c p) l h none first);
       makes = sym (command_makes (in_store c p) l command h none first what ∙ row.0);
+      words = row.1.6;
     }
 
 -- a supervisor entry that made one
-pub entry_replied_turn : (t : ℕ) (r : Reply) (p q : User) (c d : Stored) (w : ℕ) (call : Result Call EntryFault) (op : CommonOp) (e : Ending) (asked : Bool) → works_in p.inner.state ≡ true → p.inner.fill ≡ None → table p.inner.regs c.core ≡ entry w → call_of p.inner.regs c.core w ≡ call → p.on ≡ true → p.given ≡ 0
+pub entry_replied_turn : (t : ℕ) (r : Reply) (p q : User) (c d : Stored) (w : ℕ) (call : Result Call EntryFault) (op : CommonOp) (e : Ending) (asked : Bool) → works_in p.inner.state ≡ true → p.inner.fill ≡ None → step_of p.inner.regs c.core ≡ entry w → call_of p.inner.regs c.core w ≡ call → p.on ≡ true → p.fed ≡ 0
     → EntryReplied call op r e asked p q c d
     → IsStep e asked (Some op) t r p q c d
-entry_replied_turn t r p q c d w call op e asked h none is what on zero_given said =
+entry_replied_turn t r p q c d w call op e asked h none is what on none_fed said =
     let row : EntryReplied (call_of p.inner.regs c.core w) op r e asked p q c d = subst (λ (x : Result Call EntryFault). EntryReplied x op r e asked p q c d) (sym what) said in
     record {
       can = run_can (in_store c p) (entry w) h none is ∙ (λ j. on j && (not (run_takes_none (in_store c p) (entry w) op row.0 j) || some_line p.unread));
-      left = given_back true false None (step_replied (entry w) (in_store c p).inner r) false e asked p q c d on zero_given row.1 ∙ sym (run_replied_left t r (in_store c p) (entry w) op h none is zero_given row.0);
+      left = given_back true false None (step_replied (entry w) (in_store c p).inner r) false e asked p q c d on none_fed row.1 ∙ sym (run_replied_left t r (in_store c p) (entry w) op h none is none_fed row.0);
       ends = row.1.4 ∙ sym (run_replied_ends t r (in_store c p) (entry w) op h none is row.0);
       asks = row.1.5 ∙ sym (run_asks (in_store c p) (entry w) h none is ∙ run_replied_asks (entry w) (in_store c p).inner op row.0);
       makes = sym (run_makes (in_store c p) (entry w) h none is ∙ row.0);
+      words = row.1.6;
     }
 
 -- a command that is to make one, and an entry
@@ -168,7 +174,7 @@ pub command_asked : (p : User) (c : Stored) (l : Line) (command : Command) (op :
 command_asked p c l command op h none first what on makes =
     (command_can (in_store c p) h ∙ (λ j. on j && some_at p.unread l first j), command_makes (in_store c p) l command h none first what ∙ makes)
 
-pub entry_asked : (p : User) (c : Stored) (w : ℕ) (call : Result Call EntryFault) (op : CommonOp) → works_in p.inner.state ≡ true → p.inner.fill ≡ None → table p.inner.regs c.core ≡ entry w → call_of p.inner.regs c.core w ≡ call → p.on ≡ true
+pub entry_asked : (p : User) (c : Stored) (w : ℕ) (call : Result Call EntryFault) (op : CommonOp) → works_in p.inner.state ≡ true → p.inner.fill ≡ None → step_of p.inner.regs c.core ≡ entry w → call_of p.inner.regs c.core w ≡ call → p.on ≡ true
     → entry_asks call c.core ≡ Some op → (can_step (in_store c p) ≡ true) × (asks_common (in_store c p) ≡ Some op)
 entry_asked p c w call op h none is what on said =
     let makes : step_asks (entry w) (in_store c p).inner ≡ Some op = ap (λ (x : Result Call EntryFault). entry_asks x c.core) what ∙ said in
@@ -183,7 +189,7 @@ and_none : (a : Bool) → (a && false) ≡ false
 and_none true = refl
 and_none false = refl
 
-pub entry_waits : (p : User) (c : Stored) (w : ℕ) (call : Result Call EntryFault) → works_in p.inner.state ≡ true → p.inner.fill ≡ None → table p.inner.regs c.core ≡ entry w → call_of p.inner.regs c.core w ≡ call
+pub entry_waits : (p : User) (c : Stored) (w : ℕ) (call : Result Call EntryFault) → works_in p.inner.state ≡ true → p.inner.fill ≡ None → step_of p.inner.regs c.core ≡ entry w → call_of p.inner.regs c.core w ≡ call
     → is_read call ≡ true → slice_get p.unread 0 ≡ None → can_step (in_store c p) ≡ false
 entry_waits p c w call h none is what reads empty =
     run_can (in_store c p) (entry w) h none is

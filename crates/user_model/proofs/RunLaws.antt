@@ -3,7 +3,7 @@ use Rattle.std.proofs.Common.{refl, ◌≡◌, ℕ, suc, ◌+◌, Bool, true, fa
 use Rattle.time_sharing.specs.Machine.{Went, Done}
 use Rattle.cpu_regs.specs.declared.regs.Regs.{Regs}
 use Rattle.machine_model.specs.Step.{went}
-use Rattle.machine_model.specs.Machine.{table}
+use Rattle.machine_model.specs.Machine.{step_of}
 use Rattle.machine_model.specs.Runs.{many}
 use Rattle.machine_model.proofs.Runs.{many_none, none_regs, none_words}
 use Rattle.user_model.specs.User.{User, can_step, step, ending, asks_clock, asks_common, in_store}
@@ -14,26 +14,26 @@ use Rattle.user_model.proofs.StepLaws.{run_ends, run_asks, run_makes, run_can}
 
 -- the work goes on
 pub work_on : (n : ℕ) (r : Regs) (p : User) → IsAtWork p → IsAtWork (gone n r p)
-work_on n r p work = record { on = work.on; works = work.works; filled = work.filled; given = work.given }
+work_on n r p work = record { on = work.on; works = work.works; filled = work.filled; fed = work.fed }
 
-pub work_can : (p : User) (c : Stored) (d : List ℕ) (r : Regs) → IsAtWork p → table p.inner.regs c.core ≡ went r d → can_step (in_store c p) ≡ true
+pub work_can : (p : User) (c : Stored) (d : List ℕ) (r : Regs) → IsAtWork p → step_of p.inner.regs c.core ≡ went r d → can_step (in_store c p) ≡ true
 work_can p c d r work goes = run_can (in_store c p) (went r d) work.works work.filled goes ∙ ap (λ (b : Bool). b && true) work.on
 
-pub work_ends : (t : ℕ) (p : User) (c : Stored) (d : List ℕ) (r : Regs) → IsAtWork p → table p.inner.regs c.core ≡ went r d → ending t Done (in_store c p) ≡ Went
+pub work_ends : (t : ℕ) (p : User) (c : Stored) (d : List ℕ) (r : Regs) → IsAtWork p → step_of p.inner.regs c.core ≡ went r d → ending t Done (in_store c p) ≡ Went
 work_ends t p c d r work goes = run_ends t (in_store c p) (went r d) work.works work.filled goes refl
 
-pub work_asks : (p : User) (c : Stored) (d : List ℕ) (r : Regs) → IsAtWork p → table p.inner.regs c.core ≡ went r d → asks_clock (in_store c p) ≡ false
+pub work_asks : (p : User) (c : Stored) (d : List ℕ) (r : Regs) → IsAtWork p → step_of p.inner.regs c.core ≡ went r d → asks_clock (in_store c p) ≡ false
 work_asks p c d r work goes = run_asks (in_store c p) (went r d) work.works work.filled goes
 
-pub work_makes : (p : User) (c : Stored) (d : List ℕ) (r : Regs) → IsAtWork p → table p.inner.regs c.core ≡ went r d → asks_common (in_store c p) ≡ None
+pub work_makes : (p : User) (c : Stored) (d : List ℕ) (r : Regs) → IsAtWork p → step_of p.inner.regs c.core ≡ went r d → asks_common (in_store c p) ≡ None
 work_makes p c d r work goes = run_makes (in_store c p) (went r d) work.works work.filled goes
 
-pub work_step : (t : ℕ) (p : User) (c : Stored) (d : List ℕ) (r : Regs) → IsAtWork p → table p.inner.regs c.core ≡ went r d →
+pub work_step : (t : ℕ) (p : User) (c : Stored) (d : List ℕ) (r : Regs) → IsAtWork p → step_of p.inner.regs c.core ≡ went r d →
     step t Done (in_store c p) ≡ in_store (record c { core = d }) (record p { inner = record p.inner { regs = r }; own = suc p.own })
-work_step t p c d r work goes = sym (plain_step t p c d r work.works work.filled goes work.on work.given)
+work_step t p c d r work goes = sym (plain_step t p c d r work.works work.filled goes work.on work.fed)
 
 -- one more instruction
-pub gone_more : (n t : ℕ) (p : User) (c : Stored) (d : List ℕ) (s r : Regs) → IsAtWork p → table s c.core ≡ went r d →
+pub gone_more : (n t : ℕ) (p : User) (c : Stored) (d : List ℕ) (s r : Regs) → IsAtWork p → step_of s c.core ≡ went r d →
     step t Done (in_store c (gone n s p)) ≡ in_store (record c { core = d }) (gone (suc n) r p)
 gone_more n t p c d s r work goes =
     work_step t (gone n s p) c d r (work_on n s p work) goes

@@ -3,7 +3,7 @@ use Rattle.std.proofs.Common.{◌≡◌, ℕ, suc, ◌-◌, ◌+◌, Bool, true,
 use Rattle.std.specs.Prelude.{slice_get, if◌then◌else◌, nat_eq, nat_lt}
 use Rattle.std.specs.declared.result.Result.{Result}
 use Rattle.time_sharing.specs.Machine.{Line, Went, Done, CommonOp, Reply}
-use Rattle.time_sharing.specs.Rows.{Outcome, some_line, is_logout, out_all, in_line, behind, one_less, first_line, line_of, before_of, done}
+use Rattle.time_sharing.specs.Rows.{Outcome, some_line, is_logout, out_all, in_line, behind, one_less, first_line, line_of, own_at_command_of, done}
 use Rattle.time_sharing.specs.System.{clock_for}
 use Rattle.ctss_types.specs.Names.{NamePair}
 use Rattle.ctss_types.specs.declared.file.FileBody.{FileBody}
@@ -12,7 +12,7 @@ use Rattle.ctss_types.specs.declared.file.Reply.TheVariants as reply
 use Rattle.file_model.specs.declared.Stat.{Stat}
 use Rattle.file_model.specs.Files.{file_named, stat, read, got, written, put, appended, renamed, deleted, moded}
 use Rattle.machine_model.specs.Step.{Step, went, halt, entry, illegal, outside}
-use Rattle.machine_model.specs.Machine.{table}
+use Rattle.machine_model.specs.Machine.{step_of}
 use Rattle.program_model.specs.declared.Call.{Call}
 use Rattle.program_model.specs.declared.Call.TheVariants.{ReadLine, WriteLine, GetTime, GetMemory, SetMemory, FileStat, ReadFile, WriteFile, DeleteFile, RenameFile, ChangeMode as ChangesMode, CommonStat, CommonRead, CommonWrite, CommonDelete, Dead as EndsDead, Dormant as EndsDormant}
 use Rattle.program_model.specs.declared.EntryFault.{EntryFault}
@@ -34,7 +34,7 @@ use Rattle.user_model.specs.declared.Command.TheVariants.{Empty, Logout, LoadGo,
 use Rattle.user_model.specs.Requests.{command_of}
 use Rattle.user_model.specs.Commands.{command_row, command_asks, command_replied, copy_target, words_copied, prepared, resumed, is_dormant, if_dormant, cards_name, assembly_put, cards_assembled, changed, input_made, input_begun, input_row, line_entered}
 use Rattle.user_model.specs.Programs.{step_row, step_asks, step_replied, entry_row, entry_asks, entry_replied, call_row, call_replied, reply_taken, program_asks_common, program_replied, file_told, file_read, files_changed, program_row, program_reads, program_asks, reads_line, is_clock, asks_time, is_read, filled_program, goes}
-use Rattle.user_model.specs.Session.{user_rows, works_in, is_none, counts_anew, act_in, act_by, asks_common_in, line_asks, line_asks_common, replied_in, line_replied, line_row, asks_clock_in, takes_line_in}
+use Rattle.user_model.specs.Session.{user_rows, works_in, is_none, counts_anew, act_in, act_by, asks_common_in, line_asks, replied_in, line_row, asks_clock_in, takes_line_in}
 use Rattle.user_model.specs.User.{User, can_step, step, ending, asks_clock, asks_common}
 use Rattle.user_model.specs.Steps.{left}
 
@@ -90,7 +90,7 @@ step_front (outside a) i l n t = refl
 
 program_front : (f : Option Fill) (i : Inner) (l : Option Line) (n t : ℕ) → (program_row f i l n t).front ≡ []
 program_front (Some f) i l n t = refl
-program_front None i l n t = step_front (table i.regs i.core) i l n t
+program_front None i l n t = step_front (step_of i.regs i.core) i l n t
 
 prepared_front : (name : ℕ) (deck : Result Deck LoadFault) (i : Inner) (n t : ℕ) → (prepared name deck i n t).front ≡ []
 prepared_front name (Ok d) i n t = refl
@@ -193,55 +193,55 @@ command_replied_front c i n t (reply.Words words) = copied_front (copy_target c)
 command_replied_front c i n t (reply.Refused r) = refl
 
 -- what the frame does with an outcome that puts no lines in front
-frame : (p : User) (line : Option Line) (o : Outcome Inner) → line_of user_rows p ≡ line → o.front ≡ [] → p.given ≡ 0 →
+frame : (p : User) (line : Option Line) (o : Outcome Inner) → line_of user_rows p ≡ line → o.front ≡ [] → p.fed ≡ 0 →
     done user_rows p o ≡ left (counts_anew p.inner) line o p
 unfolding left
-frame p line o is none zero_given =
+frame p line o is none none_fed =
     λ j. record p {
       inner = o.inner;
       on = not (is_logout o.ending);
       unread = if is_logout o.ending then [] else none j ++ behind (is j) p.unread;
-      given = given_is (is_logout o.ending) j;
+      fed = given_is (is_logout o.ending) j;
       transcript = p.transcript ++ (in_line (is j) ++ out_all o.written);
       own = suc p.own;
-      before = before_of user_rows p;
+      own_at_command = own_at_command_of user_rows p;
     }
   where
     one_less_none : (l : Option Line) (k : ℕ) → k ≡ 0 → one_less l k ≡ 0
     one_less_none None k e = e
     one_less_none (Some l) k e = ap (λ (n : ℕ). n - 1) e
 
-    given_is : (b : Bool) → (if b then 0 else length o.front + one_less (line_of user_rows p) p.given) ≡ 0
+    given_is : (b : Bool) → (if b then 0 else length o.front + one_less (line_of user_rows p) p.fed) ≡ 0
     given_is true = refl
-    given_is false = ap (λ (ls : List Line). length ls + one_less (line_of user_rows p) p.given) none ∙ zero-add (one_less (line_of user_rows p) p.given) ∙ one_less_none (line_of user_rows p) p.given zero_given
+    given_is false = ap (λ (ls : List Line). length ls + one_less (line_of user_rows p) p.fed) none ∙ zero-add (one_less (line_of user_rows p) p.fed) ∙ one_less_none (line_of user_rows p) p.fed none_fed
 
 -- a step that makes no common operation
 
 pub alone_left : (t : ℕ) (p : User) → asks_common p ≡ None →
-    step t Done p ≡ done user_rows p (act_in p.inner.state p.inner (line_of user_rows p) (suc p.own - before_of user_rows p) (clock_for (asks_clock_in p.inner.state p.inner (line_of user_rows p)) t))
+    step t Done p ≡ done user_rows p (act_in p.inner.state p.inner (line_of user_rows p) (suc p.own - own_at_command_of user_rows p) (clock_for (asks_clock_in p.inner.state p.inner (line_of user_rows p)) t))
 unfolding step asks_common
 alone_left t p alone =
-    ap (λ (made : Option CommonOp). done user_rows p (act_by made p.inner (line_of user_rows p) (suc p.own - before_of user_rows p) (clock_for (asks_clock_in p.inner.state p.inner (line_of user_rows p)) t) Done)) alone
+    ap (λ (made : Option CommonOp). done user_rows p (act_by made p.inner (line_of user_rows p) (suc p.own - own_at_command_of user_rows p) (clock_for (asks_clock_in p.inner.state p.inner (line_of user_rows p)) t) Done)) alone
 
 pub alone_ends : (t : ℕ) (p : User) → asks_common p ≡ None →
-    ending t Done p ≡ (act_in p.inner.state p.inner (line_of user_rows p) (suc p.own - before_of user_rows p) (clock_for (asks_clock_in p.inner.state p.inner (line_of user_rows p)) t)).ending
+    ending t Done p ≡ (act_in p.inner.state p.inner (line_of user_rows p) (suc p.own - own_at_command_of user_rows p) (clock_for (asks_clock_in p.inner.state p.inner (line_of user_rows p)) t)).ending
 unfolding ending asks_common
 alone_ends t p alone =
-    ap (λ (made : Option CommonOp). (act_by made p.inner (line_of user_rows p) (suc p.own - before_of user_rows p) (clock_for (asks_clock_in p.inner.state p.inner (line_of user_rows p)) t) Done).ending) alone
+    ap (λ (made : Option CommonOp). (act_by made p.inner (line_of user_rows p) (suc p.own - own_at_command_of user_rows p) (clock_for (asks_clock_in p.inner.state p.inner (line_of user_rows p)) t) Done).ending) alone
 
 -- a step that makes one
 
 pub replied_left : (t : ℕ) (r : Reply) (p : User) (op : CommonOp) → asks_common p ≡ Some op →
-    step t r p ≡ done user_rows p (replied_in p.inner.state p.inner (line_of user_rows p) (suc p.own - before_of user_rows p) (clock_for (asks_clock_in p.inner.state p.inner (line_of user_rows p)) t) r)
+    step t r p ≡ done user_rows p (replied_in p.inner.state p.inner (line_of user_rows p) (suc p.own - own_at_command_of user_rows p) (clock_for (asks_clock_in p.inner.state p.inner (line_of user_rows p)) t) r)
 unfolding step asks_common
 replied_left t r p op makes =
-    ap (λ (made : Option CommonOp). done user_rows p (act_by made p.inner (line_of user_rows p) (suc p.own - before_of user_rows p) (clock_for (asks_clock_in p.inner.state p.inner (line_of user_rows p)) t) r)) makes
+    ap (λ (made : Option CommonOp). done user_rows p (act_by made p.inner (line_of user_rows p) (suc p.own - own_at_command_of user_rows p) (clock_for (asks_clock_in p.inner.state p.inner (line_of user_rows p)) t) r)) makes
 
 pub replied_ends : (t : ℕ) (r : Reply) (p : User) (op : CommonOp) → asks_common p ≡ Some op →
-    ending t r p ≡ (replied_in p.inner.state p.inner (line_of user_rows p) (suc p.own - before_of user_rows p) (clock_for (asks_clock_in p.inner.state p.inner (line_of user_rows p)) t) r).ending
+    ending t r p ≡ (replied_in p.inner.state p.inner (line_of user_rows p) (suc p.own - own_at_command_of user_rows p) (clock_for (asks_clock_in p.inner.state p.inner (line_of user_rows p)) t) r).ending
 unfolding ending asks_common
 replied_ends t r p op makes =
-    ap (λ (made : Option CommonOp). (act_by made p.inner (line_of user_rows p) (suc p.own - before_of user_rows p) (clock_for (asks_clock_in p.inner.state p.inner (line_of user_rows p)) t) r).ending) makes
+    ap (λ (made : Option CommonOp). (act_by made p.inner (line_of user_rows p) (suc p.own - own_at_command_of user_rows p) (clock_for (asks_clock_in p.inner.state p.inner (line_of user_rows p)) t) r).ending) makes
 
 -- the clock matters only where it is asked for
 
@@ -278,7 +278,7 @@ step_clock (outside a) i l n t = refl
 
 program_clock : (f : Option Fill) (i : Inner) (l : Option Line) (n t : ℕ) → program_row f i l n (clock_for (program_asks f i) t) ≡ program_row f i l n t
 program_clock (Some f) i l n t = refl
-program_clock None i l n t = step_clock (table i.regs i.core) i l n t
+program_clock None i l n t = step_clock (step_of i.regs i.core) i l n t
 
 -- commands
 
@@ -321,11 +321,11 @@ counted : (p : User) → works_in p.inner.state ≡ false → p.inner.input ≡ 
 counted p h none = anew p.inner h ∙ ap is_none none
 
 command_outcome : (t : ℕ) (p : User) (l : Line) (c : Command) → works_in p.inner.state ≡ false → p.inner.input ≡ None → slice_get p.unread 0 ≡ Some l → command_of l ≡ c →
-    act_in p.inner.state p.inner (line_of user_rows p) (suc p.own - before_of user_rows p) (clock_for (asks_clock_in p.inner.state p.inner (line_of user_rows p)) t) ≡ command_row c p.inner 1 t
+    act_in p.inner.state p.inner (line_of user_rows p) (suc p.own - own_at_command_of user_rows p) (clock_for (asks_clock_in p.inner.state p.inner (line_of user_rows p)) t) ≡ command_row c p.inner 1 t
 command_outcome t p l c h none is e =
-    ap (λ (line : Option Line). act_in p.inner.state p.inner line (suc p.own - before_of user_rows p) (clock_for (asks_clock_in p.inner.state p.inner line) t)) (line_in_command p.inner.state p l h is)
-    ∙ act_command p.inner.state p.inner c l (suc p.own - before_of user_rows p) t h none e
-    ∙ ap (λ (n : ℕ). command_row c p.inner n t) (since (counts_anew p.inner) p.own p.before (counted p h none))
+    ap (λ (line : Option Line). act_in p.inner.state p.inner line (suc p.own - own_at_command_of user_rows p) (clock_for (asks_clock_in p.inner.state p.inner line) t)) (line_in_command p.inner.state p l h is)
+    ∙ act_command p.inner.state p.inner c l (suc p.own - own_at_command_of user_rows p) t h none e
+    ∙ ap (λ (n : ℕ). command_row c p.inner n t) (since (counts_anew p.inner) p.own p.own_at_command (counted p h none))
 
 -- the common operation that a line's step makes
 line_makes_in : (s : ProgramState) (i : Inner) (l : Line) → works_in s ≡ false → asks_common_in s i (Some l) ≡ line_asks i.input l i
@@ -346,7 +346,7 @@ pub input_makes : (p : User) (l : Line) (name : NamePair) → works_in p.inner.s
 input_makes p l name h some is = line_makes p l h is ∙ ap (λ (name : Option NamePair). line_asks name l p.inner) some
 
 -- a command's step
-pub command_left : (t : ℕ) (p : User) (l : Line) (c : Command) → works_in p.inner.state ≡ false → p.inner.input ≡ None → slice_get p.unread 0 ≡ Some l → p.given ≡ 0 → command_of l ≡ c → command_asks c p.inner ≡ None →
+pub command_left : (t : ℕ) (p : User) (l : Line) (c : Command) → works_in p.inner.state ≡ false → p.inner.input ≡ None → slice_get p.unread 0 ≡ Some l → p.fed ≡ 0 → command_of l ≡ c → command_asks c p.inner ≡ None →
     step t Done p ≡ left true (Some l) (command_row c p.inner 1 t) p
 command_left t p l c h input is none e alone =
     alone_left t p (command_makes p l c h input is e ∙ alone)
@@ -383,22 +383,22 @@ typed_on : (p : User) (name : NamePair) → works_in p.inner.state ≡ false →
 typed_on p name h some = anew p.inner h ∙ ap is_none some
 
 input_outcome : (t : ℕ) (p : User) (l : Line) (name : NamePair) → works_in p.inner.state ≡ false → p.inner.input ≡ Some name → slice_get p.unread 0 ≡ Some l →
-    act_in p.inner.state p.inner (line_of user_rows p) (suc p.own - before_of user_rows p) t ≡ input_row name l p.inner (suc p.own - p.before)
+    act_in p.inner.state p.inner (line_of user_rows p) (suc p.own - own_at_command_of user_rows p) t ≡ input_row name l p.inner (suc p.own - p.own_at_command)
 input_outcome t p l name h some is =
-    ap (λ (line : Option Line). act_in p.inner.state p.inner line (suc p.own - before_of user_rows p) t) (line_in_command p.inner.state p l h is)
-    ∙ act_input p.inner.state p.inner name l (suc p.own - before_of user_rows p) t h some
-    ∙ ap (λ (n : ℕ). input_row name l p.inner n) (since_before (counts_anew p.inner) p.own p.before (typed_on p name h some))
+    ap (λ (line : Option Line). act_in p.inner.state p.inner line (suc p.own - own_at_command_of user_rows p) t) (line_in_command p.inner.state p l h is)
+    ∙ act_input p.inner.state p.inner name l (suc p.own - own_at_command_of user_rows p) t h some
+    ∙ ap (λ (n : ℕ). input_row name l p.inner n) (since_before (counts_anew p.inner) p.own p.own_at_command (typed_on p name h some))
 
-pub input_left : (t : ℕ) (p : User) (l : Line) (name : NamePair) → works_in p.inner.state ≡ false → p.inner.input ≡ Some name → slice_get p.unread 0 ≡ Some l → p.given ≡ 0 →
-    step t Done p ≡ left false (Some l) (input_row name l p.inner (suc p.own - p.before)) p
+pub input_left : (t : ℕ) (p : User) (l : Line) (name : NamePair) → works_in p.inner.state ≡ false → p.inner.input ≡ Some name → slice_get p.unread 0 ≡ Some l → p.fed ≡ 0 →
+    step t Done p ≡ left false (Some l) (input_row name l p.inner (suc p.own - p.own_at_command)) p
 input_left t p l name h some is none =
     alone_left t p (input_makes p l name h some is)
     ∙ ap (done user_rows p) (input_outcome (clock_for (asks_clock_in p.inner.state p.inner (line_of user_rows p)) t) p l name h some is)
-    ∙ frame p (Some l) (input_row name l p.inner (suc p.own - p.before)) (line_in_command p.inner.state p l h is) (input_front name l p.inner (suc p.own - p.before)) none
-    ∙ ap (λ (b : Bool). left b (Some l) (input_row name l p.inner (suc p.own - p.before)) p) (typed_on p name h some)
+    ∙ frame p (Some l) (input_row name l p.inner (suc p.own - p.own_at_command)) (line_in_command p.inner.state p l h is) (input_front name l p.inner (suc p.own - p.own_at_command)) none
+    ∙ ap (λ (b : Bool). left b (Some l) (input_row name l p.inner (suc p.own - p.own_at_command)) p) (typed_on p name h some)
 
 pub input_ends : (t : ℕ) (p : User) (l : Line) (name : NamePair) → works_in p.inner.state ≡ false → p.inner.input ≡ Some name → slice_get p.unread 0 ≡ Some l →
-    ending t Done p ≡ (input_row name l p.inner (suc p.own - p.before)).ending
+    ending t Done p ≡ (input_row name l p.inner (suc p.own - p.own_at_command)).ending
 input_ends t p l name h some is =
     alone_ends t p (input_makes p l name h some is)
     ∙ ap (λ (o : Outcome Inner). o.ending) (input_outcome (clock_for (asks_clock_in p.inner.state p.inner (line_of user_rows p)) t) p l name h some is)
@@ -454,12 +454,12 @@ not_anew : (p : User) → works_in p.inner.state ≡ true → counts_anew p.inne
 not_anew p h = ap (λ (b : Bool). not b && is_none p.inner.input) h
 
 program_outcome : (t : ℕ) (p : User) → works_in p.inner.state ≡ true →
-    act_in p.inner.state p.inner (line_of user_rows p) (suc p.own - before_of user_rows p) (clock_for (asks_clock_in p.inner.state p.inner (line_of user_rows p)) t)
-    ≡ program_row p.inner.fill p.inner (program_line p) (suc p.own - p.before) t
+    act_in p.inner.state p.inner (line_of user_rows p) (suc p.own - own_at_command_of user_rows p) (clock_for (asks_clock_in p.inner.state p.inner (line_of user_rows p)) t)
+    ≡ program_row p.inner.fill p.inner (program_line p) (suc p.own - p.own_at_command) t
 program_outcome t p h =
-    act_program p.inner.state p.inner (line_of user_rows p) (suc p.own - before_of user_rows p) t h
-    ∙ ap (λ (line : Option Line). program_row p.inner.fill p.inner line (suc p.own - before_of user_rows p) t) (line_in_program p h)
-    ∙ ap (λ (n : ℕ). program_row p.inner.fill p.inner (program_line p) n t) (since_before (counts_anew p.inner) p.own p.before (not_anew p h))
+    act_program p.inner.state p.inner (line_of user_rows p) (suc p.own - own_at_command_of user_rows p) t h
+    ∙ ap (λ (line : Option Line). program_row p.inner.fill p.inner line (suc p.own - own_at_command_of user_rows p) t) (line_in_program p h)
+    ∙ ap (λ (n : ℕ). program_row p.inner.fill p.inner (program_line p) n t) (since_before (counts_anew p.inner) p.own p.own_at_command (not_anew p h))
 
 program_makes_in : (s : ProgramState) (i : Inner) (line : Option Line) → works_in s ≡ true → asks_common_in s i line ≡ program_asks_common i.fill i
 program_makes_in Dead i line h = cc
@@ -470,16 +470,16 @@ pub program_makes : (p : User) → works_in p.inner.state ≡ true → asks_comm
 unfolding asks_common
 program_makes p h = program_makes_in p.inner.state p.inner (line_of user_rows p) h
 
-program_step : (t : ℕ) (p : User) → works_in p.inner.state ≡ true → p.given ≡ 0 → program_asks_common p.inner.fill p.inner ≡ None →
-    step t Done p ≡ left false (program_line p) (program_row p.inner.fill p.inner (program_line p) (suc p.own - p.before) t) p
+program_step : (t : ℕ) (p : User) → works_in p.inner.state ≡ true → p.fed ≡ 0 → program_asks_common p.inner.fill p.inner ≡ None →
+    step t Done p ≡ left false (program_line p) (program_row p.inner.fill p.inner (program_line p) (suc p.own - p.own_at_command) t) p
 program_step t p h none alone =
     alone_left t p (program_makes p h ∙ alone)
     ∙ ap (done user_rows p) (program_outcome t p h)
-    ∙ frame p (program_line p) (program_row p.inner.fill p.inner (program_line p) (suc p.own - p.before) t) (line_in_program p h) (program_front p.inner.fill p.inner (program_line p) (suc p.own - p.before) t) none
-    ∙ ap (λ (b : Bool). left b (program_line p) (program_row p.inner.fill p.inner (program_line p) (suc p.own - p.before) t) p) (not_anew p h)
+    ∙ frame p (program_line p) (program_row p.inner.fill p.inner (program_line p) (suc p.own - p.own_at_command) t) (line_in_program p h) (program_front p.inner.fill p.inner (program_line p) (suc p.own - p.own_at_command) t) none
+    ∙ ap (λ (b : Bool). left b (program_line p) (program_row p.inner.fill p.inner (program_line p) (suc p.own - p.own_at_command) t) p) (not_anew p h)
 
 program_ends : (t : ℕ) (p : User) → works_in p.inner.state ≡ true → program_asks_common p.inner.fill p.inner ≡ None →
-    ending t Done p ≡ (program_row p.inner.fill p.inner (program_line p) (suc p.own - p.before) t).ending
+    ending t Done p ≡ (program_row p.inner.fill p.inner (program_line p) (suc p.own - p.own_at_command) t).ending
 program_ends t p h alone = alone_ends t p (program_makes p h ∙ alone) ∙ ap (λ (o : Outcome Inner). o.ending) (program_outcome t p h)
 
 program_can : (p : User) → works_in p.inner.state ≡ true → can_step p ≡ (p.on && (not (program_reads p.inner.fill p.inner) || some_line p.unread))
@@ -498,16 +498,16 @@ fill_alone p f is = ap (λ (fill : Option Fill). program_asks_common fill p.inne
 pub fill_makes : (p : User) (f : Fill) → works_in p.inner.state ≡ true → p.inner.fill ≡ Some f → asks_common p ≡ None
 fill_makes p f h is = program_makes p h ∙ fill_alone p f is
 
-pub fill_left : (t : ℕ) (p : User) (f : Fill) → works_in p.inner.state ≡ true → p.inner.fill ≡ Some f → p.given ≡ 0 →
+pub fill_left : (t : ℕ) (p : User) (f : Fill) → works_in p.inner.state ≡ true → p.inner.fill ≡ Some f → p.fed ≡ 0 →
     step t Done p ≡ left false None (goes (filled_program f p.inner)) p
 fill_left t p f h is none =
     program_step t p h none (fill_alone p f is)
-    ∙ ap (λ (fill : Option Fill). left false (first_line (program_reads fill p.inner) p.unread) (program_row fill p.inner (first_line (program_reads fill p.inner) p.unread) (suc p.own - p.before) t) p) is
+    ∙ ap (λ (fill : Option Fill). left false (first_line (program_reads fill p.inner) p.unread) (program_row fill p.inner (first_line (program_reads fill p.inner) p.unread) (suc p.own - p.own_at_command) t) p) is
 
 pub fill_ends : (t : ℕ) (p : User) (f : Fill) → works_in p.inner.state ≡ true → p.inner.fill ≡ Some f → ending t Done p ≡ Went
 fill_ends t p f h is =
     program_ends t p h (fill_alone p f is)
-    ∙ ap (λ (fill : Option Fill). (program_row fill p.inner (first_line (program_reads fill p.inner) p.unread) (suc p.own - p.before) t).ending) is
+    ∙ ap (λ (fill : Option Fill). (program_row fill p.inner (first_line (program_reads fill p.inner) p.unread) (suc p.own - p.own_at_command) t).ending) is
 
 pub fill_asks : (p : User) (f : Fill) → works_in p.inner.state ≡ true → p.inner.fill ≡ Some f → asks_clock p ≡ false
 fill_asks p f h is = program_asks_clock p h ∙ ap (λ (fill : Option Fill). program_asks fill p.inner) is
@@ -522,31 +522,31 @@ fill_can p f h is =
 abbrev line_at : Step → User → Option Line
 line_at s p = first_line (reads_line s p.inner) p.unread
 
-run_asks_in : (p : User) (s : Step) → p.inner.fill ≡ None → table p.inner.regs p.inner.core ≡ s → program_asks_common p.inner.fill p.inner ≡ step_asks s p.inner
+run_asks_in : (p : User) (s : Step) → p.inner.fill ≡ None → step_of p.inner.regs p.inner.core ≡ s → program_asks_common p.inner.fill p.inner ≡ step_asks s p.inner
 run_asks_in p s is e = ap (λ (fill : Option Fill). program_asks_common fill p.inner) is ∙ ap (λ (u : Step). step_asks u p.inner) e
 
-pub run_makes : (p : User) (s : Step) → works_in p.inner.state ≡ true → p.inner.fill ≡ None → table p.inner.regs p.inner.core ≡ s → asks_common p ≡ step_asks s p.inner
+pub run_makes : (p : User) (s : Step) → works_in p.inner.state ≡ true → p.inner.fill ≡ None → step_of p.inner.regs p.inner.core ≡ s → asks_common p ≡ step_asks s p.inner
 run_makes p s h is e = program_makes p h ∙ run_asks_in p s is e
 
-pub run_left : (t : ℕ) (p : User) (s : Step) → works_in p.inner.state ≡ true → p.inner.fill ≡ None → table p.inner.regs p.inner.core ≡ s → p.given ≡ 0 → step_asks s p.inner ≡ None →
-    step t Done p ≡ left false (first_line (reads_line s p.inner) p.unread) (step_row s p.inner (first_line (reads_line s p.inner) p.unread) (suc p.own - p.before) t) p
+pub run_left : (t : ℕ) (p : User) (s : Step) → works_in p.inner.state ≡ true → p.inner.fill ≡ None → step_of p.inner.regs p.inner.core ≡ s → p.fed ≡ 0 → step_asks s p.inner ≡ None →
+    step t Done p ≡ left false (first_line (reads_line s p.inner) p.unread) (step_row s p.inner (first_line (reads_line s p.inner) p.unread) (suc p.own - p.own_at_command) t) p
 run_left t p s h is e none alone =
     program_step t p h none (run_asks_in p s is e ∙ alone)
-    ∙ ap (λ (fill : Option Fill). left false (first_line (program_reads fill p.inner) p.unread) (program_row fill p.inner (first_line (program_reads fill p.inner) p.unread) (suc p.own - p.before) t) p) is
-    ∙ ap (λ (u : Step). left false (line_at u p) (step_row u p.inner (line_at u p) (suc p.own - p.before) t) p) e
+    ∙ ap (λ (fill : Option Fill). left false (first_line (program_reads fill p.inner) p.unread) (program_row fill p.inner (first_line (program_reads fill p.inner) p.unread) (suc p.own - p.own_at_command) t) p) is
+    ∙ ap (λ (u : Step). left false (line_at u p) (step_row u p.inner (line_at u p) (suc p.own - p.own_at_command) t) p) e
 
-pub run_ends : (t : ℕ) (p : User) (s : Step) → works_in p.inner.state ≡ true → p.inner.fill ≡ None → table p.inner.regs p.inner.core ≡ s → step_asks s p.inner ≡ None →
-    ending t Done p ≡ (step_row s p.inner (first_line (reads_line s p.inner) p.unread) (suc p.own - p.before) t).ending
+pub run_ends : (t : ℕ) (p : User) (s : Step) → works_in p.inner.state ≡ true → p.inner.fill ≡ None → step_of p.inner.regs p.inner.core ≡ s → step_asks s p.inner ≡ None →
+    ending t Done p ≡ (step_row s p.inner (first_line (reads_line s p.inner) p.unread) (suc p.own - p.own_at_command) t).ending
 run_ends t p s h is e alone =
     program_ends t p h (run_asks_in p s is e ∙ alone)
-    ∙ ap (λ (fill : Option Fill). (program_row fill p.inner (first_line (program_reads fill p.inner) p.unread) (suc p.own - p.before) t).ending) is
-    ∙ ap (λ (u : Step). (step_row u p.inner (line_at u p) (suc p.own - p.before) t).ending) e
+    ∙ ap (λ (fill : Option Fill). (program_row fill p.inner (first_line (program_reads fill p.inner) p.unread) (suc p.own - p.own_at_command) t).ending) is
+    ∙ ap (λ (u : Step). (step_row u p.inner (line_at u p) (suc p.own - p.own_at_command) t).ending) e
 
-pub run_asks : (p : User) (s : Step) → works_in p.inner.state ≡ true → p.inner.fill ≡ None → table p.inner.regs p.inner.core ≡ s → asks_clock p ≡ asks_time s p.inner
+pub run_asks : (p : User) (s : Step) → works_in p.inner.state ≡ true → p.inner.fill ≡ None → step_of p.inner.regs p.inner.core ≡ s → asks_clock p ≡ asks_time s p.inner
 run_asks p s h is e =
     program_asks_clock p h ∙ ap (λ (fill : Option Fill). program_asks fill p.inner) is ∙ ap (λ (u : Step). asks_time u p.inner) e
 
-pub run_can : (p : User) (s : Step) → works_in p.inner.state ≡ true → p.inner.fill ≡ None → table p.inner.regs p.inner.core ≡ s →
+pub run_can : (p : User) (s : Step) → works_in p.inner.state ≡ true → p.inner.fill ≡ None → step_of p.inner.regs p.inner.core ≡ s →
     can_step p ≡ (p.on && (not (reads_line s p.inner) || some_line p.unread))
 run_can p s h is e =
     program_can p h
@@ -563,13 +563,13 @@ replied_line Dormant i c l n t r h e clock = (λ j. command_replied (e j) i n (c
 replied_line Working i c l n t r h e clock = cc
 
 command_taken : (t : ℕ) (r : Reply) (p : User) (l : Line) (c : Command) → works_in p.inner.state ≡ false → p.inner.input ≡ None → slice_get p.unread 0 ≡ Some l → command_of l ≡ c →
-    replied_in p.inner.state p.inner (line_of user_rows p) (suc p.own - before_of user_rows p) (clock_for (asks_clock_in p.inner.state p.inner (line_of user_rows p)) t) r ≡ command_replied c p.inner 1 t r
+    replied_in p.inner.state p.inner (line_of user_rows p) (suc p.own - own_at_command_of user_rows p) (clock_for (asks_clock_in p.inner.state p.inner (line_of user_rows p)) t) r ≡ command_replied c p.inner 1 t r
 command_taken t r p l c h none is e =
-    ap (λ (line : Option Line). replied_in p.inner.state p.inner line (suc p.own - before_of user_rows p) (clock_for (asks_clock_in p.inner.state p.inner line) t) r) (line_in_command p.inner.state p l h is)
-    ∙ replied_line p.inner.state p.inner c l (suc p.own - before_of user_rows p) t r h e (asks_in p.inner.state p.inner l h ∙ ap is_none none)
-    ∙ ap (λ (n : ℕ). command_replied c p.inner n t r) (since (counts_anew p.inner) p.own p.before (counted p h none))
+    ap (λ (line : Option Line). replied_in p.inner.state p.inner line (suc p.own - own_at_command_of user_rows p) (clock_for (asks_clock_in p.inner.state p.inner line) t) r) (line_in_command p.inner.state p l h is)
+    ∙ replied_line p.inner.state p.inner c l (suc p.own - own_at_command_of user_rows p) t r h e (asks_in p.inner.state p.inner l h ∙ ap is_none none)
+    ∙ ap (λ (n : ℕ). command_replied c p.inner n t r) (since (counts_anew p.inner) p.own p.own_at_command (counted p h none))
 
-pub command_replied_left : (t : ℕ) (r : Reply) (p : User) (l : Line) (c : Command) (op : CommonOp) → works_in p.inner.state ≡ false → p.inner.input ≡ None → slice_get p.unread 0 ≡ Some l → p.given ≡ 0 → command_of l ≡ c → command_asks c p.inner ≡ Some op →
+pub command_replied_left : (t : ℕ) (r : Reply) (p : User) (l : Line) (c : Command) (op : CommonOp) → works_in p.inner.state ≡ false → p.inner.input ≡ None → slice_get p.unread 0 ≡ Some l → p.fed ≡ 0 → command_of l ≡ c → command_asks c p.inner ≡ Some op →
     step t r p ≡ left true (Some l) (command_replied c p.inner 1 t r) p
 command_replied_left t r p l c op h input is none e makes =
     replied_left t r p op (command_makes p l c h input is e ∙ makes)
@@ -589,10 +589,10 @@ replied_program Dead i line n t r h = cc
 replied_program Dormant i line n t r h = cc
 replied_program Working i line n t r h = refl
 
-entry_taken : (t : ℕ) (r : Reply) (p : User) (s : Step) → works_in p.inner.state ≡ true → p.inner.fill ≡ None → table p.inner.regs p.inner.core ≡ s →
-    replied_in p.inner.state p.inner (line_of user_rows p) (suc p.own - before_of user_rows p) t r ≡ step_replied s p.inner r
+entry_taken : (t : ℕ) (r : Reply) (p : User) (s : Step) → works_in p.inner.state ≡ true → p.inner.fill ≡ None → step_of p.inner.regs p.inner.core ≡ s →
+    replied_in p.inner.state p.inner (line_of user_rows p) (suc p.own - own_at_command_of user_rows p) t r ≡ step_replied s p.inner r
 entry_taken t r p s h is e =
-    replied_program p.inner.state p.inner (line_of user_rows p) (suc p.own - before_of user_rows p) t r h
+    replied_program p.inner.state p.inner (line_of user_rows p) (suc p.own - own_at_command_of user_rows p) t r h
     ∙ ap (λ (fill : Option Fill). program_replied fill p.inner r) is ∙ ap (λ (u : Step). step_replied u p.inner r) e
 
 replied_front : (s : Step) (i : Inner) (r : Reply) → (step_replied s i r).front ≡ []
@@ -631,7 +631,7 @@ takes_none (entry w) i op e = call_takes (call_of i.regs i.core w) e
 takes_none illegal i op e = cc
 takes_none (outside a) i op e = cc
 
-pub run_replied_left : (t : ℕ) (r : Reply) (p : User) (s : Step) (op : CommonOp) → works_in p.inner.state ≡ true → p.inner.fill ≡ None → table p.inner.regs p.inner.core ≡ s → p.given ≡ 0 → step_asks s p.inner ≡ Some op →
+pub run_replied_left : (t : ℕ) (r : Reply) (p : User) (s : Step) (op : CommonOp) → works_in p.inner.state ≡ true → p.inner.fill ≡ None → step_of p.inner.regs p.inner.core ≡ s → p.fed ≡ 0 → step_asks s p.inner ≡ Some op →
     step t r p ≡ left false None (step_replied s p.inner r) p
 run_replied_left t r p s op h is e none makes =
     replied_left t r p op (run_makes p s h is e ∙ makes)
@@ -639,7 +639,7 @@ run_replied_left t r p s op h is e none makes =
     ∙ frame p None (step_replied s p.inner r) (line_in_program p h ∙ ap (λ (fill : Option Fill). first_line (program_reads fill p.inner) p.unread) is ∙ ap (λ (u : Step). first_line (reads_line u p.inner) p.unread) e ∙ ap (λ (b : Bool). first_line b p.unread) (takes_none s p.inner op makes)) (replied_front s p.inner r) none
     ∙ ap (λ (b : Bool). left b None (step_replied s p.inner r) p) (not_anew p h)
 
-pub run_replied_ends : (t : ℕ) (r : Reply) (p : User) (s : Step) (op : CommonOp) → works_in p.inner.state ≡ true → p.inner.fill ≡ None → table p.inner.regs p.inner.core ≡ s → step_asks s p.inner ≡ Some op →
+pub run_replied_ends : (t : ℕ) (r : Reply) (p : User) (s : Step) (op : CommonOp) → works_in p.inner.state ≡ true → p.inner.fill ≡ None → step_of p.inner.regs p.inner.core ≡ s → step_asks s p.inner ≡ Some op →
     ending t r p ≡ (step_replied s p.inner r).ending
 run_replied_ends t r p s op h is e makes =
     replied_ends t r p op (run_makes p s h is e ∙ makes) ∙ ap (λ (o : Outcome Inner). o.ending) (entry_taken _ r p s h is e)

@@ -3,7 +3,7 @@ use Rattle.std.proofs.Common.{◌≡◌, ℕ, suc, ◌-◌, Bool, true, false, �
 use Rattle.std.specs.Prelude.{if◌then◌else◌, nat_eq, nat_lt, length}
 use Rattle.std.specs.declared.result.Result.{Result}
 use Rattle.time_sharing.specs.Machine.{Line, Went, CommonOp, Reply}
-use Rattle.time_sharing.specs.Rows.{Outcome, line_of, before_of}
+use Rattle.time_sharing.specs.Rows.{Outcome, line_of, own_at_command_of}
 use Rattle.ctss_types.specs.Names.{NamePair}
 use Rattle.ctss_types.specs.declared.file.FileBody.{FileBody}
 use Rattle.ctss_types.specs.declared.file.Refusal.{Refusal}
@@ -11,7 +11,7 @@ use Rattle.ctss_types.specs.declared.file.Reply.TheVariants as reply
 use Rattle.file_model.specs.declared.Stat.{Stat}
 use Rattle.file_model.specs.Files.{file_named, stat, read, got, written, put, appended, renamed, deleted, moded}
 use Rattle.machine_model.specs.Step.{Step, went, halt, entry, illegal, outside}
-use Rattle.machine_model.specs.Machine.{table}
+use Rattle.machine_model.specs.Machine.{step_of}
 use Rattle.program_model.specs.declared.Call.{Call}
 use Rattle.program_model.specs.declared.Call.TheVariants.{ReadLine, WriteLine, GetTime, GetMemory, SetMemory, FileStat, ReadFile, WriteFile, DeleteFile, RenameFile, ChangeMode as ChangesMode, CommonStat, CommonRead, CommonWrite, CommonDelete, Dead as EndsDead, Dormant as EndsDormant}
 use Rattle.program_model.specs.declared.EntryFault.{EntryFault}
@@ -90,7 +90,7 @@ step_stays (outside a) i l n t = λ e. cc
 
 program_stays : (f : Option Fill) (i : Inner) (l : Option Line) (n t : ℕ) → SizeStays i (program_row f i l n t)
 program_stays (Some f) i l n t = λ e. refl
-program_stays None i l n t = step_stays (table i.regs i.core) i l n t
+program_stays None i l n t = step_stays (step_of i.regs i.core) i l n t
 
 load_stays : (name : ℕ) (deck : Result Deck LoadFault) (i : Inner) (n t : ℕ) → SizeStays i (prepared name deck i n t)
 load_stays name (Ok d) i n t = λ e. cc
@@ -200,7 +200,7 @@ step_replied_stays (outside a) i r = λ e. refl
 
 program_replied_stays : (f : Option Fill) (i : Inner) (r : Reply) → SizeStays i (program_replied f i r)
 program_replied_stays (Some f) i r = λ e. refl
-program_replied_stays None i r = step_replied_stays (table i.regs i.core) i r
+program_replied_stays None i r = step_replied_stays (step_of i.regs i.core) i r
 
 copied_stays : (name : Option NamePair) (words : List ℕ) (i : Inner) (n t : ℕ) → SizeStays i (words_copied name words i n t)
 copied_stays (Some name) words i n t = change_stays (put name words i.account.tracks i.files) i n t
@@ -227,4 +227,4 @@ either_stays (Some op) i l n t r = replied_stays i.state i l n t r
 
 pub went_stays : (t : ℕ) (r : Reply) (p : User) → ending t r p ≡ Went → blocks_of (step t r p).inner ≡ blocks_of p.inner
 unfolding ending step
-went_stays t r p e = either_stays (asks_common_in p.inner.state p.inner (line_of user_rows p)) p.inner (line_of user_rows p) (suc p.own - before_of user_rows p) _ r e
+went_stays t r p e = either_stays (asks_common_in p.inner.state p.inner (line_of user_rows p)) p.inner (line_of user_rows p) (suc p.own - own_at_command_of user_rows p) _ r e

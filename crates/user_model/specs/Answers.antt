@@ -13,7 +13,7 @@ use Rattle.user_model.specs.Programs.{step_row, reads_line, asks_time, step_asks
 use Rattle.user_model.specs.declared.Command.{Command}
 use Rattle.user_model.specs.Commands.{command_row, command_asks, command_replied, input_row}
 use Rattle.user_model.specs.Session.{is_none}
-use Rattle.user_model.specs.User.{User, in_store, core_after}
+use Rattle.user_model.specs.User.{User, in_store, core_after, LeavesWords}
 
 -- how many unread lines are taken
 abbrev pub line_count : Option Line → ℕ
@@ -34,57 +34,59 @@ by_row is_command line o p =
       unread = if is_logout o.ending then [] else drop (line_count line) p.unread;
       transcript = noted p.transcript (in_line line ++ out_all o.written);
       own = suc p.own;
-      before = if is_command then p.own else p.before;
+      own_at_command = if is_command then p.own else p.own_at_command;
     }
 
--- A step could be done, without a common operation, and did what a row says: it took this line, ended so, and took the clock or not.
-abbrev pub IsRow : (can is_command : Bool) → Option Line → Outcome Inner → (asks : Bool) → Ending → (asked : Bool) → (old new : User) → (after : Stored) → Type 0
-IsRow can is_command line o asks e asked old new after =
+-- A step could be done, without a common operation, and did what a row says: it took this line, ended so, took the clock or not, and if
+-- it did not go on it left the words as they were.
+abbrev pub IsRow : (can is_command : Bool) → Option Line → Outcome Inner → (asks : Bool) → Ending → (asked : Bool) → (old new : User) → (before after : Stored) → Type 0
+IsRow can is_command line o asks e asked old new before after =
     (can ≡ true) × (new ≡ by_row is_command line o old) × (core_after e o.inner.blocks after.core ≡ o.inner.core) × (after.files ≡ o.inner.files) × (e ≡ o.ending) × (asked ≡ asks)
+    × LeavesWords e before.core after.core
 
 -- a step that did what the row of what the machine gave says
 abbrev pub step_line : Step → User → Option Line
 step_line s p = first_line (reads_line s p.inner) p.unread
 
 abbrev pub step_said : Step → ℕ → User → Outcome Inner
-step_said s t p = step_row s p.inner (step_line s p) (suc p.own - p.before) t
+step_said s t p = step_row s p.inner (step_line s p) (suc p.own - p.own_at_command) t
 
 abbrev pub DidStep : Step → Ending → Bool → ℕ → (old new : User) → (before after : Stored) → Type 0
 DidStep s e asked t old new before after =
     IsRow (is_none (step_asks s (in_store before old).inner) && (not (reads_line s (in_store before old).inner) || some_line old.unread)) false (step_line s (in_store before old)) (step_said s t (in_store before old))
-    (asks_time s (in_store before old).inner) e asked old new after
+    (asks_time s (in_store before old).inner) e asked old new before after
 
 -- a step that stored what was still to be stored
 abbrev pub DidFill : Fill → Ending → Bool → (old new : User) → (before after : Stored) → Type 0
-DidFill f e asked old new before after = IsRow true false None (goes (filled_program f (in_store before old).inner)) false e asked old new after
+DidFill f e asked old new before after = IsRow true false None (goes (filled_program f (in_store before old).inner)) false e asked old new before after
 
 -- what the row of a supervisor entry says of this user
 abbrev pub entry_line : Result Call EntryFault → User → Option Line
 entry_line call p = first_line (is_read call) p.unread
 
 abbrev pub entry_said : Result Call EntryFault → ℕ → User → Stored → Outcome Inner
-entry_said call t p c = entry_row call (in_store c p).inner (entry_line call p) (suc p.own - p.before) t
+entry_said call t p c = entry_row call (in_store c p).inner (entry_line call p) (suc p.own - p.own_at_command) t
 
 -- a step that did what the row of this entry says
 abbrev pub DidEntry : Result Call EntryFault → Ending → Bool → ℕ → (old new : User) → (before after : Stored) → Type 0
 DidEntry call e asked t old new before after =
-    IsRow (is_none (entry_asks call before.core) && (not (is_read call) || some_line old.unread)) false (entry_line call old) (entry_said call t old before) (is_clock call) e asked old new after
+    IsRow (is_none (entry_asks call before.core) && (not (is_read call) || some_line old.unread)) false (entry_line call old) (entry_said call t old before) (is_clock call) e asked old new before after
 
 -- a step that did what the row of this command says
 abbrev pub DidCommand : Line → Command → Ending → Bool → ℕ → (old new : User) → (before after : Stored) → Type 0
 DidCommand l command e asked t old new before after =
-    IsRow (is_none (command_asks command (in_store before old).inner)) true (Some l) (command_row command (in_store before old).inner 1 t) true e asked old new after
+    IsRow (is_none (command_asks command (in_store before old).inner)) true (Some l) (command_row command (in_store before old).inner 1 t) true e asked old new before after
 
 -- a step that did what the row of a line of INPUT says
 abbrev pub DidInput : Line → NamePair → Ending → Bool → (old new : User) → (before after : Stored) → Type 0
-DidInput l name e asked old new before after = IsRow true false (Some l) (input_row name l (in_store before old).inner (suc old.own - old.before)) false e asked old new after
+DidInput l name e asked old new before after = IsRow true false (Some l) (input_row name l (in_store before old).inner (suc old.own - old.own_at_command)) false e asked old new before after
 
 -- a step at a supervisor entry that made this common operation, with this reply
 abbrev pub EntryReplied : Result Call EntryFault → CommonOp → Reply → Ending → Bool → (old new : User) → (before after : Stored) → Type 0
 EntryReplied call op r e asked old new before after =
-    (entry_asks call before.core ≡ Some op) × IsRow true false None (entry_replied call (in_store before old).inner r) false e asked old new after
+    (entry_asks call before.core ≡ Some op) × IsRow true false None (entry_replied call (in_store before old).inner r) false e asked old new before after
 
 -- a step of a command that made this common operation, with this reply
 abbrev pub CommandReplied : Line → Command → CommonOp → Reply → Ending → Bool → ℕ → (old new : User) → (before after : Stored) → Type 0
 CommandReplied l command op r e asked t old new before after =
-    (command_asks command (in_store before old).inner ≡ Some op) × IsRow true true (Some l) (command_replied command (in_store before old).inner 1 t r) true e asked old new after
+    (command_asks command (in_store before old).inner ≡ Some op) × IsRow true true (Some l) (command_replied command (in_store before old).inner 1 t r) true e asked old new before after

@@ -11,7 +11,7 @@ use Rattle.file_model.specs.declared.Stat.{Stat}
 use Rattle.file_model.specs.Files.{stat, read, got, written, renamed, deleted, moded}
 use Rattle.file_model.specs.Texts.{refusal_number}
 use Rattle.machine_model.specs.Step.{Step, went, halt, entry, illegal, outside}
-use Rattle.machine_model.specs.Machine.{table}
+use Rattle.machine_model.specs.Machine.{step_of}
 use Rattle.program_model.specs.declared.Call.{Call}
 use Rattle.program_model.specs.declared.Call.TheVariants.{ReadLine, WriteLine, GetTime, GetMemory, SetMemory, FileStat, ReadFile, WriteFile, DeleteFile, RenameFile, ChangeMode, CommonStat, CommonRead, CommonWrite, CommonDelete, Dead, Dormant}
 use Rattle.program_model.specs.declared.EntryFault.{EntryFault}
@@ -189,20 +189,20 @@ filled_program f i =
 -- a program's step: of one that still has to be filled, that; else its next instruction
 abbrev pub program_row : Option Fill → Inner → Option Line → ℕ → ℕ → Outcome Inner
 program_row (Some f) i l n t = goes (filled_program f i)
-program_row None i l n t = step_row (table i.regs i.core) i l n t
+program_row None i l n t = step_row (step_of i.regs i.core) i l n t
 
 abbrev pub program_reads : Option Fill → Inner → Bool
 program_reads (Some f) i = false
-program_reads None i = reads_line (table i.regs i.core) i
+program_reads None i = reads_line (step_of i.regs i.core) i
 
 abbrev pub program_asks : Option Fill → Inner → Bool
 program_asks (Some f) i = false
-program_asks None i = asks_time (table i.regs i.core) i
+program_asks None i = asks_time (step_of i.regs i.core) i
 
 abbrev pub program_asks_common : Option Fill → Inner → Option CommonOp
 program_asks_common (Some f) i = None
-program_asks_common None i = step_asks (table i.regs i.core) i
+program_asks_common None i = step_asks (step_of i.regs i.core) i
 
 abbrev pub program_replied : Option Fill → Inner → Reply → Outcome Inner
 program_replied (Some f) i reply = goes i
-program_replied None i reply = step_replied (table i.regs i.core) i reply
+program_replied None i reply = step_replied (step_of i.regs i.core) i reply

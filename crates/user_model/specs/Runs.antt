@@ -11,7 +11,7 @@ pub record IsAtWork (p : User) : Type 0 where
   pub on : p.on ≡ true
   pub works : works_in p.inner.state ≡ true
   pub filled : p.inner.fill ≡ None
-  pub given : p.given ≡ 0
+  pub fed : p.fed ≡ 0
 
 -- the user whose program has done so many instructions, with these registers
 abbrev pub gone : ℕ → Regs → User → User

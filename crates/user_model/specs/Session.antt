@@ -130,10 +130,10 @@ first_state account files =
       on = false;
       unread = [];
       lines = 0;
-      given = 0;
+      fed = 0;
       transcript = [];
       own = 0;
-      before = 0;
+      own_at_command = 0;
     }
 
 -- what stands for a number that is no user's

@@ -12,8 +12,8 @@ left is_command line o p =
       inner = o.inner;
       on = not (is_logout o.ending);
       unread = if is_logout o.ending then [] else behind line p.unread;
-      given = 0;
+      fed = 0;
       transcript = p.transcript ++ (in_line line ++ out_all o.written);
       own = suc p.own;
-      before = if is_command then p.own else p.before;
+      own_at_command = if is_command then p.own else p.own_at_command;
     }

@@ -57,6 +57,14 @@ hung store = record { core = []; files = lasting store.files }
 abbrev pub store_after : Ending → ℕ → Stored → Stored
 store_after e blocks store = record store { core = core_after e blocks store.core }
 
+-- Only a step that goes on changes the words of the program; any other leaves also those that it gives up as they were.
+abbrev pub LeavesWords : Ending → (before after : List ℕ) → Type 0
+LeavesWords Went before after = Unit {0}
+LeavesWords Stopped before after = after ≡ before
+LeavesWords Resized before after = after ≡ before
+LeavesWords Replaced before after = after ≡ before
+LeavesWords LoggedOut before after = after ≡ before
+
 -- A step that ends so, takes the clock or not, and made this common operation or none, with this reply: of a user with these words
 -- and files before it, which is then this user with these words and files.
 pub record IsStep (e : Ending) (asked : Bool) (made : Option CommonOp) (t : ℕ) (r : Reply) (old new : User) (before after : Stored) : Type 0 where
@@ -65,3 +73,4 @@ pub record IsStep (e : Ending) (asked : Bool) (made : Option CommonOp) (t : ℕ)
   pub ends : e ≡ ending t r (in_store before old)
   pub asks : asked ≡ asks_clock (in_store before old)
   pub makes : made ≡ asks_common (in_store before old)
+  pub words : LeavesWords e before.core after.core

@@ -6,7 +6,7 @@ use Rattle.std.specs.declared.result.Result.{Result}
 use Rattle.time_sharing.specs.Machine.{Line}
 use Rattle.user_model.specs.declared.Command.{Command}
 use Rattle.user_model.specs.Requests.{command_of}
-use Rattle.machine_model.specs.Machine.{table}
+use Rattle.machine_model.specs.Machine.{step_of}
 use Rattle.machine_model.specs.Step as machine
 use Rattle.machine_model.specs.Step.{entry}
 use Rattle.user_model.specs.Programs.{step_asks}
@@ -33,11 +33,11 @@ use Rattle.file_map.specs.Known.{known, known_of}
 use Rattle.user_session.specs.Stores.{stored, Over, OfSome}
 use Rattle.user_session.proofs.Files.{known_done}
 
-pub entered : (turn : Turn) (t : ℕ) (p q : User) (c d : Stored) (w : ℕ) (call : Result Call EntryFault) → works_in p.inner.state ≡ true → p.inner.fill ≡ None → table p.inner.regs c.core ≡ entry w → p.on ≡ true → p.given ≡ 0 → call_of p.inner.regs c.core w ≡ call →
+pub entered : (turn : Turn) (t : ℕ) (p q : User) (c d : Stored) (w : ℕ) (call : Result Call EntryFault) → works_in p.inner.state ≡ true → p.inner.fill ≡ None → step_of p.inner.regs c.core ≡ entry w → p.on ≡ true → p.fed ≡ 0 → call_of p.inner.regs c.core w ≡ call →
     Enters call turn t p q c d → IsTurn turn t p q c d
-entered Waits t p q c d w call h none is on zero_given what row = record { cannot = entry_waits p c w call h none is what row.reads row.none; same = row.same; store = row.store }
-entered (Done s) t p q c d w call h none is on zero_given what row = entry_turn t p q c d w call s.ending s.clock h none is what on zero_given row
-entered (Asks op) t p q c d w call h none is on zero_given what row =
+entered Waits t p q c d w call h none is on none_fed what row = record { cannot = entry_waits p c w call h none is what row.reads row.none; same = row.same; store = row.store }
+entered (Done s) t p q c d w call h none is on none_fed what row = entry_turn t p q c d w call s.ending s.clock h none is what on none_fed row
+entered (Asks op) t p q c d w call h none is on none_fed what row =
     let asked = entry_asked p c w call op h none is what on row.makes in
     record { can = asked.0; makes = asked.1; same = row.same; store = row.store }
 
@@ -49,22 +49,22 @@ pub at_step : (told : Instructed) (s : Step) (t : ℕ) (p q : User) (c d : Store
 at_step told s t p q c d is h = subst (λ (x : Instructed). Instructs x t p q c d) is h
 
 -- a command
-pub obeyed : (turn : Turn) (t : ℕ) (p q : User) (c d : Stored) (l : Line) (command : Command) → works_in p.inner.state ≡ false → p.inner.input ≡ None → slice_get p.unread 0 ≡ Some l → command_of l ≡ command → p.on ≡ true → p.given ≡ 0 →
+pub obeyed : (turn : Turn) (t : ℕ) (p q : User) (c d : Stored) (l : Line) (command : Command) → works_in p.inner.state ≡ false → p.inner.input ≡ None → slice_get p.unread 0 ≡ Some l → command_of l ≡ command → p.on ≡ true → p.fed ≡ 0 →
     Obeys l command turn t p q c d → IsTurn turn t p q c d
-obeyed Waits t p q c d l command h none first what on zero_given row = absurd row
-obeyed (Done s) t p q c d l command h none first what on zero_given row = command_turn t p q c d l command s.ending s.clock h none first what on zero_given row
-obeyed (Asks op) t p q c d l command h none first what on zero_given row =
+obeyed Waits t p q c d l command h none first what on none_fed row = absurd row
+obeyed (Done s) t p q c d l command h none first what on none_fed row = command_turn t p q c d l command s.ending s.clock h none first what on none_fed row
+obeyed (Asks op) t p q c d l command h none first what on none_fed row =
     let asked = command_asked p c l command op h none first what on row.makes in
     record { can = asked.0; makes = asked.1; same = row.same; store = row.store }
 
 -- steps with a reply
-pub entry_took : (t : ℕ) (r : Reply) (p q : User) (c d : Stored) (w : ℕ) (call : Result Call EntryFault) (op : CommonOp) (s : Step) → works_in p.inner.state ≡ true → p.inner.fill ≡ None → table p.inner.regs c.core ≡ entry w → call_of p.inner.regs c.core w ≡ call → p.on ≡ true → p.given ≡ 0 →
+pub entry_took : (t : ℕ) (r : Reply) (p q : User) (c d : Stored) (w : ℕ) (call : Result Call EntryFault) (op : CommonOp) (s : Step) → works_in p.inner.state ≡ true → p.inner.fill ≡ None → step_of p.inner.regs c.core ≡ entry w → call_of p.inner.regs c.core w ≡ call → p.on ≡ true → p.fed ≡ 0 →
     EntryReplied call op r s.ending s.clock p q c d → IsReplied s op r t p q c d
-entry_took t r p q c d w call op s h none is what on zero_given said = entry_replied_turn t r p q c d w call op s.ending s.clock h none is what on zero_given said
+entry_took t r p q c d w call op s h none is what on none_fed said = entry_replied_turn t r p q c d w call op s.ending s.clock h none is what on none_fed said
 
-pub command_took : (t : ℕ) (r : Reply) (p q : User) (c d : Stored) (l : Line) (command : Command) (op : CommonOp) (s : Step) → works_in p.inner.state ≡ false → p.inner.input ≡ None → slice_get p.unread 0 ≡ Some l → command_of l ≡ command → p.on ≡ true → p.given ≡ 0 →
+pub command_took : (t : ℕ) (r : Reply) (p q : User) (c d : Stored) (l : Line) (command : Command) (op : CommonOp) (s : Step) → works_in p.inner.state ≡ false → p.inner.input ≡ None → slice_get p.unread 0 ≡ Some l → command_of l ≡ command → p.on ≡ true → p.fed ≡ 0 →
     CommandReplied l command op r s.ending s.clock t p q c d → IsReplied s op r t p q c d
-command_took t r p q c d l command op s h none first what on zero_given said = command_replied_turn t r p q c d l command op s.ending s.clock h none first what on zero_given said
+command_took t r p q c d l command op s h none first what on none_fed said = command_replied_turn t r p q c d l command op s.ending s.clock h none first what on none_fed said
 
 -- what holds of an answer that is Ok
 pub ok_map : {A E : Type 0} (P Q : A → Type 0) (result : Result A E) → ((a : A) → P a → Q a) → IfOk result P → IfOk result Q

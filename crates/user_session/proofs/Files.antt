@@ -23,19 +23,6 @@ use Rattle.user_model.specs.User.{User}
 use Rattle.user_model.specs.Answers.{IsRow}
 use Rattle.user_model.specs.Inner.{Inner, Stored}
 
--- files that are known as they stand, seen from before a call
-pub known_still : (tells now : Bool) (files : List FileBody) → now ≡ tells → known now files ≡ files → known tells files ≡ files
-known_still tells now files same h = subst (λ (b : Bool). known b files ≡ files) same h
-
--- a file's lines, or why there are none
-pub printed_ok : (file : Result (List ℕ) Refusal) (lines : List Line) → lines_got file ≡ Ok lines → lines ≡ printed file
-printed_ok (Ok words) lines h = cc
-printed_ok (Err r) lines h = cc
-
-pub printed_err : (file : Result (List ℕ) Refusal) (r : Refusal) → lines_got file ≡ Err r → printed file ≡ refusal_text r ∷ []
-printed_err (Ok words) r h = cc
-printed_err (Err q) r h = cc
-
 -- where a change is done or refused, so it is by its definition
 pub known_done : (tells : Bool) (told : Result (List FileBody) Refusal) (new : List FileBody) → known_of tells told ≡ Ok new → (has : List FileBody) × (told ≡ Ok has) × (known tells has ≡ new)
 known_done tells (Ok has) new h = let is : known tells has ≡ new = cc in (has, refl, is)
@@ -55,15 +42,12 @@ input_absent name None r i n t h = refl
 input_absent name (Some f) r i n t h = cc
 
 -- a row said in another way
-pub row_of : (can b : Bool) (line : Option Line) (o p : Outcome Inner) (asks : Bool) (e : Ending) (asked : Bool) (old new : User) (after : Stored) → o ≡ p → IsRow can b line p asks e asked old new after → IsRow can b line o asks e asked old new after
-row_of can b line o p asks e asked old new after is row = subst (λ (q : Outcome Inner). IsRow can b line q asks e asked old new after) (sym is) row
+pub row_of : (can b : Bool) (line : Option Line) (o p : Outcome Inner) (asks : Bool) (e : Ending) (asked : Bool) (old new : User) (before after : Stored) → o ≡ p → IsRow can b line p asks e asked old new before after → IsRow can b line o asks e asked old new before after
+row_of can b line o p asks e asked old new before after is row = subst (λ (q : Outcome Inner). IsRow can b line q asks e asked old new before after) (sym is) row
 
 -- refusals
 pub refused_told : {T : Type 0} (fault : PortFault) (r : Refusal) (told : Result T Refusal) → fault ≡ Refused r → Answers {T = T} (Err fault) told → told ≡ Err r
 refused_told {T} fault r told is h = subst (λ (f : PortFault). Answers {T = T} (Err f) told) is h
-
-pub refused_program : {T : Type 0} (fault : PrepareFault) (f : LoadFault) (told : Result T LoadFault) → fault ≡ Load f → Prepares {T = T} (Err fault) told → told ≡ Err f
-refused_program {T} fault f told is h = subst (λ (x : PrepareFault). Prepares {T = T} (Err x) told) is h
 
 pub refused_change : (T : Type 0) (fault : PortFault) (r : Refusal) (tells : Bool) (told : Result (List FileBody) Refusal) (old new : List FileBody) → fault ≡ Refused r → Leaves {T = T} (Err fault) (known_of tells told) old new → (told ≡ Err r) × (new ≡ old)
 refused_change T fault r tells told old new is h =

@@ -32,21 +32,21 @@ says_stop why place n talk room said same is = record {
 }
 
 pub stopped_so : (p v q : User) (r : Regs) (talk said : Said) (why : Line) → v ≡ p → talk.unread ≡ v.unread → talk.lines ≡ v.lines → talk.transcript ≡ v.transcript →
-    SaysStop why v.inner.regs.ic (v.own + 1 - v.before) talk said →
+    SaysStop why v.inner.regs.ic (v.own + 1 - v.own_at_command) talk said →
     q ≡ record v { inner = record v.inner { state = Dormant; regs = r }; unread = said.unread; lines = said.lines; transcript = said.transcript; own = suc v.own } →
-    q ≡ record p { inner = record p.inner { state = Dormant; regs = r }; transcript = p.transcript ++ Out (stop_text why p.inner.regs.ic) ∷ Out (ready_text (suc p.own - p.before)) ∷ []; own = suc p.own }
+    q ≡ record p { inner = record p.inner { state = Dormant; regs = r }; transcript = p.transcript ++ Out (stop_text why p.inner.regs.ic) ∷ Out (ready_text (suc p.own - p.own_at_command)) ∷ []; own = suc p.own }
 stopped_so p v q r talk said why is unread lines items says left =
     left
     ∙ (λ j. record v { inner = record v.inner { state = Dormant; regs = r }; unread = says.unread j; lines = says.lines j; transcript = says.items j; own = suc v.own })
-    ∙ (λ j. record v { inner = record v.inner { state = Dormant; regs = r }; unread = unread j; lines = lines j; transcript = items j ++ Out (stop_text why v.inner.regs.ic) ∷ Out (ready_text (v.own + 1 - v.before)) ∷ []; own = suc v.own })
-    ∙ ap (λ (n : ℕ). stopped v r why (n - v.before)) (add-one v.own)
-    ∙ ap (λ (u : User). stopped u r why (suc u.own - u.before)) is
+    ∙ (λ j. record v { inner = record v.inner { state = Dormant; regs = r }; unread = unread j; lines = lines j; transcript = items j ++ Out (stop_text why v.inner.regs.ic) ∷ Out (ready_text (v.own + 1 - v.own_at_command)) ∷ []; own = suc v.own })
+    ∙ ap (λ (n : ℕ). stopped v r why (n - v.own_at_command)) (add-one v.own)
+    ∙ ap (λ (u : User). stopped u r why (suc u.own - u.own_at_command)) is
 
 -- and nothing else happened
 pub refused_so : (p v q : User) (r : Regs) (talk said : Said) (why : Line) → v ≡ p → talk.unread ≡ v.unread → talk.lines ≡ v.lines → talk.transcript ≡ v.transcript →
-    SaysStop why v.inner.regs.ic (v.own + 1 - v.before) talk said →
+    SaysStop why v.inner.regs.ic (v.own + 1 - v.own_at_command) talk said →
     q ≡ record v { inner = record v.inner { state = Dormant; regs = r }; unread = said.unread; lines = said.lines; transcript = said.transcript; own = suc v.own } → r ≡ v.inner.regs →
-    q ≡ record p { inner = record p.inner { state = Dormant }; transcript = p.transcript ++ Out (stop_text why p.inner.regs.ic) ∷ Out (ready_text (suc p.own - p.before)) ∷ []; own = suc p.own }
+    q ≡ record p { inner = record p.inner { state = Dormant }; transcript = p.transcript ++ Out (stop_text why p.inner.regs.ic) ∷ Out (ready_text (suc p.own - p.own_at_command)) ∷ []; own = suc p.own }
 refused_so p v q r talk said why is unread lines items says left stays =
     stopped_so p v q r talk said why is unread lines items says left
-    ∙ ap (λ (s : Regs). stopped p s why (suc p.own - p.before)) (stays ∙ ap (λ (u : User). u.inner.regs) is)
+    ∙ ap (λ (s : Regs). stopped p s why (suc p.own - p.own_at_command)) (stays ∙ ap (λ (u : User). u.inner.regs) is)

@@ -13,7 +13,7 @@ use Rattle.user_model.specs.Answers.{IsRow}
 use Rattle.user_model.specs.Inner.{Stored}
 use Rattle.ctss_types.specs.declared.file.CommonOp.{CommonOp}
 use Rattle.ctss_types.specs.declared.file.FileBody.{FileBody}
-use Rattle.machine_model.specs.Machine.{table}
+use Rattle.machine_model.specs.Machine.{step_of}
 use Rattle.program_model.specs.declared.Fill.{Fill}
 use Rattle.program_model.specs.Decks.{words_got}
 use Rattle.program_model.specs.Fills.{fill_name, filled_core, filled_regs}
@@ -23,23 +23,23 @@ use Rattle.user_session.specs.Stores.{stored}
 abbrev pub DidPut : Line → NamePair → List ℕ → Ending → Bool → ℕ → (old new : User) → (before after : Stored) → Type 0
 DidPut line name words e asked t old new before after =
     let i = (in_store before old).inner in
-    IsRow true true (Some line) (changed (put name words i.account.tracks i.files) i 1 t) true e asked old new after
+    IsRow true true (Some line) (changed (put name words i.account.tracks i.files) i 1 t) true e asked old new before after
 
 -- a step of a command that took the words of a common file
 abbrev pub Copies : Line → Option NamePair → List ℕ → Ending → Bool → ℕ → (old new : User) → (before after : Stored) → Type 0
-Copies line target words e asked t old new before after = IsRow true true (Some line) (words_copied target words (in_store before old).inner 1 t) true e asked old new after
+Copies line target words e asked t old new before after = IsRow true true (Some line) (words_copied target words (in_store before old).inner 1 t) true e asked old new before after
 
 -- a step of a command that took this reply
 abbrev pub TookReply : Line → Command → Reply → Ending → Bool → ℕ → (old new : User) → (before after : Stored) → Type 0
-TookReply line command r e asked t old new before after = IsRow true true (Some line) (command_replied command (in_store before old).inner 1 t r) true e asked old new after
+TookReply line command r e asked t old new before after = IsRow true true (Some line) (command_replied command (in_store before old).inner 1 t r) true e asked old new before after
 
 -- a step of a call with so many arguments and a buffer that took this reply
 abbrev pub Answered : (arguments at : ℕ) → Reply → Ending → Bool → (old new : User) → (before after : Stored) → Type 0
-Answered arguments at r e asked old new before after = IsRow true false None (reply_taken (in_store before old).inner arguments at r) false e asked old new after
+Answered arguments at r e asked old new before after = IsRow true false None (reply_taken (in_store before old).inner arguments at r) false e asked old new before after
 
 -- a step of a call that took this reply
 abbrev pub CallTook : Call → Reply → Ending → Bool → (old new : User) → (before after : Stored) → Type 0
-CallTook call r e asked old new before after = IsRow true false None (call_replied call (in_store before old).inner r) false e asked old new after
+CallTook call r e asked old new before after = IsRow true false None (call_replied call (in_store before old).inner r) false e asked old new before after
 
 -- a program that has its core was filled with the words of its file, of these files
 pub record IsStored (with : Fill) (files : List FileBody) (old new : User) (before after : List ℕ) : Type 0 where
@@ -48,4 +48,4 @@ pub record IsStored (with : Fill) (files : List FileBody) (old new : User) (befo
 
 -- the next step of a program with these words is a call that is to make this common operation
 abbrev pub IsEntryFor : CommonOp → User → List ℕ → Type 0
-IsEntryFor op p core = step_asks (table p.inner.regs core) (in_store (stored core []) p).inner ≡ Some op
+IsEntryFor op p core = step_asks (step_of p.inner.regs core) (in_store (stored core []) p).inner ≡ Some op

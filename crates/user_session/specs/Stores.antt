@@ -38,8 +38,8 @@ module _ {P : Type 0} (g : Ghosts P) where
   -- objects
   pub record Uses {T : Type 0} (result : Result T StepFault) (old new : P) : Type 0 where
     pub left : IsErrOf result NoMemory → g.files new ≡ g.files old
-    pub told : ¬ IsErrOf result Disk → g.tells new ≡ g.tells old
-    pub works : ¬ IsErrOf result Disk → g.Works new
+    pub telling : ¬ IsErrOf result Disk → g.tells new ≡ g.tells old
+    pub usable : ¬ IsErrOf result Disk → g.Usable new
     pub keeps : g.Keeps old new
     pub cause : IsErrOf result Disk → Rose (g.faults old) (g.faults new)
 

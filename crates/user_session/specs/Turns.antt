@@ -6,7 +6,7 @@ use Rattle.program_model.specs.declared.EntryFault.{EntryFault}
 use Rattle.ctss_types.specs.declared.file.CommonOp.{CommonOp}
 use Rattle.ctss_types.specs.declared.file.Reply.{Reply}
 use Rattle.ctss_types.specs.declared.file.Reply.TheVariants as reply
-use Rattle.machine_model.specs.Machine.{table}
+use Rattle.machine_model.specs.Machine.{step_of}
 use Rattle.machine_model.specs.Step.{entry}
 use Rattle.time_sharing.specs.Machine.{Line}
 use Rattle.user_model.specs.declared.Command.{Command}
@@ -41,7 +41,7 @@ IsTurn (Asks op) now old new before after = IsAsked op old new before after
 
 -- a supervisor entry that is still to be done
 pub record IsAtEntry (name : ℕ) (old new : User) (before after : Stored) : Type 0 where
-  pub at : table old.inner.regs before.core ≡ entry name
+  pub at : step_of old.inner.regs before.core ≡ entry name
   pub same : new ≡ old
   pub store : after ≡ before
 

@@ -32,9 +32,9 @@ impl Session {
         files: &mut P,
         name: Word,
     ) -> Result<Result<Assembly, Refusal>, StepFault>
-        requires port { P.Works files.old }
-        ensures told { IfOk result (λ told. OfSome (P.tells files.old) (P.files files.old)
-            (λ fs. told ≡ assembly_got (got (cards_name name) fs))) }
+        requires port { P.Usable files.old }
+        ensures answer { IfOk result (λ answer. OfSome (P.tells files.old) (P.files files.old)
+            (λ fs. answer ≡ assembly_got (got (cards_name name) fs))) }
         ensures reads { Reads P.FilePort result files.old files.new }
     {
         match assemble_file(self.talk.allocator(), cards_name(name), files) {
@@ -57,7 +57,7 @@ impl Session {
     ) -> Result<Step, StepFault>
         requires on { self.old.on ≡ true }
         requires size { length (M.words core.now) ≡ 256 * self.old.inner.blocks }
-        requires port { P.Works files.old }
+        requires port { P.Usable files.old }
         requires quota { P.quota files.old ≡ self.old.inner.account.tracks }
         requires fits { self.old.own < 2 ^ 64 - 1 }
         ensures row { IfOk result (λ s. Over (P.tells files.old)

@@ -49,9 +49,9 @@ impl Session {
           transcript = self.old.transcript
               ++ In line ∷ Out (time_text now) ∷ out_all (option_to_list text ++ ready_text 1 ∷ []);
           own = suc self.old.own;
-          before = self.old.own;
+          own_at_command = self.old.own;
         }) }
-        ensures given { self.old.given ≡ 0 }
+        ensures fed { self.old.fed ≡ 0 }
         ensures err { OnErr result (self.new ≡ self.old) }
     {
         self.talk.reserve(4)?;
@@ -69,7 +69,7 @@ impl Session {
           unread = drop 1 self.old.unread;
           transcript = self.old.transcript ++ In line ∷ Out (time_text now) ∷ Out why.now ∷ Out (ready_text 1) ∷ [];
           own = suc self.old.own;
-          before = self.old.own;
+          own_at_command = self.old.own;
         }) }
         ensures err { OnErr result (self.new ≡ self.old) }
     {
@@ -85,7 +85,7 @@ impl Session {
         line: LineText,
         now: u64,
     ) -> Result<Turn, StepFault>
-        requires port { P.Works files.old }
+        requires port { P.Usable files.old }
         requires fits { self.old.own < 2 ^ 64 - 1 }
         ensures row { IfOk result (λ turn. Obeys line Command.Logout turn now self.old self.new
             (stored (M.words core.now) (P.files files.old)) (stored (M.words core.now) (P.files files.new))) }
@@ -114,11 +114,11 @@ impl Session {
         files: &mut P,
         name: Word,
     ) -> Result<Result<Deck, LoadFault>, StepFault>
-        requires port { P.Works files.old }
-        ensures told { IfOk result (λ told. OfSome (P.tells files.old) (P.files files.old)
-            (λ fs. told ≡ deck_of self.now.inner.account.blocks (got (deck_name name) fs))) }
-        ensures blocks { IfOk result (λ told. IfOk told (λ d. d.blocks ≤ self.now.inner.account.blocks)) }
-        ensures start { IfOk result (λ told. IfOk told (λ d. d.start < 2 ^ 15)) }
+        requires port { P.Usable files.old }
+        ensures answer { IfOk result (λ answer. OfSome (P.tells files.old) (P.files files.old)
+            (λ fs. answer ≡ deck_of self.now.inner.account.blocks (got (deck_name name) fs))) }
+        ensures blocks { IfOk result (λ answer. IfOk answer (λ d. d.blocks ≤ self.now.inner.account.blocks)) }
+        ensures start { IfOk result (λ answer. IfOk answer (λ d. d.start < 2 ^ 15)) }
         ensures reads { Reads P.FilePort result files.old files.new }
     {
         match prepare(deck_name(name), self.account.blocks, files) {
@@ -145,9 +145,9 @@ impl Session {
           unread = drop 1 self.old.unread;
           transcript = self.old.transcript ++ In line ∷ Out (time_text now) ∷ [];
           own = suc self.old.own;
-          before = self.old.own;
+          own_at_command = self.old.own;
         }) }
-        ensures given { self.old.given ≡ 0 }
+        ensures fed { self.old.fed ≡ 0 }
         ensures err { OnErr result (self.new ≡ self.old) }
     {
         self.talk.reserve(2)?;
@@ -172,7 +172,7 @@ impl Session {
     ) -> Result<Turn, StepFault>
         requires on { self.old.on ≡ true }
         requires size { length (M.words core.now) ≡ 256 * self.old.inner.blocks }
-        requires port { P.Works files.old }
+        requires port { P.Usable files.old }
         requires fits { self.old.own < 2 ^ 64 - 1 }
         ensures row { IfOk result (λ turn. Over (P.tells files.old)
             (stored (M.words core.now) (P.files files.old)) (stored (M.words core.now) (P.files files.new))
@@ -215,7 +215,7 @@ impl Session {
     ) -> Result<Turn, StepFault>
         requires on { self.old.on ≡ true }
         requires size { length (M.words core.now) ≡ 256 * self.old.inner.blocks }
-        requires port { P.Works files.old }
+        requires port { P.Usable files.old }
         requires quota { P.quota files.old ≡ self.old.inner.account.tracks }
         requires fits { self.old.own < 2 ^ 64 - 1 }
         ensures row { IfOk result (λ turn. Over (P.tells files.old)
@@ -277,7 +277,7 @@ impl Session {
         requires on { self.old.on ≡ true }
         requires works { works_in self.old.inner.state ≡ false }
         requires size { length (M.words core.now) ≡ 256 * self.old.inner.blocks }
-        requires port { P.Works files.old }
+        requires port { P.Usable files.old }
         requires quota { P.quota files.old ≡ self.old.inner.account.tracks }
         requires fits { self.old.own < 2 ^ 64 - 1 }
         ensures turn { IfOk result (λ turn. Over (P.tells files.old)

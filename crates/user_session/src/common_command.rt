@@ -40,7 +40,7 @@ impl Session {
     ) -> Result<Turn, StepFault>
         requires on { self.old.on ≡ true }
         requires size { length (M.words core.now) ≡ 256 * self.old.inner.blocks }
-        requires port { P.Works files.old }
+        requires port { P.Usable files.old }
         requires fits { self.old.own < 2 ^ 64 - 1 }
         ensures row { IfOk result (λ turn. Over (P.tells files.old)
             (stored (M.words core.now) (P.files files.old)) (stored (M.words core.now) (P.files files.new))
@@ -73,7 +73,7 @@ impl Session {
     ) -> Result<Step, StepFault>
         requires on { self.old.on ≡ true }
         requires size { length (M.words core.now) ≡ 256 * self.old.inner.blocks }
-        requires port { P.Works files.old }
+        requires port { P.Usable files.old }
         requires quota { P.quota files.old ≡ self.old.inner.account.tracks }
         requires fits { self.old.own < 2 ^ 64 - 1 }
         ensures row { (fs : List FileBody) → known (P.tells files.old) fs ≡ P.files files.old
@@ -106,7 +106,7 @@ impl Session {
     ) -> Result<Step, StepFault>
         requires on { self.old.on ≡ true }
         requires size { length (M.words core.now) ≡ 256 * self.old.inner.blocks }
-        requires port { P.Works files.old }
+        requires port { P.Usable files.old }
         requires quota { P.quota files.old ≡ self.old.inner.account.tracks }
         requires fits { self.old.own < 2 ^ 64 - 1 }
         ensures row { (fs : List FileBody) → known (P.tells files.old) fs ≡ P.files files.old

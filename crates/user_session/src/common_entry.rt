@@ -98,7 +98,7 @@ impl Session {
         requires arguments { arguments ≤ 3 }
         requires size { length (M.words core.old) ≡ 256 * self.old.inner.blocks }
         requires fits { self.old.own < 2 ^ 64 - 1 }
-        requires told { ReplyFits reply.now }
+        requires reply_fits { ReplyFits reply.now }
         ensures row { (fs : List FileBody) → Answered arguments at reply.now result.ending result.clock
             self.old self.new (stored (M.words core.old) fs) (stored (M.words core.new) fs) }
         ensures account { self.new.inner.account ≡ self.old.inner.account }
@@ -135,7 +135,7 @@ impl Session {
         requires on { self.old.on ≡ true }
         requires size { length (M.words core.old) ≡ 256 * self.old.inner.blocks }
         requires fits { self.old.own < 2 ^ 64 - 1 }
-        requires told { ReplyFits reply.now }
+        requires reply_fits { ReplyFits reply.now }
         requires asks { (op : CommonOp) × (call_asks call (M.words core.old) ≡ Some op) }
         ensures row { (fs : List FileBody) → CallTook call reply.now result.ending result.clock
             self.old self.new (stored (M.words core.old) fs) (stored (M.words core.new) fs) }

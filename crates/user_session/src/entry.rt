@@ -3,7 +3,7 @@ ghost use Rattle.std.specs.Prelude.{◌≡◌, ◌<◌, ◌≤◌, ◌+◌, ◌-
 ghost use Rattle.std.specs.List.{list_all};
 ghost use Rattle.bcd48.specs.Characters.{is_character};
 ghost use Rattle.cpu_regs.specs.Registers.{no_registers};
-ghost use Rattle.machine_model.specs.Machine.{table};
+ghost use Rattle.machine_model.specs.Machine.{step_of};
 ghost use Rattle.machine_model.specs.Step.{entry};
 ghost use Rattle.program_model.specs.declared.Call.{Call};
 ghost use Rattle.program_model.specs.Calls.{call_of, is_line_count, answered};
@@ -56,14 +56,14 @@ impl Session {
         ensures ok { OnOk result (self.new ≡ record self.old {
           inner = record self.old.inner { state = program.Dormant };
           transcript = self.old.transcript ++ Out (stop_text why.now self.old.inner.regs.ic)
-              ∷ Out (ready_text (suc self.old.own - self.old.before)) ∷ [];
+              ∷ Out (ready_text (suc self.old.own - self.old.own_at_command)) ∷ [];
           own = suc self.old.own;
         }) }
-        ensures given { self.old.given ≡ 0 }
+        ensures fed { self.old.fed ≡ 0 }
         ensures err { OnErr result (self.new ≡ self.old) }
     {
         self.talk.reserve(2)?;
-        let n = self.own + 1 - self.before;
+        let n = self.own + 1 - self.own_at_command;
         self.talk.say_stop(why, self.regs.ic, n);
         self.stop();
         Ok(())
@@ -110,7 +110,7 @@ impl Session {
           };
           own = suc self.old.own;
         } }
-        ensures given { self.old.given ≡ 0 }
+        ensures fed { self.old.fed ≡ 0 }
     {
         answer(&mut self.regs, arguments, reply, value);
         self.own += 1;
@@ -260,7 +260,7 @@ impl Session {
         ensures err { OnErr result (self.new ≡ self.old) }
     {
         self.talk.reserve(1)?;
-        let n = self.own + 1 - self.before;
+        let n = self.own + 1 - self.own_at_command;
         self.talk.write(ready_text(n));
         self.own += 1;
         self.state = ProgramState::Dead;
@@ -282,7 +282,7 @@ impl Session {
         ensures err { OnErr result (self.new ≡ self.old) }
     {
         self.talk.reserve(1)?;
-        let n = self.own + 1 - self.before;
+        let n = self.own + 1 - self.own_at_command;
         self.talk.write(ready_text(n));
         answer(&mut self.regs, 0, 0, None);
         self.stop();
@@ -299,7 +299,7 @@ impl Session {
     ) -> Result<Turn, StepFault>
         requires on { self.old.on ≡ true }
         requires size { length (M.words core.old) ≡ 256 * self.old.inner.blocks }
-        requires port { P.Works files.old }
+        requires port { P.Usable files.old }
         requires quota { P.quota files.old ≡ self.old.inner.account.tracks }
         requires fits { self.old.own < 2 ^ 64 - 1 }
         requires within { HasBuffer (length (M.words core.old)) call }
@@ -366,9 +366,9 @@ impl Session {
         requires on { self.old.on ≡ true }
         requires works { works_in self.old.inner.state ≡ true }
         requires filled { self.old.inner.fill ≡ None }
-        requires at { table self.old.inner.regs (M.words core.old) ≡ entry name }
+        requires at { step_of self.old.inner.regs (M.words core.old) ≡ entry name }
         requires size { length (M.words core.old) ≡ 256 * self.old.inner.blocks }
-        requires port { P.Works files.old }
+        requires port { P.Usable files.old }
         requires quota { P.quota files.old ≡ self.old.inner.account.tracks }
         requires fits { self.old.own < 2 ^ 64 - 1 }
         requires time { now < 2 ^ 35 }

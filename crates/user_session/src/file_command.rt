@@ -41,10 +41,10 @@ impl Session {
     /// A command is a step, from which `R n` counts anew.
     pub(crate) fn count_command(&mut self)
         requires fits { self.old.own < 2 ^ 64 - 1 }
-        ensures user { self.new ≡ record self.old { own = suc self.old.own; before = self.old.own } }
-        ensures given { self.old.given ≡ 0 }
+        ensures user { self.new ≡ record self.old { own = suc self.old.own; own_at_command = self.old.own } }
+        ensures fed { self.old.fed ≡ 0 }
     {
-        self.before = self.own;
+        self.own_at_command = self.own;
         self.own += 1;
     }
 
@@ -60,9 +60,9 @@ impl Session {
           unread = drop 1 self.old.unread;
           transcript = self.old.transcript ++ In line ∷ Out (time_text now) ∷ out_all (lines.now ++ ready_text 1 ∷ []);
           own = suc self.old.own;
-          before = self.old.own;
+          own_at_command = self.old.own;
         }) }
-        ensures given { self.old.given ≡ 0 }
+        ensures fed { self.old.fed ≡ 0 }
         ensures err { OnErr result (self.new ≡ self.old) }
     {
         self.talk.reserve(lines.len() + 3)?;
@@ -83,7 +83,7 @@ impl Session {
         now: u64,
     ) -> Result<Step, StepFault>
         requires size { length (M.words core.now) ≡ 256 * self.old.inner.blocks }
-        requires port { P.Works files.old }
+        requires port { P.Usable files.old }
         requires quota { P.quota files.old ≡ self.old.inner.account.tracks }
         requires fits { self.old.own < 2 ^ 64 - 1 }
         ensures row { (fs : List FileBody) → known (P.tells files.old) fs ≡ P.files files.old
@@ -122,7 +122,7 @@ impl Session {
     ) -> Result<Step, NoMemory>
         requires on { self.old.on ≡ true }
         requires size { length (M.words core.now) ≡ 256 * self.old.inner.blocks }
-        requires port { P.Works files.now }
+        requires port { P.Usable files.now }
         requires quota { P.quota files.now ≡ self.old.inner.account.tracks }
         requires fits { self.old.own < 2 ^ 64 - 1 }
         ensures row { IfOk result (λ s. DidCommand line Command.List s.ending s.clock now self.old self.new
@@ -137,7 +137,7 @@ impl Session {
 
     /// A file's words as lines, or why there are none.
     fn lines_of<P: FilePort>(&self, files: &mut P, name: FileName) -> Result<LineList, StepFault>
-        requires port { P.Works files.old }
+        requires port { P.Usable files.old }
         ensures lines { IfOk result (λ lines. OfSome (P.tells files.old) (P.files files.old)
             (λ fs. lines ≡ printed (got name fs))) }
         ensures reads { Reads P.FilePort result files.old files.new }
@@ -166,7 +166,7 @@ impl Session {
     ) -> Result<Turn, StepFault>
         requires on { self.old.on ≡ true }
         requires size { length (M.words core.now) ≡ 256 * self.old.inner.blocks }
-        requires port { P.Works files.old }
+        requires port { P.Usable files.old }
         requires fits { self.old.own < 2 ^ 64 - 1 }
         ensures row { IfOk result (λ turn. Over (P.tells files.old)
             (stored (M.words core.now) (P.files files.old)) (stored (M.words core.now) (P.files files.new))
@@ -193,7 +193,7 @@ impl Session {
     ) -> Result<Turn, StepFault>
         requires on { self.old.on ≡ true }
         requires size { length (M.words core.now) ≡ 256 * self.old.inner.blocks }
-        requires port { P.Works files.old }
+        requires port { P.Usable files.old }
         requires fits { self.old.own < 2 ^ 64 - 1 }
         ensures row { IfOk result (λ turn. Obeys line (Command.Rename name to) turn now self.old self.new
             (stored (M.words core.now) (P.files files.old)) (stored (M.words core.now) (P.files files.new))) }
@@ -230,7 +230,7 @@ impl Session {
     ) -> Result<Turn, StepFault>
         requires on { self.old.on ≡ true }
         requires size { length (M.words core.now) ≡ 256 * self.old.inner.blocks }
-        requires port { P.Works files.old }
+        requires port { P.Usable files.old }
         requires fits { self.old.own < 2 ^ 64 - 1 }
         ensures row { IfOk result (λ turn. Obeys line (Command.Delete name) turn now self.old self.new
             (stored (M.words core.now) (P.files files.old)) (stored (M.words core.now) (P.files files.new))) }
@@ -268,7 +268,7 @@ impl Session {
     ) -> Result<Turn, StepFault>
         requires on { self.old.on ≡ true }
         requires size { length (M.words core.now) ≡ 256 * self.old.inner.blocks }
-        requires port { P.Works files.old }
+        requires port { P.Usable files.old }
         requires fits { self.old.own < 2 ^ 64 - 1 }
         ensures row { IfOk result (λ turn. Obeys line (Command.ChangeMode name mode) turn now self.old self.new
             (stored (M.words core.now) (P.files files.old)) (stored (M.words core.now) (P.files files.new))) }

@@ -33,7 +33,7 @@ impl Session {
     ) -> Turn
         requires on { self.old.on ≡ true }
         requires size { length (M.words core.now) ≡ 256 * self.old.inner.blocks }
-        requires port { P.Works files.now }
+        requires port { P.Usable files.now }
         requires fits { self.old.own < 2 ^ 64 - 1 }
         ensures row { Enters (Ok (Call.FileStat name)) result now self.old self.new
             (stored (M.words core.now) (P.files files.now)) (stored (M.words core.now) (P.files files.now)) }
@@ -66,7 +66,7 @@ impl Session {
     ) -> Result<Turn, StepFault>
         requires on { self.old.on ≡ true }
         requires size { length (M.words core.old) ≡ 256 * self.old.inner.blocks }
-        requires port { P.Works files.old }
+        requires port { P.Usable files.old }
         requires fits { self.old.own < 2 ^ 64 - 1 }
         requires within { HasBuffer (length (M.words core.old)) (Call.ReadFile name at count place) }
         ensures row { IfOk result (λ turn. Over (P.tells files.old)
@@ -107,7 +107,7 @@ impl Session {
     ) -> Result<Turn, StepFault>
         requires on { self.old.on ≡ true }
         requires size { length (M.words core.now) ≡ 256 * self.old.inner.blocks }
-        requires port { P.Works files.old }
+        requires port { P.Usable files.old }
         requires quota { P.quota files.old ≡ self.old.inner.account.tracks }
         requires fits { self.old.own < 2 ^ 64 - 1 }
         requires within { HasBuffer (length (M.words core.now)) (Call.WriteFile name at count place) }
@@ -144,7 +144,7 @@ impl Session {
     ) -> Result<Turn, StepFault>
         requires on { self.old.on ≡ true }
         requires size { length (M.words core.now) ≡ 256 * self.old.inner.blocks }
-        requires port { P.Works files.old }
+        requires port { P.Usable files.old }
         requires fits { self.old.own < 2 ^ 64 - 1 }
         ensures row { IfOk result (λ turn. Enters (Ok (Call.DeleteFile name)) turn now self.old self.new
             (stored (M.words core.now) (P.files files.old)) (stored (M.words core.now) (P.files files.new))) }
@@ -178,7 +178,7 @@ impl Session {
     ) -> Result<Turn, StepFault>
         requires on { self.old.on ≡ true }
         requires size { length (M.words core.now) ≡ 256 * self.old.inner.blocks }
-        requires port { P.Works files.old }
+        requires port { P.Usable files.old }
         requires fits { self.old.own < 2 ^ 64 - 1 }
         ensures row { IfOk result (λ turn. Enters (Ok (Call.RenameFile name to)) turn now self.old self.new
             (stored (M.words core.now) (P.files files.old)) (stored (M.words core.now) (P.files files.new))) }
@@ -212,7 +212,7 @@ impl Session {
     ) -> Result<Turn, StepFault>
         requires on { self.old.on ≡ true }
         requires size { length (M.words core.now) ≡ 256 * self.old.inner.blocks }
-        requires port { P.Works files.old }
+        requires port { P.Usable files.old }
         requires fits { self.old.own < 2 ^ 64 - 1 }
         ensures row { IfOk result (λ turn. Enters (Ok (Call.ChangeMode name mode)) turn now self.old self.new
             (stored (M.words core.now) (P.files files.old)) (stored (M.words core.now) (P.files files.new))) }

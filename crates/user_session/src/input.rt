@@ -27,7 +27,7 @@ impl Session {
     ) -> Result<Turn, StepFault>
         requires on { self.old.on ≡ true }
         requires size { length (M.words core.now) ≡ 256 * self.old.inner.blocks }
-        requires port { P.Works files.old }
+        requires port { P.Usable files.old }
         requires quota { P.quota files.old ≡ self.old.inner.account.tracks }
         requires fits { self.old.own < 2 ^ 64 - 1 }
         ensures row { IfOk result (λ turn. Over (P.tells files.old)
@@ -77,7 +77,7 @@ impl Session {
     ) -> Result<Step, StepFault>
         requires on { self.old.on ≡ true }
         requires size { length (M.words core.now) ≡ 256 * self.old.inner.blocks }
-        requires port { P.Works files.old }
+        requires port { P.Usable files.old }
         requires quota { P.quota files.old ≡ self.old.inner.account.tracks }
         requires fits { self.old.own < 2 ^ 64 - 1 }
         ensures row { IfOk result (λ s. Over (P.tells files.old)
@@ -88,7 +88,7 @@ impl Session {
         ensures uses { Uses P.FilePort result files.old files.new }
     {
         self.talk.reserve(3)?;
-        let n = self.own + 1 - self.before;
+        let n = self.own + 1 - self.own_at_command;
         if line.is_empty() {
             self.talk.end_input(line, None, n);
             self.input = None;

@@ -34,11 +34,11 @@ impl Session {
         with: Fill,
     ) -> Result<(), StepFault>
         requires start { StartsInCore with }
-        requires port { P.Works files.old }
+        requires port { P.Usable files.old }
         requires fits { self.old.own < 2 ^ 64 - 1 }
         ensures ok { OnOk result (OfSome (P.tells files.old) (P.files files.old)
             (λ fs. IsStored with fs self.old self.new (M.words core.old) (M.words core.new))) }
-        ensures given { self.old.given ≡ 0 }
+        ensures fed { self.old.fed ≡ 0 }
         ensures err { OnErr result (self.new ≡ self.old) }
         ensures err_core { OnErr result (M.words core.new ≡ M.words core.old) }
         ensures keeps { M.Keeps core.old core.new }
@@ -63,7 +63,7 @@ impl Session {
         requires waits { self.old.inner.fill ≡ Some with }
         requires start { StartsInCore with }
         requires size { length (M.words core.old) ≡ 256 * self.old.inner.blocks }
-        requires port { P.Works files.old }
+        requires port { P.Usable files.old }
         requires fits { self.old.own < 2 ^ 64 - 1 }
         ensures turn { IfOk result (λ turn. Over (P.tells files.old)
             (stored (M.words core.old) (P.files files.old)) (stored (M.words core.new) (P.files files.new))
@@ -85,7 +85,7 @@ impl Session {
         requires filled { self.old.inner.fill ≡ None }
         requires size { length (M.words core.old) ≡ 256 * self.old.inner.blocks }
         requires fits { self.old.own < 2 ^ 64 - 1 }
-        ensures does { (fs : List FileBody) → IfOk result (λ told. Instructs told now self.old self.new
+        ensures does { (fs : List FileBody) → IfOk result (λ done. Instructs done now self.old self.new
             (stored (M.words core.old) fs) (stored (M.words core.new) fs)) }
         ensures account { self.new.inner.account ≡ self.old.inner.account }
         ensures err { OnErr result (self.new ≡ self.old) }
@@ -94,7 +94,7 @@ impl Session {
     {
         self.talk.reserve(2)?;
         let place = self.regs.ic;
-        let n = self.own + 1 - self.before;
+        let n = self.own + 1 - self.own_at_command;
         match step(&mut self.regs, core) {
             Stepped::Went => {
                 self.own += 1;
@@ -130,7 +130,7 @@ impl Session {
         requires works { works_in self.old.inner.state ≡ true }
         requires filled { self.old.inner.fill ≡ None }
         requires size { length (M.words core.old) ≡ 256 * self.old.inner.blocks }
-        requires port { P.Works files.old }
+        requires port { P.Usable files.old }
         requires quota { P.quota files.old ≡ self.old.inner.account.tracks }
         requires fits { self.old.own < 2 ^ 64 - 1 }
         requires time { now < 2 ^ 35 }
@@ -180,7 +180,7 @@ impl Session {
         requires asks { (op : CommonOp) × IsEntryFor op self.old (M.words core.old) }
         requires size { length (M.words core.old) ≡ 256 * self.old.inner.blocks }
         requires fits { self.old.own < 2 ^ 64 - 1 }
-        requires told { ReplyFits reply.now }
+        requires reply_fits { ReplyFits reply.now }
         ensures step { (op : CommonOp) (fs : List FileBody) → IsEntryFor op self.old (M.words core.old)
             → IsReplied result op reply.now now self.old self.new (stored (M.words core.old) fs)
             (stored (M.words core.new) fs) }
@@ -209,10 +209,10 @@ impl Session {
         requires asks { (op : CommonOp) × IsToMake (P.tells files.old)
             (stored (M.words core.old) (P.files files.old)) op self.old }
         requires size { length (M.words core.old) ≡ 256 * self.old.inner.blocks }
-        requires port { P.Works files.old }
+        requires port { P.Usable files.old }
         requires quota { P.quota files.old ≡ self.old.inner.account.tracks }
         requires fits { self.old.own < 2 ^ 64 - 1 }
-        requires told { ReplyFits reply.now }
+        requires reply_fits { ReplyFits reply.now }
         ensures step { (op : CommonOp) → IsToMake (P.tells files.old)
             (stored (M.words core.old) (P.files files.old)) op self.old
             → IfOk result (λ s. Over (P.tells files.old)
@@ -245,7 +245,7 @@ impl Session {
         now: u64,
     ) -> Result<Turn, StepFault>
         requires size { length (M.words core.old) ≡ 256 * self.old.inner.blocks }
-        requires port { P.Works files.old }
+        requires port { P.Usable files.old }
         requires quota { P.quota files.old ≡ self.old.inner.account.tracks }
         requires fits { self.old.own < 2 ^ 64 - 1 }
         requires time { now < 2 ^ 35 }

@@ -78,7 +78,7 @@ impl Session {
     ) -> Result<Step, StepFault>
         requires on { self.old.on ≡ true }
         requires size { length (M.words core.now) ≡ 256 * self.old.inner.blocks }
-        requires port { P.Works files.old }
+        requires port { P.Usable files.old }
         requires quota { P.quota files.old ≡ self.old.inner.account.tracks }
         requires fits { self.old.own < 2 ^ 64 - 1 }
         ensures row { IfOk result (λ s. Over (P.tells files.old)
@@ -102,10 +102,10 @@ impl Session {
         files: &mut P,
         name: Word,
     ) -> Result<Result<u8, LoadFault>, StepFault>
-        requires port { P.Works files.old }
-        ensures told { IfOk result (λ told. OfSome (P.tells files.old) (P.files files.old)
-            (λ fs. told ≡ saved_of self.now.inner.account.blocks (got (saved_name name) fs))) }
-        ensures blocks { IfOk result (λ told. IfOk told (λ b. b ≤ self.now.inner.account.blocks)) }
+        requires port { P.Usable files.old }
+        ensures answer { IfOk result (λ answer. OfSome (P.tells files.old) (P.files files.old)
+            (λ fs. answer ≡ saved_of self.now.inner.account.blocks (got (saved_name name) fs))) }
+        ensures blocks { IfOk result (λ answer. IfOk answer (λ b. b ≤ self.now.inner.account.blocks)) }
         ensures reads { Reads P.FilePort result files.old files.new }
     {
         match prepare_saved(saved_name(name), self.account.blocks, files) {
@@ -128,7 +128,7 @@ impl Session {
     ) -> Result<Turn, StepFault>
         requires on { self.old.on ≡ true }
         requires size { length (M.words core.now) ≡ 256 * self.old.inner.blocks }
-        requires port { P.Works files.old }
+        requires port { P.Usable files.old }
         requires fits { self.old.own < 2 ^ 64 - 1 }
         ensures row { IfOk result (λ turn. Over (P.tells files.old)
             (stored (M.words core.now) (P.files files.old)) (stored (M.words core.now) (P.files files.new))

@@ -22,7 +22,7 @@ pub struct Session {
     pub(crate) on: bool,
     pub(crate) talk: Dialogue,
     pub(crate) own: u64,
-    pub(crate) before: u64,
+    pub(crate) own_at_command: u64,
     pub(crate) state: ProgramState,
     pub(crate) regs: Regs,
     pub(crate) blocks: u8,
@@ -52,13 +52,13 @@ impl Model for Session {
       on = s.on;
       unread = s.talk.unread;
       lines = s.talk.lines;
-      given = 0;
+      fed = 0;
       transcript = s.talk.transcript;
       own = s.own;
-      before = s.before;
+      own_at_command = s.own_at_command;
     } };
 
-    ghost invariant = { λ s. (s.before ≤ s.own) × (s.regs.ic < 2 ^ 15) × (s.blocks ≤ s.account.blocks)
+    ghost invariant = { λ s. (s.own_at_command ≤ s.own) × (s.regs.ic < 2 ^ 15) × (s.blocks ≤ s.account.blocks)
         × (s.account.blocks ≤ 128) × IfSome s.fill (λ f. StartsInCore f) };
 }
 
@@ -84,7 +84,7 @@ impl Session {
             on: false,
             talk,
             own: 0,
-            before: 0,
+            own_at_command: 0,
             state: ProgramState::Dead,
             regs: Regs::new(),
             blocks: 0,
@@ -192,7 +192,7 @@ impl Session {
         ensures ok { OnOk result (self.new ≡ cut Quit self.old) }
         ensures err { OnErr result (self.new ≡ self.old) }
     {
-        self.talk.quit(self.state, self.own - self.before)?;
+        self.talk.quit(self.state, self.own - self.own_at_command)?;
         if self.state == ProgramState::Working {
             self.state = ProgramState::Dormant;
         }

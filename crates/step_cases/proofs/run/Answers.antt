@@ -14,7 +14,7 @@ steps-preserved c =
     let many = many_sum c.steps.done c.run-done.result c.args.regs.now c.steps.regs c.args.core.now c.steps.core before.steps ∙ c.run-done.ensures.steps in
     record {
       most = omega (arith, up, most, before.most);
-      steps = many_more (c.steps.done + c.run-done.result) c.args.regs.now c.run-done.new.regs c.step.new.regs c.args.core.now c.run-done.new.core c.step.new.core many (sym c.in-Went.ensures.table);
+      steps = many_more (c.steps.done + c.run-done.result) c.args.regs.now c.run-done.new.regs c.step.new.regs c.args.core.now c.run-done.new.core c.step.new.core many (sym c.in-Went.ensures.step_of);
       ic = c.step.ensures.ic;
     }
 
@@ -23,4 +23,4 @@ returns-in_default c =
     let up = c.steps-test.true in
     let most = c.run-done.ensures.most in
     let many = many_sum c.steps.done c.run-done.result c.args.regs.now c.steps.regs c.args.core.now c.steps.core c.steps.invariant.steps ∙ c.run-done.ensures.steps in
-    stops (c.steps.done + c.run-done.result) c.args.steps c.step.result c.args.regs.now c.run-done.new.regs c.step.new.regs c.args.core.now c.run-done.new.core c.step.new.core (omega (arith, up, most)) c.in_default.not-Went many c.step.ensures.table
+    stops (c.steps.done + c.run-done.result) c.args.steps c.step.result c.args.regs.now c.run-done.new.regs c.step.new.regs c.args.core.now c.run-done.new.core c.step.new.core (omega (arith, up, most)) c.in_default.not-Went many c.step.ensures.step_of

@@ -9,4 +9,4 @@ of_ok r x P is h = subst (λ (q : Result _ _). OnOk q P) is h
 pub play-requires-clause-sound : goal.play-requires-clause-sound
 play-requires-clause-sound g c =
     let wrote = c.in_ok-run.field-0.wrote in
-    (of_ok wrote c.in-Ok.field-0 _ c.in-Ok.is c.in_ok-run.ensures.works, (of_ok wrote c.in-Ok.field-0 _ c.in-Ok.is c.in_ok-run.ensures.begun.begins).ready)
+    (of_ok wrote c.in-Ok.field-0 _ c.in-Ok.is c.in_ok-run.ensures.usable, (of_ok wrote c.in-Ok.field-0 _ c.in-Ok.is c.in_ok-run.ensures.begun.begins).ready)

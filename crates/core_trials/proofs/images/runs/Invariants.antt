@@ -8,7 +8,7 @@ abbrev pub invariant-steps : goal.invariant-steps
 invariant-steps g l = record {
   same : l.image.tables.kept.drum.ghost_name ≡ l.fn.image.tables.kept.drum.ghost_name;
   words : AreWords l.image.bank;
-  serves : Serves (g.D.Medium.rows l.image.tables.kept.drum.now)
+  serves : Serves (g.D.Medium.contents l.image.tables.kept.drum.now)
       (g.D.Medium.record_count l.image.tables.kept.drum.now)
       (g.D.Medium.words_each l.image.tables.kept.drum.now) (records_of l.image.tables.kept.slots);
   quotas : l.image.tables.kept.slots.quotas ≡ l.fn.image.tables.kept.slots.quotas;

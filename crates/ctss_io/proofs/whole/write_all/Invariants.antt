@@ -7,7 +7,7 @@ abbrev pub invariant-writing : goal.invariant-writing
 invariant-writing g l = record {
   within : l.done ≤ length l.text;
   sent : g.K.Sink.held l.sink ≡ after (g.K.Sink.held l.fn.sink) (take l.done l.text);
-  kept : g.K.Sink.faults l.fn.sink ≤ g.K.Sink.faults l.sink;
+  faults_grow : g.K.Sink.faults l.fn.sink ≤ g.K.Sink.faults l.sink;
   untouched : l.done ≡ 0 → l.sink ≡ l.fn.sink;
 }
 

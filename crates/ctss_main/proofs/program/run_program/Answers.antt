@@ -16,9 +16,9 @@ returns g c =
     let e = c.run_ctss-outcome.ensures in
     let old = handed g.S.Source g.K.Sink c.args.input.now c.args.output.now (g.L.Link.seen c.args.link.now) in
     let new = handed g.S.Source g.K.Sink c.run_ctss-outcome.new.input c.run_ctss-outcome.new.output (g.L.Link.seen c.run_ctss-outcome.new.link) in
-    is_answered c.args.words.now old new c.run_ctss-outcome.new.disk.rows c.run_ctss-outcome.result
-    (subst (λ (rows : List (List ℕ)). Answers c.args.words.now (with_media old rows) (with_media new c.run_ctss-outcome.new.disk.rows) c.run_ctss-outcome.result)
-    (ap (λ (d : PagesState). d.rows) c.in-Ok-new.ensures)
+    is_answered c.args.words.now old new c.run_ctss-outcome.new.disk.contents c.run_ctss-outcome.result
+    (subst (λ (contents : List (List ℕ)). Answers c.args.words.now (with_media old contents) (with_media new c.run_ctss-outcome.new.disk.contents) c.run_ctss-outcome.result)
+    (ap (λ (d : PagesState). d.contents) c.in-Ok-new.ensures)
     (record {
       headline = e.headline;
       deck = e.deck;

@@ -15,14 +15,14 @@ use Rattle.ctss_top.proofs.live.serve_consoles.Goals as goal
 
 pub returns-in-Err-TooLong-clause-refused : goal.returns-in-Err-TooLong-clause-refused
 returns-in-Err-TooLong-clause-refused g c h =
-    refused_long (Serve c.args.port c.args.turns) _ _ _ (c.in-Err-TooLong.ensures.stopped (ap Err c.in-Err-TooLong.field-0-is)) (c.refuse_script.ensures.refused h) (c.refuse_script.ensures.told h) refl refl
+    refused_long (Serve c.args.port c.args.turns) _ _ _ (c.in-Err-TooLong.ensures.stopped (ap Err c.in-Err-TooLong.field-0-is)) (c.refuse_script.ensures.refused h) (c.refuse_script.ensures.written h) refl refl
 
 pub returns-in-Err-TooLong-clause-part : goal.returns-in-Err-TooLong-clause-part
 returns-in-Err-TooLong-clause-part g c words asked h =
     cut_long words (Serve c.args.port c.args.turns) asked refl _ _ _ (c.in-Err-TooLong.ensures.stopped (ap Err c.in-Err-TooLong.field-0-is)) (c.refuse_script.ensures.cut h) (c.refuse_script.ensures.part h) refl
 
-pub returns-in-Err-TooLong-clause-told : goal.returns-in-Err-TooLong-clause-told
-returns-in-Err-TooLong-clause-told g c = live_told_long _ _ (c.in-Err-TooLong.ensures.too_long (ap Err c.in-Err-TooLong.field-0-is)) c.refuse_script.ensures.status
+pub returns-in-Err-TooLong-clause-statuses : goal.returns-in-Err-TooLong-clause-statuses
+returns-in-Err-TooLong-clause-statuses g c = live_told_long _ _ (c.in-Err-TooLong.ensures.too_long (ap Err c.in-Err-TooLong.field-0-is)) c.refuse_script.ensures.status
 
 pub host-requires-clause-lawful : goal.host-requires-clause-lawful
 host-requires-clause-lawful g c = scripts_are_lawful _ _ (bases_are_scripts _ _ c.in-Ok-read_base.ensures)

@@ -1,7 +1,7 @@
 use Rattle.std.proofs.Common.{List, take_all, sym, ap, subst, ◌∙◌}
 use Rattle.plan_model.specs.Loads.{no_places}
 use Rattle.time_sharing.specs.System.{Timed}
-use Rattle.system_model.specs.Run.{Run, given, given_all}
+use Rattle.system_model.specs.Run.{Run, with_one_event, with_all_events}
 use Rattle.system_model.specs.Sound.{HasSeat}
 use Rattle.supervisor.specs.Seen.{run_with}
 use Rattle.ctss_top.proofs.Runs.{seated, one_more}
@@ -21,7 +21,7 @@ loop-event-preserved c =
     record {
       run = λ places.
           c.in_ok-take.ensures.ok places
-          ∙ ap (given c.event-item.result) (c.loop-event.invariant.run places)
+          ∙ ap (with_one_event c.event-item.result) (c.loop-event.invariant.run places)
           ∙ one_more _ c.loop-event.event-index c.event-item.result (run_with places c.args.supervisor.now) c.loop-event-test.true c.event-item.is;
       texts = c.in_ok-take.ensures.texts ∙ c.loop-event.invariant.texts;
     }
@@ -29,4 +29,4 @@ loop-event-preserved c =
 pub returns-clause-given : goal.returns-clause-given
 returns-clause-given c = λ places.
     c.loop-event.invariant.run places
-    ∙ ap (λ (es : List Timed). given_all es (run_with places c.args.supervisor.now)) (take_all c.loop-event.event-index _ c.loop-event-test.false)
+    ∙ ap (λ (es : List Timed). with_all_events es (run_with places c.args.supervisor.now)) (take_all c.loop-event.event-index _ c.loop-event-test.false)

@@ -6,7 +6,7 @@ use Rattle.image_map.specs.State.{DrumState}
 use Rattle.image_map.specs.Image.{state}
 use Rattle.track_directories.specs.Tables.{disk_of, shown}
 use Rattle.user_cores.specs.Backing.{back_of}
-use Rattle.user_cores.specs.Works.{cores_in}
+use Rattle.user_cores.specs.Usable.{cores_in}
 use Rattle.supervisor.specs.Whole.{whole_of}
 use Rattle.supervisor.specs.Closes.{Closes, EndsComplete, EndsWithoutFiles, IfComplete}
 use Rattle.supervisor.specs.declared.finish.Closed.{Closed}
@@ -46,10 +46,10 @@ returns-in-Complete g c =
     let disk = c.back-3.ensures.same ∙ ap (λ d. (disk_of d).ghost_name) ends.files ∙ c.close-closed.ensures.keeps.1 ∙ c.in_ok-run.ensures.disk in
     let closes : EndsComplete s.bare s.back.held rec =
     subst (Closes s.bare s.back (back_of (cores_in (state last.cores)) (shown g.F.Medium last.files))) c.in-Complete.is c.in_ok-record.ensures.closes in
-    let lies = subst (λ (z : Closed). IfComplete z (λ rec. WhereTold (g.F.Medium.rows (disk_of last.files).now) (λ rows. LieOn rows rec.files rec.common))) c.in-Complete.is c.in_ok-record.ensures.lies in
+    let lies = subst (λ (z : Closed). IfComplete z (λ rec. WhereTold (g.F.Medium.contents (disk_of last.files).now) (λ contents. LieOn contents rec.files rec.common))) c.in-Complete.is c.in_ok-record.ensures.lies in
     done c.args.script.now was s _ c.in_default.field-0 (run_as c.args.script.now was s run.ended (Ok c.in_default.field-0) c.in_default.is c.in_ok-run.ensures.ran)
     (sym (ap (λ i. (state i).drum.calls) ends.cores ∙ c.close-closed.ensures.calls) ∙ search (rules, drum)) rec closes
-    (subst (λ (o : Option (List (List _))). WhereTold o (λ rows. LieOn rows rec.files rec.common)) (sym (ap (λ d. g.F.Medium.rows (disk_of d).now) ends.files) ∙ search (rules, disk)) lies)
+    (subst (λ (o : Option (List (List _))). WhereTold o (λ contents. LieOn contents rec.files rec.common)) (sym (ap (λ d. g.F.Medium.contents (disk_of d).now) ends.files) ∙ search (rules, disk)) lies)
 
 pub returns-in-WithoutFiles : goal.returns-in-WithoutFiles
 returns-in-WithoutFiles g c =

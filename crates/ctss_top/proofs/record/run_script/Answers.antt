@@ -3,9 +3,9 @@ use Rattle.image_map.specs.Image.{state}
 use Rattle.plan_model.specs.Loads.{no_places}
 use Rattle.track_directories.specs.Tables.{shown, Sound}
 use Rattle.user_cores.specs.Backing.{back_of}
-use Rattle.user_cores.specs.Works.{IsWhole, cores_in}
+use Rattle.user_cores.specs.Usable.{IsWhole, cores_in}
 use Rattle.time_sharing.specs.System.{Timed}
-use Rattle.system_model.specs.Run.{given_all}
+use Rattle.system_model.specs.Run.{with_all_events}
 use Rattle.supervisor.specs.Seen.{Bare, run_with}
 use Rattle.supervisor.specs.Whole.{whole_of, Agrees}
 use Rattle.live_run.specs.Media.{media_seen}
@@ -15,10 +15,10 @@ use Rattle.ctss_top.specs.Played.{Ran}
 use Rattle.ctss_top.proofs.Runs.{start_is, agrees_at_start, no_entry}
 use Rattle.ctss_top.proofs.record.run_script.Goals as goal
 
-pub advance-ended-requires-clause-works : goal.advance-ended-requires-clause-works
-advance-ended-requires-clause-works g c =
+pub advance-ended-requires-clause-usable : goal.advance-ended-requires-clause-usable
+advance-ended-requires-clause-usable g c =
     subst (λ x. IsWhole (state x.cores) × Sound g.F.Medium x.files) (sym c.into_parts-supervisor.ensures.cores)
-    (ok_of c.in_ok-run.field-0.wrote _ (sym c.is_err.ensures.value ∙ c.if-is_err.false) c.in_ok-run.ensures.works)
+    (ok_of c.in_ok-run.field-0.wrote _ (sym c.is_err.ensures.value ∙ c.if-is_err.false) c.in_ok-run.ensures.usable)
 
 pub advance-ended-requires-clause-agrees : goal.advance-ended-requires-clause-agrees
 advance-ended-requires-clause-agrees g c =
@@ -47,7 +47,7 @@ returns-clause-ran g c =
       start = whole_of c.give_all.new.supervisor back;
       begun = λ told.
           start_is script c.into_parts-supervisor.result.0 c.give_all.new.supervisor back
-          (λ places. c.in_ok-give_all.ensures.given places ∙ ap (λ (es : List Timed). given_all es (run_with places c.into_parts-supervisor.result.0)) c.as_slice.ensures) (begins.run told);
+          (λ places. c.in_ok-give_all.ensures.given places ∙ ap (λ (es : List Timed). with_all_events es (run_with places c.into_parts-supervisor.result.0)) c.as_slice.ensures) (begins.run told);
       entries = no_entry c.as_slice.result.now c.into_parts-supervisor.result.0 c.give_all.new.supervisor (c.in_ok-give_all.ensures.given no_places) begins.entries;
       texts = c.in_ok-give_all.ensures.texts ∙ begins.texts;
       tells = begins.tells;

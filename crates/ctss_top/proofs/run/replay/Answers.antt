@@ -14,13 +14,13 @@ use Rattle.ctss_top.proofs.Says.{refused_long, refused_short, cut_long, cut_shor
 use Rattle.ctss_top.proofs.run.replay.Goals as goal
 
 pub returns-in-Err-TooLong-clause-refused : goal.returns-in-Err-TooLong-clause-refused
-returns-in-Err-TooLong-clause-refused g c link h = refused_long c.args.mode _ _ _ (c.in-Err-TooLong.ensures.stopped (ap Err c.in-Err-TooLong.field-0-is)) (c.refuse_script.ensures.refused h) (c.refuse_script.ensures.told h) refl refl
+returns-in-Err-TooLong-clause-refused g c link h = refused_long c.args.mode _ _ _ (c.in-Err-TooLong.ensures.stopped (ap Err c.in-Err-TooLong.field-0-is)) (c.refuse_script.ensures.refused h) (c.refuse_script.ensures.written h) refl refl
 
 pub returns-in-Err-TooLong-clause-part : goal.returns-in-Err-TooLong-clause-part
 returns-in-Err-TooLong-clause-part g c words link asked h = cut_long words c.args.mode asked (replays_reads c.args.mode c.requires.mode) _ _ _ (c.in-Err-TooLong.ensures.stopped (ap Err c.in-Err-TooLong.field-0-is)) (c.refuse_script.ensures.cut h) (c.refuse_script.ensures.part h) refl
 
-pub returns-in-Err-TooLong-clause-told : goal.returns-in-Err-TooLong-clause-told
-returns-in-Err-TooLong-clause-told g c = told_long _ _ (c.in-Err-TooLong.ensures.too_long (ap Err c.in-Err-TooLong.field-0-is)) c.refuse_script.ensures.status
+pub returns-in-Err-TooLong-clause-statuses : goal.returns-in-Err-TooLong-clause-statuses
+returns-in-Err-TooLong-clause-statuses g c = told_long _ _ (c.in-Err-TooLong.ensures.too_long (ap Err c.in-Err-TooLong.field-0-is)) c.refuse_script.ensures.status
 
 pub perform-requires-clause-mode : goal.perform-requires-clause-mode
 perform-requires-clause-mode g c = replays_runs c.args.mode c.requires.mode
@@ -63,7 +63,7 @@ returns-in-Err-Refused-clause-refused g c link h =
     (replays_script c.args.mode c.requires.mode c.in-Ok.bytes.items ∙ ap script_of (sym c.deref.ensures.value) ∙ read)
     (c.number.ensures ∙ ap (λ (r : ScriptRefusal). cause_number r.cause) c.in-Err-Refused.refusal-is)
     (c.refuse_script-in-Err-Refused.ensures.refused h ∙ ap (λ (r : ScriptRefusal). bare 2 r.card c.number.result) c.in-Err-Refused.refusal-is)
-    (c.refuse_script-in-Err-Refused.ensures.told h ∙ ap (λ (r : ScriptRefusal). after (g.K.Sink.held c.args.sink.now) (script_refused r.card c.number.result)) c.in-Err-Refused.refusal-is)
+    (c.refuse_script-in-Err-Refused.ensures.written h ∙ ap (λ (r : ScriptRefusal). after (g.K.Sink.held c.args.sink.now) (script_refused r.card c.number.result)) c.in-Err-Refused.refusal-is)
     refl refl
 
 pub returns-in-Err-Refused-clause-part : goal.returns-in-Err-Refused-clause-part

@@ -38,7 +38,7 @@ returns-in-Ok-Some-Load-clause-allowed g c =
 pub returns-in-Ok-Some-Serve-clause-allowed : goal.returns-in-Ok-Some-Serve-clause-allowed
 returns-in-Ok-Some-Serve-clause-allowed g c =
     is_allowed c.args.words.now (Some (Serve c.in-Ok-Some-Serve.port c.in-Ok-Some-Serve.turns)) _ c.serve_consoles.result
-    (sym c.in-Ok-Some-Serve.ensures ∙ c.in-Ok-Some-Serve.field-0-is ∙ ap Some c.in-Ok-Some-Serve.field-0-0-is) c.serve_consoles.ensures.status c.serve_consoles.ensures.told
+    (sym c.in-Ok-Some-Serve.ensures ∙ c.in-Ok-Some-Serve.field-0-is ∙ ap Some c.in-Ok-Some-Serve.field-0-0-is) c.serve_consoles.ensures.status c.serve_consoles.ensures.statuses
 
 pub returns-in-Err-clause-allowed : goal.returns-in-Err-clause-allowed
 returns-in-Err-clause-allowed g c = memory_is_allowed c.args.words.now _ c.bare.result c.bare.ensures
@@ -47,13 +47,13 @@ pub returns-in-Ok-Some-Replay-clause-complete : goal.returns-in-Ok-Some-Replay-c
 returns-in-Ok-Some-Replay-clause-complete g c none =
     complete c.args.words.now _ _ c.replay.result (c.replay.ensures.cause _)
     (is_allowed c.args.words.now (Some Replay) _ c.replay.result (sym c.in-Ok-Some-Replay.ensures ∙ c.in-Ok-Some-Replay.field-0-is ∙ ap Some c.in-Ok-Some-Replay.field-0-0-is)
-    c.replay.ensures.status c.replay.ensures.told) none
+    c.replay.ensures.status c.replay.ensures.statuses) none
 
 pub returns-in-Ok-Some-Dump-clause-complete : goal.returns-in-Ok-Some-Dump-clause-complete
 returns-in-Ok-Some-Dump-clause-complete g c none =
     complete c.args.words.now _ _ c.replay-in-Ok-Some-Dump.result (c.replay-in-Ok-Some-Dump.ensures.cause _)
     (is_allowed c.args.words.now (Some Dump) _ c.replay-in-Ok-Some-Dump.result (sym c.in-Ok-Some-Dump.ensures ∙ c.in-Ok-Some-Dump.field-0-is ∙ ap Some c.in-Ok-Some-Dump.field-0-0-is)
-    c.replay-in-Ok-Some-Dump.ensures.status c.replay-in-Ok-Some-Dump.ensures.told) none
+    c.replay-in-Ok-Some-Dump.ensures.status c.replay-in-Ok-Some-Dump.ensures.statuses) none
 
 pub returns-in-Ok-Some-Load-clause-complete : goal.returns-in-Ok-Some-Load-clause-complete
 returns-in-Ok-Some-Load-clause-complete g c none =
@@ -65,13 +65,13 @@ pub returns-in-Ok-Some-Asm-clause-complete : goal.returns-in-Ok-Some-Asm-clause-
 returns-in-Ok-Some-Asm-clause-complete g c none =
     complete c.args.words.now _ _ c.asm.result (cards_have_causes _ _ c.asm.result c.asm.ensures.status c.asm.ensures.unread c.asm.ensures.unwritten)
     (is_allowed c.args.words.now (Some Asm) _ c.asm.result (sym c.in-Ok-Some-Asm.ensures ∙ c.in-Ok-Some-Asm.field-0-is ∙ ap Some c.in-Ok-Some-Asm.field-0-0-is)
-    c.asm.ensures.status c.asm.ensures.told) none
+    c.asm.ensures.status c.asm.ensures.statuses) none
 
 pub returns-in-Ok-Some-Serve-clause-complete : goal.returns-in-Ok-Some-Serve-clause-complete
 returns-in-Ok-Some-Serve-clause-complete g c none =
     complete c.args.words.now _ _ c.serve_consoles.result c.serve_consoles.ensures.cause
     (is_allowed c.args.words.now (Some (Serve c.in-Ok-Some-Serve.port c.in-Ok-Some-Serve.turns)) _ c.serve_consoles.result
-    (sym c.in-Ok-Some-Serve.ensures ∙ c.in-Ok-Some-Serve.field-0-is ∙ ap Some c.in-Ok-Some-Serve.field-0-0-is) c.serve_consoles.ensures.status c.serve_consoles.ensures.told) none
+    (sym c.in-Ok-Some-Serve.ensures ∙ c.in-Ok-Some-Serve.field-0-is ∙ ap Some c.in-Ok-Some-Serve.field-0-0-is) c.serve_consoles.ensures.status c.serve_consoles.ensures.statuses) none
 
 pub returns-in-Ok-None-clause-complete : goal.returns-in-Ok-None-clause-complete
 returns-in-Ok-None-clause-complete g c none =

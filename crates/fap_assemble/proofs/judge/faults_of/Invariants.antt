@@ -1,7 +1,7 @@
 use Rattle.std.proofs.Common.{◌≡◌, ◌+◌, ◌≤◌, ◌++◌, drop}
 use Rattle.fap_model.specs.Places.{nothing_known}
 use Rattle.fap_model.specs.Decks.{faults_from}
-use Rattle.fap_assemble.specs.Fields.{seen}
+use Rattle.fap_assemble.specs.Fields.{known_at}
 use Rattle.fap_assemble.specs.Steps.{texts}
 use Rattle.fap_assemble.specs.Wholes.{whole_in}
 use Rattle.fap_assemble.specs.Follows.{numbered, Follows}
@@ -9,7 +9,7 @@ use Rattle.fap_assemble.proofs.judge.faults_of.Given as goal
 
 abbrev pub invariant-loop-card : goal.invariant-loop-card
 invariant-loop-card l = record {
-  rest : numbered l.faults ++ faults_from (whole_in l.whole) l.number (seen l.whole.symbols l.visible l.place) (texts (drop l.card-index l.cards))
+  rest : numbered l.faults ++ faults_from (whole_in l.whole) l.number (known_at l.whole.symbols l.visible l.place) (texts (drop l.card-index l.cards))
       ≡ faults_from (whole_in l.whole) 1 nothing_known (texts l.cards);
   follows : Follows l.whole.symbols l.visible l.place (texts (drop l.card-index l.cards));
   number : l.number ≡ l.card-index + 1;

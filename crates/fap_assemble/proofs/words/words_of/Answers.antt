@@ -1,5 +1,5 @@
 use Rattle.std.proofs.Common.{rules, arith, ◌+◌}
-use Rattle.fap_assemble.specs.Fields.{seen}
+use Rattle.fap_assemble.specs.Fields.{known_at}
 use Rattle.fap_assemble.specs.Wholes.{whole_in}
 use Rattle.fap_assemble.proofs.Follows.{follows_at, seen_at, sound_here, sound_behind, words_at}
 use Rattle.fap_assemble.proofs.words.words_of.Goals as goal
@@ -7,7 +7,7 @@ use Rattle.fap_assemble.proofs.words.words_of.Goals as goal
 pub add_card-requires-clause-sound : goal.add_card-requires-clause-sound
 add_card-requires-clause-sound c =
     sound_here (whole_in c.args.whole.now) c.args.cards.now c.loop-card.card-index c.card-item.result c.as_slice-text.result.now
-    (seen c.args.whole.now.symbols c.loop-card.visible c.loop-card.place) (c.loop-card.card-index + 1) c.loop-card-test.true c.card-item.is c.as_slice-text.ensures c.loop-card.invariant.sound
+    (known_at c.args.whole.now.symbols c.loop-card.visible c.loop-card.place) (c.loop-card.card-index + 1) c.loop-card-test.true c.card-item.is c.as_slice-text.ensures c.loop-card.invariant.sound
 
 pub loop-card-preserved : goal.loop-card-preserved
 loop-card-preserved c =
@@ -16,10 +16,10 @@ loop-card-preserved c =
     c.loop-card-test.true c.card-item.is c.as_slice-text.ensures c.loop-card.invariant.follows (search rules) c.visible_behind-visible.ensures.value in
     record {
       rest = words_at (whole_in c.args.whole.now) c.args.cards.now c.loop-card.card-index c.card-item.result c.as_slice-text.result.now
-          (seen c.args.whole.now.symbols c.loop-card.visible c.loop-card.place) (seen c.args.whole.now.symbols c.visible_behind-visible.result c.in_ok-next.next)
+          (known_at c.args.whole.now.symbols c.loop-card.visible c.loop-card.place) (known_at c.args.whole.now.symbols c.visible_behind-visible.result c.in_ok-next.next)
           c.loop-card.segments c.add_card.new.segments _ c.loop-card-test.true c.card-item.is c.as_slice-text.ensures c.loop-card.invariant.rest c.in_ok-add_card.ensures next;
       sound = sound_behind (whole_in c.args.whole.now) c.args.cards.now c.loop-card.card-index c.card-item.result c.as_slice-text.result.now
-          (seen c.args.whole.now.symbols c.loop-card.visible c.loop-card.place) (seen c.args.whole.now.symbols c.visible_behind-visible.result c.in_ok-next.next)
+          (known_at c.args.whole.now.symbols c.loop-card.visible c.loop-card.place) (known_at c.args.whole.now.symbols c.visible_behind-visible.result c.in_ok-next.next)
           (c.loop-card.card-index + 1) c.loop-card-test.true c.card-item.is c.as_slice-text.ensures c.loop-card.invariant.sound next;
       follows = follows_at c.args.whole.now.symbols c.args.cards.now c.loop-card.card-index c.card-item.result c.as_slice-text.result.now c.loop-card.visible c.loop-card.place _ _
           c.loop-card-test.true c.card-item.is c.as_slice-text.ensures c.loop-card.invariant.follows (search rules) c.visible_behind-visible.ensures.value;

@@ -16,7 +16,7 @@ pub overflow_cast-tracks : goal.overflow_cast-tracks
 overflow_cast-tracks g c =
     let fs = c.args.table.now.files.items in
     let low = c.requires.at in
-    let w = within_used _ _ _ _ fs c.requires.works c.args.at c.index-file.result.now low in
+    let w = within_used _ _ _ _ fs c.requires.usable c.args.at c.index-file.result.now low in
     let t = ap (λ (x : Filed). length x.tracks.items) c.index-file.ensures in
     let e = c.len-tracks.ensures in
     let small = c.requires.small in
@@ -26,7 +26,7 @@ pub overflow_sub-table : goal.overflow_sub-table
 overflow_sub-table g c =
     let fs = c.args.table.now.files.items in
     let low = c.requires.at in
-    let w = within_used _ _ _ _ fs c.requires.works c.args.at c.index-file.result.now low in
+    let w = within_used _ _ _ _ fs c.requires.usable c.args.at c.index-file.result.now low in
     let t = ap (λ (x : Filed). length x.tracks.items) c.index-file.ensures in
     let e = c.len-tracks.ensures in
     omega (arith, w, t, e)
@@ -37,7 +37,7 @@ give_all-requires g c =
     let taken = c.args.store.now.tracks.taken.items in
     let low = c.requires.at in
     let ts = c.deref.ensures.value ∙ ap (λ (x : Filed). x.tracks.items) c.index-file.ensures in
-    record { bits = λ t. subst (λ (us : List ℕ). count_in t us ≤ bit taken t) (sym ts) (old_bits _ _ _ _ _ c.requires.works c.args.at c.index-file.result.now low t) }
+    record { bits = λ t. subst (λ (us : List ℕ). count_in t us ≤ bit taken t) (sym ts) (old_bits _ _ _ _ _ c.requires.usable c.args.at c.index-file.result.now low t) }
 
 pub returns-clause-others : goal.returns-clause-others
 returns-clause-others g c = λ others beside t.
@@ -51,12 +51,12 @@ returns-clause-others g c = λ others beside t.
     let i = ap (occurs t) c.remove.ensures.items in
     omega (arith, a, e, ts, r, i)
 
-pub returns-clause-works : goal.returns-clause-works
-returns-clause-works g c =
+pub returns-clause-usable : goal.returns-clause-usable
+returns-clause-usable g c =
     let fs = c.args.table.now.files.items in
     let at = c.args.at in
     let f = c.index-file.result.now in
-    let h = c.requires.works in
+    let h = c.requires.usable in
     let e = c.give_all.ensures in
     let low = c.requires.at in
     let tracks = c.deref.ensures.value ∙ ap (λ (x : Filed). x.tracks.items) c.index-file.ensures in
@@ -64,7 +64,7 @@ returns-clause-works g c =
     let lf = ap (λ (x : Filed). length x.tracks.items) c.index-file.ensures in
     let lt = ap length tracks in
     let u = used-remove fs at f low in
-    subst (λ (xs : List Filed). IsDirectory (g.F.Medium.rows c.give_all.new.store.disk.now) c.give_all.new.store.tracks.taken.items c.args.table.now.quota (c.args.table.now.used - c.len-tracks.result) xs) (sym c.remove.ensures.items)
+    subst (λ (xs : List Filed). IsDirectory (g.F.Medium.contents c.give_all.new.store.disk.now) c.give_all.new.store.tracks.taken.items c.args.table.now.quota (c.args.table.now.used - c.len-tracks.result) xs) (sym c.remove.ensures.items)
     (record {
       once = λ t.
           (let a = h.once t in let b = e.bits t in let ts = ap (count_in t) tracks in let r = occurs-remove t fs at f low in omega (arith, a, b, ts, r));
@@ -74,8 +74,8 @@ returns-clause-works g c =
       tracked = all-remove HasTracks fs at h.tracked;
       modes = all-remove HasMode fs at h.modes;
       differ = subst (λ (ns : List NamePair). IsDistinct same_name ns) (sym (names-remove fs at)) (distinct-remove (map (λ (x : Filed). x.name) fs) at h.differ);
-      whole = subst (λ (o : Option (List (List ℕ))). WhereTold o (λ rows. All (IsWhole rows) (remove fs at))) (ap g.F.Medium.rows (sym e.now))
-          (told_map _ _ _ (λ rows all. all-remove (IsWhole rows) fs at all) h.whole);
+      whole = subst (λ (o : Option (List (List ℕ))). WhereTold o (λ contents. All (IsWhole contents) (remove fs at))) (ap g.F.Medium.contents (sym e.now))
+          (told_map _ _ _ (λ contents all. all-remove (IsWhole contents) fs at all) h.whole);
     })
 
 pub returns-clause-counts : goal.returns-clause-counts
@@ -86,5 +86,5 @@ returns-clause-counts g c =
     let lt = ap length (c.deref.ensures.value ∙ ap (λ (x : Filed). x.tracks.items) c.index-file.ensures) in
     let len = c.len-tracks.ensures in
     let lf = ap (λ (x : Filed). length x.tracks.items) c.index-file.ensures in
-    let w = within_used _ _ _ _ fs c.requires.works c.args.at c.index-file.result.now low in
+    let w = within_used _ _ _ _ fs c.requires.usable c.args.at c.index-file.result.now low in
     omega (arith, e, lt, len, lf, w)

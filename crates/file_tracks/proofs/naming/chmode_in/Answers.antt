@@ -12,7 +12,7 @@ use Rattle.file_tracks.proofs.Retold.{same_places, still_works, retold_file, mod
 use Rattle.file_tracks.proofs.naming.chmode_in.Goals as goal
 
 pub returns-clause-left : goal.returns-clause-left
-returns-clause-left c = λ rows.
+returns-clause-left c = λ contents.
     let fs = c.args.table.now.files.items in
     let at = c.in-Some.at in
     let f0 = c.index-file.result.now in
@@ -21,15 +21,15 @@ returns-clause-left c = λ rows.
     let mode = c.args.mode in
     let g : Filed = record { name = f.name; mode = mode; words = f.words; tracks = f.tracks } in
     let low = c.in-Some.ensures.0 in
-    let found = c.in-Some.ensures.1 rows f in
+    let found = c.in-Some.ensures.1 contents f in
     let same : (get_or fs at f).mode ≡ f0.mode = ap (λ (x : Filed). x.mode) (sym (c.index-file.ensures ∙ get_or_default fs at f0 f low)) in
     let other : (get_or fs at f).mode ≢ 3 = subst (λ (m : ℕ). m ≢ 3) (sym same) c.if-file-eq3.false in
     let small : mode ≤ 3 = omega arith in
-    moded_done c.args.name mode (files_on rows fs) (body_on rows (get_or fs at f)) found other small
-    ∙ ap Ok (sym (retold_file rows fs at f g c.args.name (λ (x : FileBody). record x { mode = mode }) low is c.requires found refl))
+    moded_done c.args.name mode (files_on contents fs) (body_on contents (get_or fs at f)) found other small
+    ∙ ap Ok (sym (retold_file contents fs at f g c.args.name (λ (x : FileBody). record x { mode = mode }) low is c.requires found refl))
 
-pub returns-clause-works : goal.returns-clause-works
-returns-clause-works c = λ rows taken h.
+pub returns-clause-usable : goal.returns-clause-usable
+returns-clause-usable c = λ contents taken h.
     let fs = c.args.table.now.files.items in
     let at = c.in-Some.at in
     let f = c.index_mut-file.result.now in
@@ -37,7 +37,7 @@ returns-clause-works c = λ rows taken h.
     let g : Filed = record { name = f.name; mode = c.args.mode; words = f.words; tracks = f.tracks } in
     let low = c.in-Some.ensures.0 in
     let small : c.args.mode ≤ 3 = omega arith in
-    still_works fs at f g low is refl refl rows taken c.args.table.now.quota c.args.table.now.used h small
+    still_works fs at f g low is refl refl contents taken c.args.table.now.quota c.args.table.now.used h small
     (subst (λ (ns : List NamePair). IsDistinct same_name ns) (sym (names_set fs at g f low (ap (λ (x : Filed). x.name) is))) c.requires)
 
 pub returns-clause-places : goal.returns-clause-places

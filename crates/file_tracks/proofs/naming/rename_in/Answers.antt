@@ -18,21 +18,21 @@ low_mode : (fs : List Filed) (at : ℕ) (f : Filed) → f ≡ get_or fs at f →
 low_mode fs at f is h = subst (λ (x : Filed). x.mode < 2) is h
 
 pub returns-then-eq-clause-left : goal.returns-then-eq-clause-left
-returns-then-eq-clause-left c = λ rows.
+returns-then-eq-clause-left c = λ contents.
     let fs = c.args.table.now.files.items in
     let at = c.in-Some.at in
     let f = c.index-file.result.now in
-    renamed_same c.args.name c.args.to (files_on rows fs) (body_on rows (get_or fs at f)) (c.in-Some.ensures.1 rows f) (test _ (low_mode fs at f c.index-file.ensures c.if-file-ge2.false)) c.if-eq.ensures
+    renamed_same c.args.name c.args.to (files_on contents fs) (body_on contents (get_or fs at f)) (c.in-Some.ensures.1 contents f) (test _ (low_mode fs at f c.index-file.ensures c.if-file-ge2.false)) c.if-eq.ensures
 
 pub returns-then-has-clause-left : goal.returns-then-has-clause-left
-returns-then-has-clause-left c = λ rows.
+returns-then-has-clause-left c = λ contents.
     let fs = c.args.table.now.files.items in
     let at = c.in-Some.at in
     let f = c.index-file.result.now in
-    (renamed_used c.args.name c.args.to (files_on rows fs) (body_on rows (get_or fs at f)) (c.in-Some.ensures.1 rows f) (low_mode fs at f c.index-file.ensures c.if-file-ge2.false) (sym c.if-eq.ensures) (sym (c.if-has.ensures rows)), refl)
+    (renamed_used c.args.name c.args.to (files_on contents fs) (body_on contents (get_or fs at f)) (c.in-Some.ensures.1 contents f) (low_mode fs at f c.index-file.ensures c.if-file-ge2.false) (sym c.if-eq.ensures) (sym (c.if-has.ensures contents)), refl)
 
 pub returns-clause-left : goal.returns-clause-left
-returns-clause-left c = λ rows.
+returns-clause-left c = λ contents.
     let fs = c.args.table.now.files.items in
     let at = c.in-Some.at in
     let f0 = c.index-file.result.now in
@@ -41,15 +41,15 @@ returns-clause-left c = λ rows.
     let to = c.args.to in
     let g : Filed = record { name = to; mode = f.mode; words = f.words; tracks = f.tracks } in
     let low = c.in-Some.ensures.0 in
-    let found = c.in-Some.ensures.1 rows f in
+    let found = c.in-Some.ensures.1 contents f in
     let same : f0 ≡ f = c.index-file.ensures ∙ get_or_default fs at f0 f low ∙ sym is in
     let free = test _ (low_mode fs at f is (subst (λ (x : Filed). x.mode < 2) same c.if-file-ge2.false)) in
-    let none : file_named to (files_on rows fs) ≡ None = not_some _ (sym (c.if-has.ensures rows)) in
-    renamed_done c.args.name to (files_on rows fs) (body_on rows (get_or fs at f)) found free (files_on rows (set fs at g)) none
-    (retold_file rows fs at f g c.args.name (λ (x : FileBody). record x { name = to }) low is c.requires found refl)
+    let none : file_named to (files_on contents fs) ≡ None = not_some _ (sym (c.if-has.ensures contents)) in
+    renamed_done c.args.name to (files_on contents fs) (body_on contents (get_or fs at f)) found free (files_on contents (set fs at g)) none
+    (retold_file contents fs at f g c.args.name (λ (x : FileBody). record x { name = to }) low is c.requires found refl)
 
-pub returns-clause-works : goal.returns-clause-works
-returns-clause-works c = λ rows taken h.
+pub returns-clause-usable : goal.returns-clause-usable
+returns-clause-usable c = λ contents taken h.
     let fs = c.args.table.now.files.items in
     let at = c.in-Some.at in
     let f = c.index_mut-file.result.now in
@@ -57,7 +57,7 @@ returns-clause-works c = λ rows taken h.
     let g : Filed = record { name = c.args.to; mode = f.mode; words = f.words; tracks = f.tracks } in
     let low = c.in-Some.ensures.0 in
     let mode = subst HasMode (sym is) (All-get_or HasMode fs at f low h.modes) in
-    still_works fs at f g low is refl refl rows taken c.args.table.now.quota c.args.table.now.used h mode
+    still_works fs at f g low is refl refl contents taken c.args.table.now.quota c.args.table.now.used h mode
     (renamed_differ fs at g c.requires (not_some _ (sym (c.if-has.ensures []))))
 
 pub returns-clause-places : goal.returns-clause-places

@@ -20,7 +20,7 @@ read_span-requires-clause-taken g c =
     let taken = c.args.store.now.tracks.taken.items in
     let ts = c.deref.ensures.value ∙ ap (λ (x : Filed). x.tracks.items) c.index-file.ensures in
     all_taken taken c.deref.result.now
-    (λ t. subst (λ (us : List ℕ). count_in t us ≤ bit taken t) (sym ts) (old_bits _ _ _ _ _ c.requires.works c.in-Some.at c.index-file.result.now c.in-Some.ensures.0 t))
+    (λ t. subst (λ (us : List ℕ). count_in t us ≤ bit taken t) (sym ts) (old_bits _ _ _ _ _ c.requires.usable c.in-Some.at c.index-file.result.now c.in-Some.ensures.0 t))
 
 pub returns-clause-gave : goal.returns-clause-gave
 returns-clause-gave g c =
@@ -34,21 +34,21 @@ returns-clause-gave g c =
 
 pub returns-in_default-clause-any : goal.returns-in_default-clause-any
 returns-in_default-clause-any g c =
-    let a = any_rows _ _ _ _ _ c.requires.works in
+    let a = any_rows _ _ _ _ _ c.requires.usable in
     (a.0, (a.1.0, (a.1.1, ap got_of (c.in_default.ensures a.0))))
 
 pub returns-in-Err-NoMemory-clause-any : goal.returns-in-Err-NoMemory-clause-any
-returns-in-Err-NoMemory-clause-any g c = let a = any_rows _ _ _ _ _ c.requires.works in (a.0, (a.1.0, (a.1.1, tt)))
+returns-in-Err-NoMemory-clause-any g c = let a = any_rows _ _ _ _ _ c.requires.usable in (a.0, (a.1.0, (a.1.1, tt)))
 
 pub returns-in-Err-Disk-clause-any : goal.returns-in-Err-Disk-clause-any
-returns-in-Err-Disk-clause-any g c = let a = any_rows _ _ _ _ _ c.requires.works in (a.0, (a.1.0, (a.1.1, tt)))
+returns-in-Err-Disk-clause-any g c = let a = any_rows _ _ _ _ _ c.requires.usable in (a.0, (a.1.0, (a.1.1, tt)))
 
 pub returns-in_default-as_words-clause-any : goal.returns-in_default-as_words-clause-any
-returns-in_default-as_words-clause-any g c = let a = any_rows _ _ _ _ _ c.requires.works in (a.0, (a.1.0, (a.1.1, tt)))
+returns-in_default-as_words-clause-any g c = let a = any_rows _ _ _ _ _ c.requires.usable in (a.0, (a.1.0, (a.1.1, tt)))
 
 pub returns-clause-any : goal.returns-clause-any
 returns-clause-any g c =
-    let o = g.F.Medium.rows c.args.store.now.disk.now in
+    let o = g.F.Medium.contents c.args.store.now.disk.now in
     let fs = c.args.table.now.files.items in
     let at = c.in-Some.at in
     let f = c.index-file.result.now in
@@ -58,8 +58,8 @@ returns-clause-any g c =
     let span = c.in-Ok.span.items in
     let e = c.in-Ok.ensures in
     let len : length span ≡ 432 * length file.tracks.items = e.len ∙ ap (λ (us : List ℕ). 432 * length us) ts in
-    let a = any_span o _ _ _ fs c.requires.works file.tracks.items span (λ t. occurs_at t fs at f low) len (told_map o _ _ (λ rows x. x ∙ ap (joined rows) ts) e.given) in
-    let long = enough _ _ _ len (All-get_or HasTracks fs at f low c.requires.works.tracked) in
+    let a = any_span o _ _ _ fs c.requires.usable file.tracks.items span (λ t. occurs_at t fs at f low) len (told_map o _ _ (λ contents x. x ∙ ap (joined contents) ts) e.given) in
+    let long = enough _ _ _ len (All-get_or HasTracks fs at f low c.requires.usable.tracked) in
     let min = least (length span) file.words c.min-len.result (let a = c.min-len.ensures in let b = c.len.ensures in let w = ap (λ (x : Filed). x.words) c.index-file.ensures in omega (arith, a, b, w)) long in
     let words = c.from_vec.ensures ∙ c.in-Ok-as_words.ensures ∙ ap (take c.min-len.result) c.deref-2.ensures.value ∙ ap (λ (n : ℕ). take n span) min in (
       a.0,

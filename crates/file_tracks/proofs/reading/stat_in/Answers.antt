@@ -8,14 +8,14 @@ use Rattle.file_tracks.proofs.Tables.{content-length, used_at}
 use Rattle.file_tracks.proofs.reading.stat_in.Goals as goal
 
 pub returns-clause-answer : goal.returns-clause-answer
-returns-clause-answer c = λ rows whole.
+returns-clause-answer c = λ contents whole.
     let fs = c.args.table.now.files.items in
     let at = c.in-Some.at in
     let f = c.index-file.result.now in
     let file = get_or fs at f in
     let low = c.in-Some.ensures.0 in
-    let len = content-length rows file (All-get_or HasTracks fs at f low c.requires.sound.tracked) (All-get_or (IsWhole rows) fs at f low whole) in
-    ap stat_of (c.in-Some.ensures.1 rows f)
+    let len = content-length contents file (All-get_or HasTracks fs at f low c.requires.sound.tracked) (All-get_or (IsWhole contents) fs at f low whole) in
+    ap stat_of (c.in-Some.ensures.1 contents f)
     ∙ (λ j. Ok (record { words = (len ∙ ap (λ (x : Filed). x.words) (sym c.index-file.ensures)) j; mode = ap (λ (x : Filed). x.mode) (sym c.index-file.ensures) j }))
 
 pub returns-clause-mode : goal.returns-clause-mode

@@ -13,15 +13,15 @@ returns-then-eq c =
     let low = c.finding-test.true in
     let f = c.index-files-at.result in (
       low,
-      λ rows d.
-          sym (c.finding.invariant rows) ∙ named_here c.args.name rows fs c.finding.at f low c.index-files-at.is (ap (λ (g : Filed). same_name g.name c.args.name) c.index-files-at.is ∙ sym c.eq.ensures ∙ c.if-eq.true)
-          ∙ ap (λ (g : Filed). Some (body_on rows g)) (get_or_read fs c.finding.at f low c.index-files-at.is d),
+      λ contents d.
+          sym (c.finding.invariant contents) ∙ named_here c.args.name contents fs c.finding.at f low c.index-files-at.is (ap (λ (g : Filed). same_name g.name c.args.name) c.index-files-at.is ∙ sym c.eq.ensures ∙ c.if-eq.true)
+          ∙ ap (λ (g : Filed). Some (body_on contents g)) (get_or_read fs c.finding.at f low c.index-files-at.is d),
     )
 
 pub finding-preserved : goal.finding-preserved
-finding-preserved c rows =
-    sym (named_more c.args.name rows c.args.files.now c.finding.at c.index-files-at.result c.finding-test.true c.index-files-at.is (ap (λ (g : Filed). same_name g.name c.args.name) c.index-files-at.is ∙ sym c.eq.ensures ∙ c.if-eq.false))
-    ∙ c.finding.invariant rows
+finding-preserved c contents =
+    sym (named_more c.args.name contents c.args.files.now c.finding.at c.index-files-at.result c.finding-test.true c.index-files-at.is (ap (λ (g : Filed). same_name g.name c.args.name) c.index-files-at.is ∙ sym c.eq.ensures ∙ c.if-eq.false))
+    ∙ c.finding.invariant contents
 
 pub returns : goal.returns
-returns c rows = sym (c.finding.invariant rows) ∙ named_none c.args.name rows c.args.files.now c.finding.at (omega (arith, c.finding-test.false))
+returns c contents = sym (c.finding.invariant contents) ∙ named_none c.args.name contents c.args.files.now c.finding.at (omega (arith, c.finding-test.false))

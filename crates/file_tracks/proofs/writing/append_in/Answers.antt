@@ -12,8 +12,8 @@ pub returns-in_default-clause-any : goal.returns-in_default-clause-any
 returns-in_default-clause-any g c = λ ok.
     let fs = c.args.table.now.files.items in
     any_told c.make.result (λ (files : List FileBody). if_they_fit c.args.table.now.quota (with_new c.args.name c.args.words.now files)) (appended c.args.name c.args.words.now c.args.table.now.quota)
-    (g.F.Medium.rows c.args.store.now.disk.now) (g.F.Medium.rows c.make.new.store.disk.now) (length c.args.store.now.tracks.taken.items) fs c.make.new.table.files.items
-    (λ rows whole. appended_new c.args.name c.args.words.now c.args.table.now.quota (files_on rows fs) (c.in_default.ensures rows))
+    (g.F.Medium.contents c.args.store.now.disk.now) (g.F.Medium.contents c.make.new.store.disk.now) (length c.args.store.now.tracks.taken.items) fs c.make.new.table.files.items
+    (λ contents whole. appended_new c.args.name c.args.words.now c.args.table.now.quota (files_on contents fs) (c.in_default.ensures contents))
     (c.make.ensures.any ok)
 
 pub returns-clause-any : goal.returns-clause-any
@@ -23,8 +23,8 @@ returns-clause-any g c = λ ok.
     let f = c.index.result.now in
     let low = c.in-Some.ensures.0 in
     any_told c.write_at.result (written c.args.name f.words c.args.words.now c.args.table.now.quota) (appended c.args.name c.args.words.now c.args.table.now.quota)
-    (g.F.Medium.rows c.args.store.now.disk.now) (g.F.Medium.rows c.write_at.new.store.disk.now) (length c.args.store.now.tracks.taken.items) fs c.write_at.new.table.files.items
-    (λ rows whole.
-    let len = content-length rows (get_or fs at f) (All-get_or HasTracks fs at f low c.requires.works.tracked) (All-get_or (IsWhole rows) fs at f low whole) in
-    appended_is c.args.name c.args.words.now c.args.table.now.quota (files_on rows fs) (body_on rows (get_or fs at f)) (c.in-Some.ensures.1 rows f) f.words (ap (λ (x : Filed). x.words) c.index.ensures ∙ sym len))
+    (g.F.Medium.contents c.args.store.now.disk.now) (g.F.Medium.contents c.write_at.new.store.disk.now) (length c.args.store.now.tracks.taken.items) fs c.write_at.new.table.files.items
+    (λ contents whole.
+    let len = content-length contents (get_or fs at f) (All-get_or HasTracks fs at f low c.requires.usable.tracked) (All-get_or (IsWhole contents) fs at f low whole) in
+    appended_is c.args.name c.args.words.now c.args.table.now.quota (files_on contents fs) (body_on contents (get_or fs at f)) (c.in-Some.ensures.1 contents f) f.words (ap (λ (x : Filed). x.words) c.index.ensures ∙ sym len))
     (c.write_at.ensures.any ok)

@@ -16,26 +16,26 @@ use Rattle.file_tracks.proofs.writing.make.Goals as goal
 
 pub returns-in_default-clause-any : goal.returns-in_default-clause-any
 returns-in_default-clause-any g c = λ ok.
-    let o = g.F.Medium.rows c.args.store.now.disk.now in
+    let o = g.F.Medium.contents c.args.store.now.disk.now in
     let taken = c.args.store.now.tracks.taken.items in
     let fs = c.args.table.now.files.items in
     let quota = c.args.table.now.quota in
     let used = c.args.table.now.used in
     let over = c.in_default.ensures in
     any_refused (λ (files : List FileBody). if_they_fit quota (with_new c.args.name c.args.words.now files)) Quota o (length taken) fs
-    (made_passes o taken quota used c.tracks_for-after.result fs c.args.words.now c.args.name c.requires.works c.tracks_for-after.ensures.value (omega (arith, over)))
+    (made_passes o taken quota used c.tracks_for-after.result fs c.args.words.now c.args.name c.requires.usable c.tracks_for-after.ensures.value (omega (arith, over)))
 
 pub returns-in_default-padded-clause-any : goal.returns-in_default-padded-clause-any
 returns-in_default-padded-clause-any g c = λ ok.
-    any_none (λ (files : List FileBody). if_they_fit c.args.table.now.quota (with_new c.args.name c.args.words.now files)) (g.F.Medium.rows c.args.store.now.disk.now) (length c.args.store.now.tracks.taken.items) c.args.table.now.files.items
+    any_none (λ (files : List FileBody). if_they_fit c.args.table.now.quota (with_new c.args.name c.args.words.now files)) (g.F.Medium.contents c.args.store.now.disk.now) (length c.args.store.now.tracks.taken.items) c.args.table.now.files.items
 
 pub returns-in_default-room_for_tracks-clause-any : goal.returns-in_default-room_for_tracks-clause-any
 returns-in_default-room_for_tracks-clause-any g c = λ ok.
-    any_none (λ (files : List FileBody). if_they_fit c.args.table.now.quota (with_new c.args.name c.args.words.now files)) (g.F.Medium.rows c.args.store.now.disk.now) (length c.args.store.now.tracks.taken.items) c.args.table.now.files.items
+    any_none (λ (files : List FileBody). if_they_fit c.args.table.now.quota (with_new c.args.name c.args.words.now files)) (g.F.Medium.contents c.args.store.now.disk.now) (length c.args.store.now.tracks.taken.items) c.args.table.now.files.items
 
 pub returns-in_default-room_for_file-clause-any : goal.returns-in_default-room_for_file-clause-any
 returns-in_default-room_for_file-clause-any g c = λ ok.
-    let o = g.F.Medium.rows c.args.store.now.disk.now in
+    let o = g.F.Medium.contents c.args.store.now.disk.now in
     let n = length c.args.store.now.tracks.taken.items in
     let fs = c.args.table.now.files.items in
     subst (λ (xs : List Filed). (was : List (List ℕ)) → MayBe o was → n ≤ length was → All (IsWhole was) fs
@@ -45,7 +45,7 @@ returns-in_default-room_for_file-clause-any g c = λ ok.
 
 pub returns-clause-any : goal.returns-clause-any
 returns-clause-any g c = λ ok was may few whole.
-    let o = g.F.Medium.rows c.args.store.now.disk.now in
+    let o = g.F.Medium.contents c.args.store.now.disk.now in
     let taken = c.args.store.now.tracks.taken.items in
     let taken' = c.swap_tracks.new.store.tracks.taken.items in
     let quota = c.args.table.now.quota in
@@ -66,13 +66,13 @@ returns-clause-any g c = λ ok was may few whole.
     let counts : count_taken taken' ≡ count_taken taken + n = (let a = e.counts in omega (arith, a)) in
     let P : Option (List (List ℕ)) → List Filed → Type 0 = λ (p : Option (List (List ℕ))) (xs : List Filed).
     (now : List (List ℕ)) × (MayBe p now × (All (IsWhole now) xs × (if_they_fit quota (with_new name ws (files_on was fs)) ≡ Ok (files_on now xs)))) in
-    subst (λ (xs : List Filed). P (g.F.Medium.rows c.swap_tracks.new.store.disk.now) xs) (sym items)
-    (subst (λ (p : Option (List (List ℕ))). P p (fs ++ new ∷ [])) (sym e.rows)
-    (made_any o taken taken' quota used c.in-Some.used n fs v ws bits name c.requires.works (reaches o (g.F.Medium.record_count c.args.store.now.disk.now) (length taken) c.requires.serves.shape c.requires.serves.within) swaps e.many e.len c.tracks_for-after.ensures.value plen cut sum c.in-Some.ensures.1 counts c.requires.absent was may few whole))
+    subst (λ (xs : List Filed). P (g.F.Medium.contents c.swap_tracks.new.store.disk.now) xs) (sym items)
+    (subst (λ (p : Option (List (List ℕ))). P p (fs ++ new ∷ [])) (sym e.contents)
+    (made_any o taken taken' quota used c.in-Some.used n fs v ws bits name c.requires.usable (reaches o (g.F.Medium.record_count c.args.store.now.disk.now) (length taken) c.requires.serves.shape c.requires.serves.within) swaps e.many e.len c.tracks_for-after.ensures.value plen cut sum c.in-Some.ensures.1 counts c.requires.absent was may few whole))
 
 pub returns-clause-others : goal.returns-clause-others
 returns-clause-others g c = λ ok others beside.
-    let o = g.F.Medium.rows c.args.store.now.disk.now in
+    let o = g.F.Medium.contents c.args.store.now.disk.now in
     let taken = c.args.store.now.tracks.taken.items in
     let taken' = c.swap_tracks.new.store.tracks.taken.items in
     let quota = c.args.table.now.quota in
@@ -91,13 +91,13 @@ returns-clause-others g c = λ ok others beside.
     let cut : take (length ws) bits ≡ ws = ap (take (length ws)) c.deref.ensures.value ∙ c.in-Ok.ensures.words in
     let sum : c.in-Some.used ≡ used + n = (let a = c.in-Some.ensures.0 in omega (arith, a)) in
     let counts : count_taken taken' ≡ count_taken taken + n = (let a = e.counts in omega (arith, a)) in
-    subst (λ (xs : List Filed). LeavesOthers o (g.F.Medium.rows c.swap_tracks.new.store.disk.now) taken taken' fs xs others) (sym items)
-    (subst (λ (p : Option (List (List ℕ))). LeavesOthers o p taken taken' fs (fs ++ new ∷ []) others) (sym e.rows)
-    (made_others o taken taken' quota used c.in-Some.used n fs v ws bits name c.requires.works (reaches o (g.F.Medium.record_count c.args.store.now.disk.now) (length taken) c.requires.serves.shape c.requires.serves.within) swaps e.many e.len c.tracks_for-after.ensures.value plen cut sum c.in-Some.ensures.1 counts c.requires.absent others beside))
+    subst (λ (xs : List Filed). LeavesOthers o (g.F.Medium.contents c.swap_tracks.new.store.disk.now) taken taken' fs xs others) (sym items)
+    (subst (λ (p : Option (List (List ℕ))). LeavesOthers o p taken taken' fs (fs ++ new ∷ []) others) (sym e.contents)
+    (made_others o taken taken' quota used c.in-Some.used n fs v ws bits name c.requires.usable (reaches o (g.F.Medium.record_count c.args.store.now.disk.now) (length taken) c.requires.serves.shape c.requires.serves.within) swaps e.many e.len c.tracks_for-after.ensures.value plen cut sum c.in-Some.ensures.1 counts c.requires.absent others beside))
 
-pub returns-clause-works : goal.returns-clause-works
-returns-clause-works g c = λ ok.
-    let o = g.F.Medium.rows c.args.store.now.disk.now in
+pub returns-clause-usable : goal.returns-clause-usable
+returns-clause-usable g c = λ ok.
+    let o = g.F.Medium.contents c.args.store.now.disk.now in
     let taken = c.args.store.now.tracks.taken.items in
     let taken' = c.swap_tracks.new.store.tracks.taken.items in
     let quota = c.args.table.now.quota in
@@ -118,11 +118,11 @@ returns-clause-works g c = λ ok.
     let cut : take (length ws) bits ≡ ws = ap (take (length ws)) c.deref.ensures.value ∙ c.in-Ok.ensures.words in
     let sum : c.in-Some.used ≡ used + n = (let a = c.in-Some.ensures.0 in omega (arith, a)) in
     let counts : count_taken taken' ≡ count_taken taken + n = (let a = e.counts in omega (arith, a)) in
-    let here = made_works o taken taken' quota used c.in-Some.used n fs v ws bits name c.requires.works (reaches o (g.F.Medium.record_count c.args.store.now.disk.now) (length taken) c.requires.serves.shape c.requires.serves.within) swaps e.many e.len c.tracks_for-after.ensures.value plen cut sum c.in-Some.ensures.1 counts c.requires.absent in
-    subst (λ (xs : List Filed). IsDirectory (g.F.Medium.rows c.swap_tracks.new.store.disk.now) taken' c.add_file.new.table.quota c.add_file.new.table.used xs) (sym items)
-    (subst (λ (p : Option (List (List ℕ))). IsDirectory p taken' c.add_file.new.table.quota c.add_file.new.table.used (fs ++ new ∷ [])) (sym e.rows)
+    let here = made_works o taken taken' quota used c.in-Some.used n fs v ws bits name c.requires.usable (reaches o (g.F.Medium.record_count c.args.store.now.disk.now) (length taken) c.requires.serves.shape c.requires.serves.within) swaps e.many e.len c.tracks_for-after.ensures.value plen cut sum c.in-Some.ensures.1 counts c.requires.absent in
+    subst (λ (xs : List Filed). IsDirectory (g.F.Medium.contents c.swap_tracks.new.store.disk.now) taken' c.add_file.new.table.quota c.add_file.new.table.used xs) (sym items)
+    (subst (λ (p : Option (List (List ℕ))). IsDirectory p taken' c.add_file.new.table.quota c.add_file.new.table.used (fs ++ new ∷ [])) (sym e.contents)
     (subst (λ (q : ℕ). IsDirectory (with_words o v.items bits) taken' q c.add_file.new.table.used (fs ++ new ∷ [])) (sym same_quota)
     (subst (λ (u : ℕ). IsDirectory (with_words o v.items bits) taken' quota u (fs ++ new ∷ [])) (sym same_used) here)))
 
-pub returns-clause-told : goal.returns-clause-told
-returns-clause-told g c = λ ok. ap tells_of c.in-Ok-swap_tracks.ensures.rows ∙ tells_still _ c.in-Ok-swap_tracks.tracks.items c.deref.result.now
+pub returns-clause-telling : goal.returns-clause-telling
+returns-clause-telling g c = λ ok. ap tells_of c.in-Ok-swap_tracks.ensures.contents ∙ tells_still _ c.in-Ok-swap_tracks.tracks.items c.deref.result.now

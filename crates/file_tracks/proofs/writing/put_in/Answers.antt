@@ -9,6 +9,6 @@ pub returns-in_default-clause-any : goal.returns-in_default-clause-any
 returns-in_default-clause-any g c = λ ok.
     let fs = c.args.table.now.files.items in
     any_told c.make.result (λ (files : List FileBody). if_they_fit c.args.table.now.quota (with_new c.args.name c.args.words.now files)) (put c.args.name c.args.words.now c.args.table.now.quota)
-    (g.F.Medium.rows c.args.store.now.disk.now) (g.F.Medium.rows c.make.new.store.disk.now) (length c.args.store.now.tracks.taken.items) fs c.make.new.table.files.items
-    (λ rows whole. put_new c.args.name c.args.words.now c.args.table.now.quota (files_on rows fs) (c.in_default.ensures rows))
+    (g.F.Medium.contents c.args.store.now.disk.now) (g.F.Medium.contents c.make.new.store.disk.now) (length c.args.store.now.tracks.taken.items) fs c.make.new.table.files.items
+    (λ contents whole. put_new c.args.name c.args.words.now c.args.table.now.quota (files_on contents fs) (c.in_default.ensures contents))
     (c.make.ensures.any ok)

@@ -7,7 +7,7 @@ use Rattle.plan_model.specs.Loads.{no_places}
 use Rattle.supervisor.specs.Seen.{Bare, run_with}
 use Rattle.supervisor.specs.Whole.{whole_of}
 use Rattle.user_cores.specs.Backing.{back_of}
-use Rattle.user_cores.specs.Works.{cores_in}
+use Rattle.user_cores.specs.Usable.{cores_in}
 use Rattle.track_directories.specs.Tables.{shown}
 use Rattle.live_run.specs.Starts.{HasFirstCores, HasFirstFiles, Begins}
 use Rattle.live_run.proofs.Starts.{shown_at_first, begins_at_first, on_ok}
@@ -16,8 +16,8 @@ use Rattle.live_run.proofs.start.begin.Goals as goal
 pub returns-clause-begun : goal.returns-clause-begun
 returns-clause-begun g c =
     let script = c.args.script.now in
-    let drum : Bool = is_some (g.D.Medium.rows c.args.drum.now) in
-    let disk : Bool = is_some (g.F.Medium.rows c.args.disk.now) in
+    let drum : Bool = is_some (g.D.Medium.contents c.args.drum.now) in
+    let disk : Bool = is_some (g.F.Medium.contents c.args.disk.now) in
     let wrote = c.in_ok-files.field-0.wrote in
     let bare = c.new-run.result.supervisor in
     let cores_are : c.new-run.result.cores.cores ≡ c.in_ok-cores.cores = ap (λ b. b.cores) c.new-run.ensures.cores ∙ c.new-2.ensures.cores in

@@ -15,18 +15,18 @@ add_files-requires-clause-first g c =
     let are : c.in_ok-empty.empty.quotas ≡ script.params.common ∷ map (λ (a : Account). a.tracks) script.accounts =
     c.in_ok-empty.ensures.quotas ∙ ap (λ (all : List Account). script.params.common ∷ map (λ (a : Account). a.tracks) all) c.as_slice.ensures in
     subst (λ (files : List OwnedFile). AreFirst files (shown g.F.Medium c.over-files.result)) (sym c.as_slice-2.ensures)
-    (can_be_first script c.requires.lawful.range (tells_of (g.F.Medium.rows c.args.disk.now)) (g.F.Medium.faults c.args.disk.now) c.in_ok-empty.empty.quotas are (shown g.F.Medium c.over-files.result) c.over-files.ensures.none)
+    (can_be_first script c.requires.lawful.range (tells_of (g.F.Medium.contents c.args.disk.now)) (g.F.Medium.faults c.args.disk.now) c.in_ok-empty.empty.quotas are (shown g.F.Medium c.over-files.result) c.over-files.ensures.none)
 
 pub returns-clause-first : goal.returns-clause-first
 returns-clause-first g c =
     let script = c.args.script.now in
-    let rows = g.F.Medium.rows c.args.disk.now in
+    let contents = g.F.Medium.contents c.args.disk.now in
     let old = shown g.F.Medium c.over-files.result in
     let new = shown g.F.Medium c.add_files.new.self in
     let are : c.in_ok-empty.empty.quotas ≡ script.params.common ∷ map (λ (a : Account). a.tracks) script.accounts =
     c.in_ok-empty.ensures.quotas ∙ ap (λ (all : List Account). script.params.common ∷ map (λ (a : Account). a.tracks) all) c.as_slice.ensures in
     let adds : Adds script.files c.add_files.result old new = subst (λ (files : List OwnedFile). Adds files c.add_files.result old new) c.as_slice-2.ensures c.add_files.ensures.adds in
-    on_ok c.in_ok-wrote.wrote (c.add_files.result ≡ Ok tt) (HasFirstFiles script.params.common script.accounts script.files (is_some rows) new)
-    (λ is. subst (λ (told : Bool). HasFirstFiles script.params.common script.accounts script.files told new) (told_is_some rows)
-    (first_files script.params.common script.accounts script.files (tells_of rows) (g.F.Medium.faults c.args.disk.now) c.in_ok-empty.empty.quotas are old c.over-files.ensures.none c.add_files.result new is adds))
+    on_ok c.in_ok-wrote.wrote (c.add_files.result ≡ Ok tt) (HasFirstFiles script.params.common script.accounts script.files (is_some contents) new)
+    (λ is. subst (λ (told : Bool). HasFirstFiles script.params.common script.accounts script.files told new) (told_is_some contents)
+    (first_files script.params.common script.accounts script.files (tells_of contents) (g.F.Medium.faults c.args.disk.now) c.in_ok-empty.empty.quotas are old c.over-files.ensures.none c.add_files.result new is adds))
     c.in_ok-wrote.ensures.ok

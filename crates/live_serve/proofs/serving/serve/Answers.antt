@@ -8,7 +8,7 @@ use Rattle.system_model.specs.Run.{ended}
 use Rattle.system_model.specs.Record.{record_from}
 use Rattle.track_directories.specs.Tables.{disk_of, shown}
 use Rattle.user_cores.specs.Backing.{back_of}
-use Rattle.user_cores.specs.Works.{cores_in}
+use Rattle.user_cores.specs.Usable.{cores_in}
 use Rattle.supervisor.specs.Seen.{Bare, run_with, record_so_far, without_files}
 use Rattle.supervisor.specs.Whole.{whole_of, Agrees}
 use Rattle.supervisor.specs.Closes.{Closes, EndsComplete, EndsWithoutFiles, IfComplete}
@@ -34,7 +34,7 @@ returns-then-is_err-clause-served g c =
 pub talk-requires-clause-sound : goal.talk-requires-clause-sound
 talk-requires-clause-sound g c =
     let well = sym c.is_err.ensures.value ∙ c.if-is_err.false in
-    (ok_of c.in_ok-run.field-0.wrote _ well c.in_ok-run.ensures.works, (ok_of c.in_ok-run.field-0.wrote _ well c.in_ok-run.ensures.begun.begins).ready)
+    (ok_of c.in_ok-run.field-0.wrote _ well c.in_ok-run.ensures.usable, (ok_of c.in_ok-run.field-0.wrote _ well c.in_ok-run.ensures.begun.begins).ready)
 
 pub returns-in-Err-clause-served : goal.returns-in-Err-clause-served
 returns-in-Err-clause-served g c =
@@ -86,13 +86,13 @@ returns-in-Complete-clause-served g c =
     let disk = c.back-3.ensures.same ∙ ap (λ d. (disk_of d).ghost_name) ends.files ∙ c.close-closed.ensures.keeps.1 ∙ ap (λ x. (disk_of x.files).ghost_name) parts.cores ∙ done.core.0.1 ∙ c.in_ok-run.ensures.disk in
     let closes : EndsComplete sup (back_of (cores_in (state behind.cores)) (shown g.F.Medium behind.files)).held rec =
     subst (Closes sup (back_of (cores_in (state behind.cores)) (shown g.F.Medium behind.files)) (back_of (cores_in (state last.cores)) (shown g.F.Medium last.files))) c.in-Complete.is c.in_ok-record.ensures.closes in
-    let lies = subst (λ (z : Closed). IfComplete z (λ rec. WhereTold (g.F.Medium.rows (disk_of last.files).now) (λ rows. LieOn rows rec.files rec.common))) c.in-Complete.is c.in_ok-record.ensures.lies in
+    let lies = subst (λ (z : Closed). IfComplete z (λ rec. WhereTold (g.F.Medium.contents (disk_of last.files).now) (λ contents. LieOn contents rec.files rec.common))) c.in-Complete.is c.in_ok-record.ensures.lies in
     served c.args.base.now (media_seen g.D.Medium g.F.Medium c.args.drum.now c.args.disk.now) _ a b begins _ _ _ (λ calls h. h.1) begun.calls c.args.turns _ _ _ _ _ rec refl
     (subst (λ (f : Bool). Did (DidOpen f) (g.L.Link.seen c.args.link.now) (g.L.Link.seen c.open.new.self)) (sym c.is_err-2.ensures.value ∙ c.if-is_err-2.false) c.open.ensures)
     done
     (subst (λ (s : Bare). EndsComplete s b.back.held rec) parts.supervisor (subst (λ x. EndsComplete sup (back_of (cores_in (state x.cores)) (shown g.F.Medium x.files)).held rec) parts.cores closes))
     (sym (ap (λ i. (state i).drum.calls) ends.cores ∙ c.close-closed.ensures.calls ∙ ap (λ x. (state x.cores).drum.calls) parts.cores) ∙ search (rules, drum))
-    (subst (λ (o : Option (List (List ℕ))). WhereTold o (λ rows. LieOn rows rec.files rec.common)) (sym (ap (λ d. g.F.Medium.rows (disk_of d).now) ends.files) ∙ search (rules, disk)) lies)
+    (subst (λ (o : Option (List (List ℕ))). WhereTold o (λ contents. LieOn contents rec.files rec.common)) (sym (ap (λ d. g.F.Medium.contents (disk_of d).now) ends.files) ∙ search (rules, disk)) lies)
 
 pub returns-in-WithoutFiles-clause-served : goal.returns-in-WithoutFiles-clause-served
 returns-in-WithoutFiles-clause-served g c =

@@ -11,7 +11,7 @@ use Rattle.track_directories.proofs.adding.add_over.Goals as goal
 
 pub mode_over-requires-clause-can : goal.mode_over-requires-clause-can
 mode_over-requires-clause-can g c =
-    let o = g.F.Medium.rows c.args.store.now.disk.now in
+    let o = g.F.Medium.contents c.args.store.now.disk.now in
     let d = c.args.table.now in
     let f = c.args.file.now in
     let mid = files_in (tracked g.F.Medium c.put_over.new.store) c.put_over.new.table in
@@ -19,7 +19,7 @@ mode_over-requires-clause-can g c =
 
 pub returns-clause-added : goal.returns-clause-added
 returns-clause-added g c =
-    let o = g.F.Medium.rows c.args.store.now.disk.now in
+    let o = g.F.Medium.contents c.args.store.now.disk.now in
     let d = c.args.table.now in
     let f = c.args.file.now in
     let fs = files_in (tracked g.F.Medium c.args.store.now) d in

@@ -8,8 +8,8 @@ use Rattle.track_directories.proofs.listing.lists_on.Goals as goal
 
 pub returns-clause-files : goal.returns-clause-files
 returns-clause-files g c =
-    let shows : List (List ℕ) → List TrackTable → List (List FileBody) = λ rows. map (λ (t : TrackTable). files_on rows t.files.items) in
-    told_map (g.F.Medium.rows c.args.store.now.disk.now)
-    (λ rows. c.listing.lists.items ≡ shows rows (take c.listing.table-index c.args.tables.now)) (λ rows. c.listing.lists.items ≡ shows rows c.args.tables.now)
-    (λ rows is. is ∙ ap (shows rows) (take_all c.listing.table-index c.args.tables.now (omega (arith, c.listing-test.false))))
+    let shows : List (List ℕ) → List TrackTable → List (List FileBody) = λ contents. map (λ (t : TrackTable). files_on contents t.files.items) in
+    told_map (g.F.Medium.contents c.args.store.now.disk.now)
+    (λ contents. c.listing.lists.items ≡ shows contents (take c.listing.table-index c.args.tables.now)) (λ contents. c.listing.lists.items ≡ shows contents c.args.tables.now)
+    (λ contents is. is ∙ ap (shows contents) (take_all c.listing.table-index c.args.tables.now (omega (arith, c.listing-test.false))))
     c.listing.invariant.files

@@ -7,10 +7,10 @@ use Rattle.track_directories.proofs.listing.lists_on.Given as goal
 
 abbrev pub invariant-listing : goal.invariant-listing
 invariant-listing g l = record {
-  files : WhereTold (g.F.Medium.rows l.fn.store.disk.now) (λ rows. l.lists.items ≡ map (λ (t : TrackTable). files_on rows t.files.items) (take l.table-index l.tables));
+  files : WhereTold (g.F.Medium.contents l.fn.store.disk.now) (λ contents. l.lists.items ≡ map (λ (t : TrackTable). files_on contents t.files.items) (take l.table-index l.tables));
   same : l.store.disk.ghost_name ≡ l.fn.store.disk.ghost_name;
   tracks : l.store.tracks ≡ l.fn.store.tracks;
-  rows : g.F.Medium.rows l.store.disk.now ≡ g.F.Medium.rows l.fn.store.disk.now;
-  serves : Serves (g.F.Medium.rows l.store.disk.now) (g.F.Medium.record_count l.store.disk.now) (g.F.Medium.words_each l.store.disk.now) (length l.store.tracks.taken.items);
-  kept : g.F.Medium.faults l.fn.store.disk.now ≤ g.F.Medium.faults l.store.disk.now;
+  contents : g.F.Medium.contents l.store.disk.now ≡ g.F.Medium.contents l.fn.store.disk.now;
+  serves : Serves (g.F.Medium.contents l.store.disk.now) (g.F.Medium.record_count l.store.disk.now) (g.F.Medium.words_each l.store.disk.now) (length l.store.tracks.taken.items);
+  faults_grow : g.F.Medium.faults l.fn.store.disk.now ≤ g.F.Medium.faults l.store.disk.now;
 }

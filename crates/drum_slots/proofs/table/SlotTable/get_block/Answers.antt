@@ -17,9 +17,9 @@ release-requires-clause-at g c = not_free_below _ c.in-Some.at (c.args.self.now.
 pub returns-clause-ok : goal.returns-clause-ok
 returns-clause-ok g c =
     let slots = c.args.self.now.slots.slots.items in
-    ap (λ (l : List (Option ℕ)). copies (g.D.Medium.rows c.read.new.self) l) c.release.ensures.slots
+    ap (λ (l : List (Option ℕ)). copies (g.D.Medium.contents c.read.new.self) l) c.release.ensures.slots
     ∙ copies_drop _ slots c.key-place.result
-    ∙ (λ i. with_copy (copies (c.in_ok-read.ensures.rows i) slots) (c.key-place.ensures.value i) None)
+    ∙ (λ i. with_copy (copies (c.in_ok-read.ensures.contents i) slots) (c.key-place.ensures.value i) None)
 
 pub returns-in_err-read-clause-err : goal.returns-in_err-read-clause-err
 returns-in_err-read-clause-err g c =
@@ -30,5 +30,5 @@ returns-in_err-read-clause-err g c =
     let within : c.in-Some.at < g.D.Medium.record_count c.args.self.now.drum.now = omega (arith, below, c.requires.serves.within) in
     let exit = err_from_is_err_and c.from_residual.result c.from_residual.ensures.1 in
     let torn = copies_torn _ _ slots c.key-place.result c.in-Some.at _ c.in_err-read.ensures.err is (λ j at. s.distinct j c.key-place.result c.in-Some.at at is) c.requires.serves.shape within in
-    let P : ℕ → Type 0 = λ k. ChangesCopy (copies (g.D.Medium.rows c.args.self.now.drum.now) slots) (copies (g.D.Medium.rows c.read.new.self) slots) k in
+    let P : ℕ → Type 0 = λ k. ChangesCopy (copies (g.D.Medium.contents c.args.self.now.drum.now) slots) (copies (g.D.Medium.contents c.read.new.self) slots) k in
     rw exit.1 (subst P c.key-place.ensures.value torn)

@@ -16,9 +16,9 @@ pub returns-clause-ok : goal.returns-clause-ok
 returns-clause-ok g c =
     let slots = c.args.self.now.slots in
     let within : c.first_free-at.result < g.D.Medium.record_count c.args.self.now.drum.now = omega arith in
-    ap (λ (l : List (Option ℕ)). copies (g.D.Medium.rows c.write.new.self) l) c.keep.ensures.slots
-    ∙ copies_put _ _ _ c.key-place.result c.first_free-at.result _ c.args.from.now c.in_ok-write.ensures.rows (avoids _ _ _ slots.sound c.first_free-at.ensures.is_free) c.requires.serves.shape within
-    ∙ ap (λ (k : ℕ). with_copy (copies (g.D.Medium.rows c.args.self.now.drum.now) slots.slots.items) k (Some c.args.from.now)) c.key-place.ensures.value
+    ap (λ (l : List (Option ℕ)). copies (g.D.Medium.contents c.write.new.self) l) c.keep.ensures.slots
+    ∙ copies_put _ _ _ c.key-place.result c.first_free-at.result _ c.args.from.now c.in_ok-write.ensures.contents (avoids _ _ _ slots.sound c.first_free-at.ensures.is_free) c.requires.serves.shape within
+    ∙ ap (λ (k : ℕ). with_copy (copies (g.D.Medium.contents c.args.self.now.drum.now) slots.slots.items) k (Some c.args.from.now)) c.key-place.ensures.value
 
 pub returns-in_err-write-clause-err : goal.returns-in_err-write-clause-err
 returns-in_err-write-clause-err g c =

@@ -9,26 +9,26 @@ use Rattle.file_tracks.proofs.port.TrackPortFilePort.chmode.Goals as goal
 pub returns-clause-left : goal.returns-clause-left
 returns-clause-left g c =
     let p = c.args.self.now in
-    let o = g.F.Medium.rows p.store.now.disk.now in
+    let o = g.F.Medium.contents p.store.now.disk.now in
     let taken = p.store.now.tracks.taken.items in
     let d = p.table.now in
     let fs = d.files.items in
-    let w = c.requires.works in
+    let w = c.requires.usable in
     let e = c.chmode_in.ensures in
     let d' = c.chmode_in.new.table in
-    with_both (λ (xs ys : List FileBody). Leaves c.chmode_in.result (moded c.args.name c.args.mode xs) xs ys) o taken taken d.quota d.used d'.quota d'.used fs d'.files.items w.directory (e.works o taken w.directory) refl e.left
+    with_both (λ (xs ys : List FileBody). Leaves c.chmode_in.result (moded c.args.name c.args.mode xs) xs ys) o taken taken d.quota d.used d'.quota d'.used fs d'.files.items w.directory (e.usable o taken w.directory) refl e.left
 
-pub returns-clause-works : goal.returns-clause-works
-returns-clause-works g c =
+pub returns-clause-usable : goal.returns-clause-usable
+returns-clause-usable g c =
     let p = c.args.self.now in
-    let o = g.F.Medium.rows p.store.now.disk.now in
+    let o = g.F.Medium.contents p.store.now.disk.now in
     let taken = p.store.now.tracks.taken.items in
     let d = p.table.now in
     let fs = d.files.items in
-    let w = c.requires.works in
+    let w = c.requires.usable in
     let e = c.chmode_in.ensures in
     record {
-      directory = e.works o taken w.directory;
+      directory = e.usable o taken w.directory;
       serves = w.serves;
       small = subst (λ (q : ℕ). q < 65536) (sym e.quota) w.small;
       well = w.well;
@@ -37,11 +37,11 @@ returns-clause-works g c =
 pub returns-clause-keeps : goal.returns-clause-keeps
 returns-clause-keeps g c =
     let p = c.args.self.now in
-    let o = g.F.Medium.rows p.store.now.disk.now in
+    let o = g.F.Medium.contents p.store.now.disk.now in
     let taken = p.store.now.tracks.taken.items in
     let d = p.table.now in
     let fs = d.files.items in
-    let w = c.requires.works in
+    let w = c.requires.usable in
     let e = c.chmode_in.ensures in (
       search rules,
       search rules,

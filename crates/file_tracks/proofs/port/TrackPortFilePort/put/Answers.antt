@@ -10,22 +10,22 @@ use Rattle.file_tracks.proofs.port.TrackPortFilePort.put.Goals as goal
 pub returns-clause-left : goal.returns-clause-left
 returns-clause-left g c =
     let p = c.args.self.now in
-    let o = g.F.Medium.rows p.store.now.disk.now in
+    let o = g.F.Medium.contents p.store.now.disk.now in
     let taken = p.store.now.tracks.taken.items in
     let d = p.table.now in
     let fs = d.files.items in
-    let w = c.requires.works in
+    let w = c.requires.usable in
     let e = c.put_in-answer.ensures in
-    leaves_seen (put c.args.name c.args.words.now d.quota) o (g.F.Medium.rows c.put_in-answer.new.store.disk.now) taken d.quota d.used fs c.put_in-answer.new.table.files.items w.directory
+    leaves_seen (put c.args.name c.args.words.now d.quota) o (g.F.Medium.contents c.put_in-answer.new.store.disk.now) taken d.quota d.used fs c.put_in-answer.new.table.files.items w.directory
     (reaches o (g.F.Medium.record_count p.store.now.disk.now) (length taken) w.serves.shape w.serves.within)
-    c.put_in-answer.result e.any (λ ok. (e.works ok).tracked) e.told
+    c.put_in-answer.result e.any (λ ok. (e.usable ok).tracked) e.telling
 
-pub returns-clause-works : goal.returns-clause-works
-returns-clause-works g c = λ ok.
+pub returns-clause-usable : goal.returns-clause-usable
+returns-clause-usable g c = λ ok.
     let e = c.put_in-answer.ensures in
-    let w = c.requires.works in
+    let w = c.requires.usable in
     record {
-      directory = e.works ok;
+      directory = e.usable ok;
       serves = e.serves;
       small = subst (λ (q : ℕ). q < 65536) (sym e.quota) w.small;
       well = not_yes c.is_disk-self.result (c.put_in-answer.result ≡ Err Disk) c.is_disk-self.ensures.yes ok;
@@ -39,9 +39,9 @@ returns-clause-keeps g c =
       sym e.same,
       record {
         quota = e.quota;
-        rises = e.kept;
+        rises = e.faults_grow;
         after = λ well.
             (let ok = c.is_disk-self.ensures.no well in
-            (c.requires.works.well, record { told = e.told ok; many = e.many; counts = e.counts ok; others = e.others ok }));
+            (c.requires.usable.well, record { telling = e.telling ok; many = e.many; counts = e.counts ok; others = e.others ok }));
       },
     )

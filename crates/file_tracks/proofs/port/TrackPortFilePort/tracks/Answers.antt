@@ -8,9 +8,9 @@ use Rattle.file_tracks.proofs.port.TrackPortFilePort.tracks.Goals as goal
 pub returns-clause-count : goal.returns-clause-count
 returns-clause-count g c =
     let p = c.args.self.now in
-    let o = g.F.Medium.rows p.store.now.disk.now in
+    let o = g.F.Medium.contents p.store.now.disk.now in
     let taken = p.store.now.tracks.taken.items in
     let d = p.table.now in
     let fs = d.files.items in
-    let w = c.requires.works in
-    with_seen (λ (xs : List FileBody). d.used ≡ tracks_of xs) o taken d.quota d.used fs w.directory (λ rows whole. w.directory.counted ∙ sym (tracks_are rows fs w.directory.tracked whole))
+    let w = c.requires.usable in
+    with_seen (λ (xs : List FileBody). d.used ≡ tracks_of xs) o taken d.quota d.used fs w.directory (λ contents whole. w.directory.counted ∙ sym (tracks_are contents fs w.directory.tracked whole))

@@ -10,7 +10,7 @@ dropping-init g c =
     record {
       items = sym (ap (λ (n : ℕ). take n fs ++ filter lasts (drop n fs)) (let e : length fs - 0 ≡ length fs = omega arith in e) ∙ part_at fs);
       others = λ others beside. beside;
-      works = c.requires.works;
+      usable = c.requires.usable;
       quota = refl;
       less = omega arith;
       counts = refl;
@@ -47,7 +47,7 @@ dropping-preserved g c =
           (inv.items ∙ ap (λ (m : ℕ). take m fs ++ filter lasts (drop m fs)) place) e.items
           ∙ ap (λ (m : ℕ). take m fs ++ filter lasts (drop m fs)) next;
       others = λ others beside. e.others others (inv.others others beside);
-      works = e.works;
+      usable = e.usable;
       quota = e.quota ∙ inv.quota;
       less = (let a = e.less in let b = inv.less in omega (arith, a, b));
       counts = (let a = e.counts in let b = inv.counts in omega (arith, a, b));
@@ -57,9 +57,9 @@ dropping-preserved g c =
     }
 
 pub returns-clause-left : goal.returns-clause-left
-returns-clause-left g c = λ rows.
+returns-clause-left g c = λ contents.
     let fs = c.args.self.now.files.items in
     let n = c.len-count.ensures in
     let past = c.dropping-test.false in
     let none : length fs - c.dropping.k ≡ 0 = omega (arith, n, past) in
-    ap (files_on rows) (c.dropping.invariant.items ∙ ap (λ (m : ℕ). take m fs ++ filter lasts (drop m fs)) none) ∙ lasting_are rows fs
+    ap (files_on contents) (c.dropping.invariant.items ∙ ap (λ (m : ℕ). take m fs ++ filter lasts (drop m fs)) none) ∙ lasting_are contents fs

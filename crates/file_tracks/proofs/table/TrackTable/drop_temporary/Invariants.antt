@@ -9,7 +9,7 @@ abbrev pub invariant-dropping : goal.invariant-dropping
 invariant-dropping g l = record {
   items : l.self.files.items ≡ take (length l.fn.self.files.items - l.k) l.fn.self.files.items ++ filter lasts (drop (length l.fn.self.files.items - l.k) l.fn.self.files.items);
   others : (others : ℕ → ℕ) → StandBeside others l.fn.store.tracks.taken.items l.fn.self.files.items → StandBeside others l.store.tracks.taken.items l.self.files.items;
-  works : IsDirectory (g.F.Medium.rows l.store.disk.now) l.store.tracks.taken.items l.self.quota l.self.used l.self.files.items;
+  usable : IsDirectory (g.F.Medium.contents l.store.disk.now) l.store.tracks.taken.items l.self.quota l.self.used l.self.files.items;
   quota : l.self.quota ≡ l.fn.self.quota;
   less : l.self.used ≤ l.fn.self.used;
   counts : count_taken l.store.tracks.taken.items + l.fn.self.used ≡ count_taken l.fn.store.tracks.taken.items + l.self.used;

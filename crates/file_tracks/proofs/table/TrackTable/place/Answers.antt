@@ -8,6 +8,6 @@ use Rattle.file_tracks.proofs.table.TrackTable.place.Goals as goal
 pub returns : goal.returns
 returns c =
     let name = c.args.name in
-    subst (λ (fs : List Filed). MatchOption c.find.result ((rows : List (List ℕ)) → file_named name (files_on rows fs) ≡ None)
-    (λ i. (i < length fs) × ((rows : List (List ℕ)) (d : Filed) → file_named name (files_on rows fs) ≡ Some (body_on rows (get_or fs i d)))))
+    subst (λ (fs : List Filed). MatchOption c.find.result ((contents : List (List ℕ)) → file_named name (files_on contents fs) ≡ None)
+    (λ i. (i < length fs) × ((contents : List (List ℕ)) (d : Filed) → file_named name (files_on contents fs) ≡ Some (body_on contents (get_or fs i d)))))
     c.deref.ensures.value c.find.ensures

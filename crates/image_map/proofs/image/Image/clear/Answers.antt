@@ -20,10 +20,10 @@ returns-clause-images g c =
     let some : 1 ≤ user = omega (arith, c.number.ensures.range.0, c.number.ensures.value) in
     let below : block < length owners = omega (arith, s.blocks, s.limit user, s.fits user) in
     let m = moves_take owners slots slots quotas user block below c.requires.owned (λ j other. refl) c.requires.none in
-    let rows = g.D.Medium.rows c.args.self.now.tables.kept.drum.now in
+    let contents = g.D.Medium.contents c.args.self.now.tables.kept.drum.now in
     let all = core_moves owners (slice_set owners block user) slots slots (block_at old) (block_at new) quotas sizes
-    (copies rows slots) (copies rows slots) user block None
-    (fresh_copies rows slots (key quotas user block) c.requires.none) s m c.clear_block.ensures.others c.requires.inside
-    (take_view owners (block_at old) (block_at new) quotas user block (copies rows slots) None some below c.requires.owned
-    (fresh_words rows slots (key quotas user block) (block_at new block) c.requires.none c.clear_block.ensures.here)) in
+    (copies contents slots) (copies contents slots) user block None
+    (fresh_copies contents slots (key quotas user block) c.requires.none) s m c.clear_block.ensures.others c.requires.inside
+    (take_view owners (block_at old) (block_at new) quotas user block (copies contents slots) None some below c.requires.owned
+    (fresh_words contents slots (key quotas user block) (block_at new block) c.requires.none c.clear_block.ensures.here)) in
     rw (c.set.ensures, c.number.ensures.value) all

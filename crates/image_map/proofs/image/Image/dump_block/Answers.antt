@@ -33,9 +33,9 @@ returns-clause-images g c =
     let fits : c.args.block < quota_of quotas c.args.owner = omega (arith, s.fits c.args.owner) in
     let place : key quotas c.args.owner c.args.block < length slots = omega (arith, key_below quotas c.args.owner c.args.block fits, c.args.self.now.tables.kept.slots.places) in
     let m = moves_dump owners slots quotas c.args.owner c.args.block r c.requires.some below c.requires.owned in
-    let rows = g.D.Medium.rows c.args.self.now.tables.kept.drum.now in
+    let contents = g.D.Medium.contents c.args.self.now.tables.kept.drum.now in
     let blocks : ℕ → List ℕ = block_at c.args.self.now.bank in
     let all = core_moves owners (slice_set owners c.args.block 0) slots (slice_set slots (key quotas c.args.owner c.args.block) (Some r)) blocks blocks quotas sizes _ _ c.args.owner c.args.block (Some c.block.result.now)
     c.in_ok-put_block.ensures.ok s m (λ c' other. refl) mine
-    (dump_view rows owners slots blocks quotas c.args.owner c.args.block c.block.result.now c.requires.some below c.requires.owned place c.block.ensures.value) in
+    (dump_view contents owners slots blocks quotas c.args.owner c.args.block c.block.result.now c.requires.some below c.requires.owned place c.block.ensures.value) in
     rw (c.set.ensures, c.put_block.ensures.quotas) all

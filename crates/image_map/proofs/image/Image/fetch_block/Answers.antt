@@ -42,13 +42,13 @@ returns-clause-images g c =
     let m = moves_take owners slots (slice_set slots (key quotas c.args.user c.args.block) None) quotas c.args.user c.args.block below c.requires.owned
     (λ k other. get_or-set_other slots (key quotas c.args.user c.args.block) k None None other)
     (get_or-set_same slots (key quotas c.args.user c.args.block) None None place) in
-    let rows = g.D.Medium.rows c.args.self.now.tables.kept.drum.now in
+    let contents = g.D.Medium.contents c.args.self.now.tables.kept.drum.now in
     let bank : take (length old) (new ++ drop (length new) old) ≡ new
     = take_at new (drop (length new) old) (length old) (c.read_block.ensures.len ∙ ap (λ (l : List ℕ). length l) c.words_mut.ensures.value) in
     let stay : (k : ℕ) → k ≢ c.args.block → block_at new k ≡ block_at old k = λ k other. c.read_block.ensures.others k other ∙ ap (λ (l : List ℕ). block_at l k) c.words_mut.ensures.value in
     let all = core_moves owners (slice_set owners c.args.block c.args.user) slots (slice_set slots (key quotas c.args.user c.args.block) None) (block_at old) (block_at new) quotas sizes
-    (copies rows slots) (copies (g.D.Medium.rows c.read_block.new.table.drum.now) c.read_block.new.table.slots.slots.items) c.args.user c.args.block None
+    (copies contents slots) (copies (g.D.Medium.contents c.read_block.new.table.drum.now) c.read_block.new.table.slots.slots.items) c.args.user c.args.block None
     c.in_ok-read_block.ensures.ok s m stay c.requires.inside
-    (take_view owners (block_at old) (block_at new) quotas c.args.user c.args.block (copies rows slots) None some below c.requires.owned
-    (read_words (copies rows slots) (key quotas c.args.user c.args.block) (block_at new c.args.block) c.in_ok-read_block.ensures.given)) in
+    (take_view owners (block_at old) (block_at new) quotas c.args.user c.args.block (copies contents slots) None some below c.requires.owned
+    (read_words (copies contents slots) (key quotas c.args.user c.args.block) (block_at new c.args.block) c.in_ok-read_block.ensures.given)) in
     rw (bank, c.set.ensures, c.number.ensures.value, c.read_block.ensures.quotas) all

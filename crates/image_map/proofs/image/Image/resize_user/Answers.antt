@@ -26,8 +26,8 @@ returns-clause-resizes g c =
       places = places_given_up s.owners c.give_up.new.self s.kept.slots c.free_from.new.self.slots c.args.user c.args.blocks up c.free_from.ensures.quotas c.give_up.ensures.value;
       mine = rw (c.free_from.ensures.now, c.free_from.ensures.quotas, c.number.ensures.value)
           (core_resized s.owners c.give_up.new.self s.kept.slots.slots.items c.free_from.new.self.slots.slots.items s.kept.slots.quotas.items s.sizes.items
-          c.args.user c.args.blocks (block_at c.args.self.now.bank) (g.D.Medium.rows s.kept.drum.now) up s.sound some c.requires.user c.requires.quota);
+          c.args.user c.args.blocks (block_at c.args.self.now.bank) (g.D.Medium.contents s.kept.drum.now) up s.sound some c.requires.user c.requires.quota);
       others = λ u some them. rw (c.free_from.ensures.now, c.free_from.ensures.quotas, c.number.ensures.value)
           (core_stays s.owners c.give_up.new.self s.kept.slots.slots.items c.free_from.new.self.slots.slots.items s.kept.slots.quotas.items s.sizes.items
-          c.args.user c.args.blocks (block_at c.args.self.now.bank) (g.D.Medium.rows s.kept.drum.now) u up s.sound some them);
+          c.args.user c.args.blocks (block_at c.args.self.now.bank) (g.D.Medium.contents s.kept.drum.now) u up s.sound some them);
     }

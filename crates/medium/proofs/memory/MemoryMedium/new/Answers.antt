@@ -6,11 +6,11 @@ use Rattle.medium.proofs.memory.MemoryMedium.new.Goals as goal
 
 pub invariant_of-result : goal.invariant_of-result
 invariant_of-result c =
-    let rows : c.in_ok-zeros.field-0.rows ≡ replicate c.args.records (replicate c.args.record_words 0) = c.in_ok-zeros.ensures.rows in
+    let contents : c.in_ok-zeros.field-0.contents ≡ replicate c.args.records (replicate c.args.record_words 0) = c.in_ok-zeros.ensures.contents in
     let words_each : c.in_ok-new.field-0.words_each ≡ c.args.record_words = ap (λ (l : LogState). l.words_each) c.in_ok-new.ensures in
     let damages : c.in_ok-to_vec-2.field-0.items ≡ c.args.damages.now = grind (arith, common_steps) in
     record {
-      rows = rw (words_each, rows) (zero_rows_are c.args.records c.args.record_words);
+      contents = rw (words_each, contents) (zero_rows_are c.args.records c.args.record_words);
       each = c.in_ok-zeros.ensures.each ∙ sym words_each;
       damages = rw (words_each, damages) c.requires;
     }

@@ -6,7 +6,7 @@ use Rattle.medium.proofs.memory.MemoryMediumMedium.read.Goals as goal
 pub returns-then-fails_next-clause-err : goal.returns-then-fails_next-clause-err
 returns-then-fails_next-clause-err c =
     let damages = λ (s : MediumState). s.damages in
-    let rows = λ (s : MediumState). s.rows in
+    let contents = λ (s : MediumState). s.contents in
     unchanged c.args.self.now c.fail.new.self c.args.at
     (ap damages c.fail.ensures.state ∙ ap damages c.fails_next.ensures.state ∙ ap damages c.self.view_is)
-    (ap rows c.fail.ensures.state ∙ ap rows c.fails_next.ensures.state ∙ ap rows c.self.view_is)
+    (ap contents c.fail.ensures.state ∙ ap contents c.fails_next.ensures.state ∙ ap contents c.self.view_is)

@@ -3,5 +3,5 @@ use Rattle.medium.specs.Rows.{rows_from}
 use Rattle.medium.proofs.Pieces.{rows_none}
 use Rattle.medium.proofs.pages.Pages.zeros.Goals as goal
 
-pub returns-clause-rows : goal.returns-clause-rows
-returns-clause-rows c = ap (λ (ws : List ℕ). rows_from ws c.args.each 0 c.args.count) c.in_ok-words.ensures.items ∙ rows_none c.args.each 0 c.args.count
+pub returns-clause-contents : goal.returns-clause-contents
+returns-clause-contents c = ap (λ (ws : List ℕ). rows_from ws c.args.each 0 c.args.count) c.in_ok-words.ensures.items ∙ rows_none c.args.each 0 c.args.count

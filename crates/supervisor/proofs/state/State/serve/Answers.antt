@@ -223,7 +223,7 @@ returns-in-Ok-Asks-clause-ended g c =
     let is : mid ≡ old = λ j. at_places (worked.places j) (with_users old (back j) (c.reserve.ensures.items j)) in
     let new : Run = seen end.held.places c.share.new.self in
     let words = words_stay u was now worked stay in
-    let kept : was.disk_faults ≤ now.disk_faults = c.in-Ok-Asks.ensures.kept in
+    let kept : was.disk_faults ≤ now.disk_faults = c.in-Ok-Asks.ensures.faults_grow in
     ends_map c.share.result _ _ _ _ _ _ _ _
     (does_from (attended c.args.v) old mid new was.held end.held now.held is words worked.rest.tells worked.rest.rules.common)
     (stays_from old mid new was.held now.held end.held is words worked.rest.tells worked.rest.rules.common)

@@ -8,7 +8,7 @@ use Rattle.supervisor.specs.Seen.{seen}
 use Rattle.supervisor.proofs.Counting.{counted_same, counted_on}
 use Rattle.supervisor.proofs.Doing.{does_fall}
 use Rattle.supervisor.proofs.Serving.{fails_map, fails_both, fails_to}
-use Rattle.supervisor.proofs.Running.{sound_places, leads_on, part_on, part_none, run_done, held_on, part_shown, sound_still, stops_at_load}
+use Rattle.supervisor.proofs.Running.{sound_places, leads_on, part_on, part_none, run_done, held_on, part_but_commons, part_shown, sound_still, stops_at_load}
 use Rattle.supervisor.specs.Steps.{IsHeld}
 use Rattle.supervisor.specs.Shows.{texts_of, rows_of}
 use Rattle.supervisor.proofs.Passing.{pass_leads, pass_part, pass_falls, pass_held, pass_told, pass_texts_lead, pass_texts_part, pass_grow}
@@ -27,13 +27,13 @@ steps-init g c =
       texts = texts_none c.args.limit (seen (g.C.Backing.state c.args.cores.now).held.places c.args.self.now.state) (g.C.Backing.state c.args.cores.now).held (texts_of c.args.self.now.state.sessions.items c.args.self.now.texts);
       grows = grow_none _;
       seats = refl;
-      told = c.requires.told;
+      matched = c.requires.matched;
       counted = counted_same _ _ _ _ refl refl;
       tells = refl;
       held = c.requires.held;
-      works = c.requires.works;
+      usable = c.requires.usable;
       keeps = search rules;
-      kept = omega arith;
+      faults_grow = omega arith;
       disk = omega arith;
     }
 
@@ -72,7 +72,7 @@ steps-preserved g c =
     let z = texts_of c.step.new.self.state.sessions.items c.step.new.self.texts in
     let tells : mid.tells ≡ first.tells = done.tells ∙ inv.tells in
     let held : IsHeld next mid = held_on c.args.limit old next had mid up inv.held c.in-Ok.ensures.tied done in
-    let told = c.in-Ok.ensures.told in
+    let told = c.in-Ok.ensures.matched in
     record {
       leads = pass_leads c.args.limit next new mid has many start first tells (leads_on c.args.limit start old next first had mid inv.tells up done inv.leads);
       part = pass_part c.args.limit next new mid has many start first tells (part_on c.args.limit start old next first had mid inv.tells up done inv.part);
@@ -80,13 +80,13 @@ steps-preserved g c =
       texts = pass_texts_part c.args.limit next new mid has many rows held.sound told start first x tells (texts_part c.args.limit start old next first had mid x y z inv.tells up done c.in-Ok.ensures.texts inv.texts);
       grows = grow_trans x z _ (grow_trans x y z inv.grows (step_grow c.args.limit old next had mid y z done c.in-Ok.ensures.texts)) (pass_grow c.args.limit next new mid has many rows held.sound told);
       seats = many_seats c.args.limit next new mid has many ∙ does_seats c.args.limit old next had mid done ∙ inv.seats;
-      told = pass_told c.args.limit next new mid has many rows held.sound told;
+      matched = pass_told c.args.limit next new mid has many rows held.sound told;
       counted = counted_on _ _ _ _ _ _ (counted_on _ _ _ _ _ _ inv.counted c.in-Ok.ensures.counted) (counted_same _ _ _ _ c.run.ensures.entries c.run.ensures.calls);
       tells = many.tells ∙ tells;
       held = pass_held c.args.limit next new mid has many held c.run.ensures.tied;
-      works = c.run.ensures.works;
+      usable = c.run.ensures.usable;
       keeps = g.met.C.Backing.goes_on _ _ _ (g.met.C.Backing.goes_on _ _ _ inv.keeps c.in-Ok.ensures.keeps) c.run.ensures.keeps;
-      kept = let a = inv.kept in let b = c.in-Ok.ensures.kept in let e = c.run.ensures.faults in omega (arith, a, b, e);
+      faults_grow = let a = inv.faults_grow in let b = c.in-Ok.ensures.faults_grow in let e = c.run.ensures.faults in omega (arith, a, b, e);
       disk = let a = inv.disk in let b = c.in-Ok.ensures.disk in let e = c.run.ensures.disk in omega (arith, a, b, e);
     }
 
@@ -100,7 +100,7 @@ returns-in-Err-clause-ended g c =
     let new : Run = seen has.places c.step.new.self.state in
     let inv = c.steps.invariant in
     fails_map c.in-Err.fault _ _ _ _ _ _
-    (λ s. part_shown c.args.limit start old (seen no_places c.step.new.self.state) first had inv.part (ap (λ (r : Run). r.system.entries) s.run) (ap (λ (r : Run). r.system.users) s.run) (ap (λ (r : Run). r.system.clock) s.run))
+    (λ s. part_but_commons c.args.limit start old new first had has inv.tells inv.part s)
     (λ f. (stops_at_load c.args.limit start old (seen no_places c.step.new.self.state) first had _ _ _ inv.part c.steps-test.true inv.held.sound inv.counted f.2 (ap (λ (r : Run). r.system.entries) f.0) (ap (λ (r : Run). r.system.users) f.0) (ap (λ (r : Run). r.system.clock) f.0), search rules))
     (λ d. (
       part_shown c.args.limit start old (seen no_places c.step.new.self.state) first had inv.part (ap (λ (r : Run). r.system.entries) d.0) (ap (λ (r : Run). r.system.users) d.0) (ap (λ (r : Run). r.system.clock) d.0),

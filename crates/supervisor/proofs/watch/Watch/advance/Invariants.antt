@@ -3,28 +3,28 @@ use Rattle.system_model.specs.Run.{measure}
 use Rattle.supervisor.specs.Counts.{IsCounted}
 use Rattle.supervisor.specs.Seen.{seen}
 use Rattle.supervisor.specs.Steps.{IsHeld}
-use Rattle.supervisor.specs.Shows.{texts_of, IsTold, TextsGrow}
-use Rattle.supervisor.proofs.Running.{HasRunPart, Leads}
+use Rattle.supervisor.specs.Shows.{texts_of, MatchesConsoles, TextsGrow}
+use Rattle.supervisor.proofs.Running.{HasRunSteps, Leads}
 use Rattle.supervisor.proofs.Watching.{HasTextsPart, TextsLead}
 use Rattle.supervisor.proofs.watch.Watch.advance.Given as goal
 
 abbrev pub invariant-steps : goal.invariant-steps
 invariant-steps g l = record {
   leads : Leads l.limit (seen (g.C.Backing.state l.fn.cores).held.places l.fn.self.state) (seen (g.C.Backing.state l.cores).held.places l.self.state) (g.C.Backing.state l.fn.cores).held (g.C.Backing.state l.cores).held;
-  part : HasRunPart l.limit (seen (g.C.Backing.state l.fn.cores).held.places l.fn.self.state) (seen (g.C.Backing.state l.cores).held.places l.self.state) (g.C.Backing.state l.fn.cores).held (g.C.Backing.state l.cores).held;
+  part : HasRunSteps l.limit (seen (g.C.Backing.state l.fn.cores).held.places l.fn.self.state) (seen (g.C.Backing.state l.cores).held.places l.self.state) (g.C.Backing.state l.fn.cores).held (g.C.Backing.state l.cores).held;
   lead : TextsLead l.limit (seen (g.C.Backing.state l.fn.cores).held.places l.fn.self.state) (seen (g.C.Backing.state l.cores).held.places l.self.state) (g.C.Backing.state l.fn.cores).held (g.C.Backing.state l.cores).held
       (texts_of l.fn.self.state.sessions.items l.fn.self.texts) (texts_of l.self.state.sessions.items l.self.texts);
   texts : HasTextsPart l.limit (seen (g.C.Backing.state l.fn.cores).held.places l.fn.self.state) (seen (g.C.Backing.state l.cores).held.places l.self.state) (g.C.Backing.state l.fn.cores).held (g.C.Backing.state l.cores).held
       (texts_of l.fn.self.state.sessions.items l.fn.self.texts) (texts_of l.self.state.sessions.items l.self.texts);
   grows : TextsGrow (texts_of l.fn.self.state.sessions.items l.fn.self.texts) (texts_of l.self.state.sessions.items l.self.texts);
   seats : length l.self.state.consoles.items ≡ length l.fn.self.state.consoles.items;
-  told : IsTold l.self.state.consoles.items l.self.state.sessions.items l.self.texts;
+  matched : MatchesConsoles l.self.state.consoles.items l.self.state.sessions.items l.self.texts;
   counted : IsCounted l.fn.self.state.entries.items l.self.state.entries.items (g.C.Backing.state l.fn.cores).calls (g.C.Backing.state l.cores).calls;
   tells : (g.C.Backing.state l.cores).held.tells ≡ (g.C.Backing.state l.fn.cores).held.tells;
   held : IsHeld (seen (g.C.Backing.state l.cores).held.places l.self.state) (g.C.Backing.state l.cores).held;
-  works : g.C.Backing.Works l.cores;
+  usable : g.C.Backing.Usable l.cores;
   keeps : g.C.Backing.Keeps l.fn.cores l.cores;
-  kept : (g.C.Backing.state l.fn.cores).faults ≤ (g.C.Backing.state l.cores).faults;
+  faults_grow : (g.C.Backing.state l.fn.cores).faults ≤ (g.C.Backing.state l.cores).faults;
   disk : (g.C.Backing.state l.fn.cores).disk_faults ≤ (g.C.Backing.state l.cores).disk_faults;
 }
 

@@ -17,7 +17,7 @@ lengths-after-requires g c =
     let had : Held = (g.C.Backing.state c.args.cores.now).held in
     let has : Held = (g.C.Backing.state c.step_on.new.cores).held in
     subst (λ (us : List User). length us ≤ 30) (sym c.as_slice.ensures.value)
-    (does_sound c.args.limit (seen had.places c.args.self.now.state) (seen has.places c.step_on.new.self) had has c.requires.before c.requires.held.sound c.in-Ok.ensures.ended).few
+    (does_sound c.args.limit (seen had.places c.args.self.now.state) (seen has.places c.step_on.new.self) had has c.requires.in_time c.requires.held.sound c.in-Ok.ensures.ended).few
 
 pub returns-clause-texts : goal.returns-clause-texts
 returns-clause-texts g c =
@@ -30,10 +30,10 @@ returns-clause-texts g c =
     c.settle.ensures.shown ∙ ap (λ (cs : List Console). map (settled_in cs c.as_slice-3.result.now) rows) c.as_slice-2.ensures.value
     ∙ ap (λ (ls : List ℕ). map (settled_in c.step_on.new.self.consoles.items ls) rows) (c.as_slice-3.ensures.value ∙ c.lengths-after.ensures ∙ ap lengths_of c.as_slice.ensures.value) in
     subst (λ (xs : List Shown). GoesOn c.args.limit old new (map (text_of (transcripts_of old.system.users)) rows) (map (text_of (transcripts_of new.system.users)) xs)) (sym is)
-    (goes_by c.args.limit old new rows (rest_rows (lengths_of new.system.users)) (rest_knows c.args.limit old new rows c.requires.quiet c.requires.held.sound c.requires.told) (rest_same c.args.limit old new rows (lengths_of new.system.users)))
+    (goes_by c.args.limit old new rows (rest_rows (lengths_of new.system.users)) (rest_knows c.args.limit old new rows c.requires.quiet c.requires.held.sound c.requires.matched) (rest_same c.args.limit old new rows (lengths_of new.system.users)))
 
-pub returns-clause-told : goal.returns-clause-told
-returns-clause-told g c =
+pub returns-clause-matched : goal.returns-clause-matched
+returns-clause-matched g c =
     let had : Held = (g.C.Backing.state c.args.cores.now).held in
     let has : Held = (g.C.Backing.state c.step_on.new.cores).held in
     let old : Run = seen had.places c.args.self.now.state in
@@ -43,16 +43,16 @@ returns-clause-told g c =
     c.settle.ensures.shown ∙ ap (λ (cs : List Console). map (settled_in cs c.as_slice-3.result.now) rows) c.as_slice-2.ensures.value
     ∙ ap (λ (ls : List ℕ). map (settled_in c.step_on.new.self.consoles.items ls) rows) (c.as_slice-3.ensures.value ∙ c.lengths-after.ensures ∙ ap lengths_of c.as_slice.ensures.value) in
     subst (AreShown new.system.consoles (transcripts_of new.system.users)) (sym is)
-    (told_by c.args.limit old new rows (rest_rows (lengths_of new.system.users)) had has (rest_knows c.args.limit old new rows c.requires.quiet c.requires.held.sound c.requires.told) (rest_same c.args.limit old new rows (lengths_of new.system.users)) c.in-Ok.ensures.ended)
+    (told_by c.args.limit old new rows (rest_rows (lengths_of new.system.users)) had has (rest_knows c.args.limit old new rows c.requires.quiet c.requires.held.sound c.requires.matched) (rest_same c.args.limit old new rows (lengths_of new.system.users)) c.in-Ok.ensures.ended)
 
 pub returns-then-is_some-clause-texts : goal.returns-then-is_some-clause-texts
 returns-then-is_some-clause-texts g c =
     let had : Held = (g.C.Backing.state c.args.cores.now).held in
     let has : Held = (g.C.Backing.state c.step_on.new.cores).held in
-    served_goes c.args.limit (seen had.places c.args.self.now.state) (seen has.places c.step_on.new.self) (rows_of c.args.self.now.texts) c.requires.quiet c.requires.held.sound (search rules) c.requires.told
+    served_goes c.args.limit (seen had.places c.args.self.now.state) (seen has.places c.step_on.new.self) (rows_of c.args.self.now.texts) c.requires.quiet c.requires.held.sound (search rules) c.requires.matched
 
-pub returns-then-is_some-clause-told : goal.returns-then-is_some-clause-told
-returns-then-is_some-clause-told g c =
+pub returns-then-is_some-clause-matched : goal.returns-then-is_some-clause-matched
+returns-then-is_some-clause-matched g c =
     let had : Held = (g.C.Backing.state c.args.cores.now).held in
     let has : Held = (g.C.Backing.state c.step_on.new.cores).held in
-    served_told c.args.limit (seen had.places c.args.self.now.state) (seen has.places c.step_on.new.self) had has (rows_of c.args.self.now.texts) c.requires.quiet c.requires.held.sound (search rules) c.requires.told c.in-Ok.ensures.ended
+    served_told c.args.limit (seen had.places c.args.self.now.state) (seen has.places c.step_on.new.self) had has (rows_of c.args.self.now.texts) c.requires.quiet c.requires.held.sound (search rules) c.requires.matched c.in-Ok.ensures.ended

@@ -17,7 +17,7 @@ lengths-after-requires g c =
     let had : Held = (g.C.Backing.state c.args.cores.now).held in
     let has : Held = (g.C.Backing.state c.step_at.new.cores).held in
     subst (λ (us : List User). length us ≤ 30) (sym c.as_slice-2.ensures.value)
-    (does_sound c.args.limit (seen had.places c.args.self.now.state) (seen has.places c.step_at.new.self) had has c.requires.before c.requires.held.sound c.in-Ok.ensures.ended).few
+    (does_sound c.args.limit (seen had.places c.args.self.now.state) (seen has.places c.step_at.new.self) had has c.requires.in_time c.requires.held.sound c.in-Ok.ensures.ended).few
 
 pub returns-clause-texts : goal.returns-clause-texts
 returns-clause-texts g c =
@@ -38,11 +38,11 @@ returns-clause-texts g c =
     ∙ ap (map (event_rows (lengths_of old.system.users) (lengths_of new.system.users) new)) c.reserve.ensures.shown in
     let due = some_due _ c.requires.due in
     subst (λ (xs : List Shown). GoesOn c.args.limit old new (map (text_of (transcripts_of old.system.users)) rows) (map (text_of (transcripts_of new.system.users)) xs)) (sym is)
-    (goes_by c.args.limit old new rows (event_rows (lengths_of old.system.users) (lengths_of new.system.users)) (event_knows c.args.limit old new rows due.0 due.1 c.requires.held.sound c.requires.told)
+    (goes_by c.args.limit old new rows (event_rows (lengths_of old.system.users) (lengths_of new.system.users)) (event_knows c.args.limit old new rows due.0 due.1 c.requires.held.sound c.requires.matched)
     (event_same c.args.limit old new rows (lengths_of old.system.users) (lengths_of new.system.users)))
 
-pub returns-clause-told : goal.returns-clause-told
-returns-clause-told g c =
+pub returns-clause-matched : goal.returns-clause-matched
+returns-clause-matched g c =
     let had : Held = (g.C.Backing.state c.args.cores.now).held in
     let has : Held = (g.C.Backing.state c.step_at.new.cores).held in
     let old : Run = seen had.places c.args.self.now.state in
@@ -60,5 +60,5 @@ returns-clause-told g c =
     ∙ ap (map (event_rows (lengths_of old.system.users) (lengths_of new.system.users) new)) c.reserve.ensures.shown in
     let due = some_due _ c.requires.due in
     subst (AreShown new.system.consoles (transcripts_of new.system.users)) (sym is)
-    (told_by c.args.limit old new rows (event_rows (lengths_of old.system.users) (lengths_of new.system.users)) had has (event_knows c.args.limit old new rows due.0 due.1 c.requires.held.sound c.requires.told)
+    (told_by c.args.limit old new rows (event_rows (lengths_of old.system.users) (lengths_of new.system.users)) had has (event_knows c.args.limit old new rows due.0 due.1 c.requires.held.sound c.requires.matched)
     (event_same c.args.limit old new rows (lengths_of old.system.users) (lengths_of new.system.users)) c.in-Ok.ensures.ended)

@@ -22,7 +22,7 @@ add_over-requires-clause-absent g c =
     let s = tracked g.F.Medium c.args.self.now.store in
     let ts = c.args.self.now.tables.items in
     let low = user_within s ts c.requires.sound _ _ c.number.ensures.value c.requires.can.owner.1 in
-    let is = ap (files_at s.rows ts) (sym c.number.ensures.value) ∙ mine_was s ts c.requires.sound c.number.result low c.index_mut-table.result.now c.index_mut-table.ensures.value in
+    let is = ap (files_at s.contents ts) (sym c.number.ensures.value) ∙ mine_was s ts c.requires.sound c.number.result low c.index_mut-table.result.now c.index_mut-table.ensures.value in
     subst (λ (fs : List FileBody). file_named c.args.file.now.body.name fs ≡ None) is c.requires.can.absent
 
 pub add_over-requires-clause-fits : goal.add_over-requires-clause-fits
@@ -31,7 +31,7 @@ add_over-requires-clause-fits g c =
     let ts = c.args.self.now.tables.items in
     let f = c.args.file.now in
     let low = user_within s ts c.requires.sound _ _ c.number.ensures.value c.requires.can.owner.1 in
-    let is = ap (files_at s.rows ts) (sym c.number.ensures.value) ∙ mine_was s ts c.requires.sound c.number.result low c.index_mut-table.result.now c.index_mut-table.ensures.value in
+    let is = ap (files_at s.contents ts) (sym c.number.ensures.value) ∙ mine_was s ts c.requires.sound c.number.result low c.index_mut-table.result.now c.index_mut-table.ensures.value in
     let quota = ap (quota_at ts) (sym c.number.ensures.value) ∙ quota_was s ts c.requires.sound c.number.result low c.index_mut-table.result.now c.index_mut-table.ensures.value in
     subst (λ (n : ℕ). tracks_of (files_in s c.index_mut-table.result.now ++ f.body ∷ []) ≤ n) quota (subst (λ (fs : List FileBody). tracks_of (fs ++ f.body ∷ []) ≤ quota_at ts f.owner) is c.requires.can.fits)
 
@@ -61,6 +61,6 @@ returns-clause-added g c =
     let d' = c.add_over.new.table in
     let value = c.number.ensures.value in
     let low = user_within s ts c.requires.sound _ _ value c.requires.can.owner.1 in
-    let was = ap (files_at s.rows ts) (sym value) ∙ mine_was s ts c.requires.sound u low d c.index_mut-table.ensures.value in
-    let now = ap (files_at new.rows _) (sym value) ∙ mine_now s ts c.requires.sound u low d c.index_mut-table.ensures.value new d' in
-    on_ok c.add_over.result (λ e. now ∙ e ∙ ap (λ (fs : List FileBody). known (tells_of s.rows) (fs ++ c.args.file.now.body ∷ [])) (sym was)) c.add_over.ensures.added
+    let was = ap (files_at s.contents ts) (sym value) ∙ mine_was s ts c.requires.sound u low d c.index_mut-table.ensures.value in
+    let now = ap (files_at new.contents _) (sym value) ∙ mine_now s ts c.requires.sound u low d c.index_mut-table.ensures.value new d' in
+    on_ok c.add_over.result (λ e. now ∙ e ∙ ap (λ (fs : List FileBody). known (tells_of s.contents) (fs ++ c.args.file.now.body ∷ [])) (sym was)) c.add_over.ensures.added

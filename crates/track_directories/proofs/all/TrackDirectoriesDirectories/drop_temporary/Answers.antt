@@ -4,12 +4,12 @@ use Rattle.track_directories.proofs.Tables.{user_within, ready_at, drops_at, sou
 use Rattle.track_directories.proofs.Dropped.{one_dropped, left_seen}
 use Rattle.track_directories.proofs.all.TrackDirectoriesDirectories.drop_temporary.Goals as goal
 
-pub drop_temporary-requires-clause-works : goal.drop_temporary-requires-clause-works
-drop_temporary-requires-clause-works g c =
+pub drop_temporary-requires-clause-usable : goal.drop_temporary-requires-clause-usable
+drop_temporary-requires-clause-usable g c =
     let s = tracked g.F.Medium c.args.self.now.store in
     let ts = c.args.self.now.tables.items in
-    let low = user_within s ts c.requires.works _ _ c.number.ensures.value c.requires.user in
-    (ready_at s ts c.requires.works c.number.result low c.index_mut.result.now c.index_mut.ensures.value).directory
+    let low = user_within s ts c.requires.usable _ _ c.number.ensures.value c.requires.user in
+    (ready_at s ts c.requires.usable c.number.result low c.index_mut.result.now c.index_mut.ensures.value).directory
 
 pub returns-clause-drops : goal.returns-clause-drops
 returns-clause-drops g c =
@@ -19,31 +19,31 @@ returns-clause-drops g c =
     let d = c.index_mut.result.now in
     let d' = c.drop_temporary.new.self in
     let value = c.index_mut.ensures.value in
-    let low = user_within s ts c.requires.works _ _ c.number.ensures.value c.requires.user in
-    let ready = ready_at s ts c.requires.works c.number.result low d value in
+    let low = user_within s ts c.requires.usable _ _ c.number.ensures.value c.requires.user in
+    let ready = ready_at s ts c.requires.usable c.number.result low d value in
     let e = c.drop_temporary.ensures in
-    let rows = ap g.F.Medium.rows e.now in
+    let contents = ap g.F.Medium.contents e.now in
     let counts = ap g.F.Medium.record_count e.now in
     let words = ap g.F.Medium.words_each e.now in
     let faults = ap g.F.Medium.faults e.now in
-    drops_at s ts c.requires.works c.number.result low d value new d'
-    (one_dropped s new d d' ready rows counts words faults e.works e.quota e.many e.counts e.others) faults (left_seen s new d d' ready rows e.works e.many e.left)
+    drops_at s ts c.requires.usable c.number.result low d value new d'
+    (one_dropped s new d d' ready contents counts words faults e.usable e.quota e.many e.counts e.others) faults (left_seen s new d d' ready contents e.usable e.many e.left)
     c.args.user c.number.ensures.value c.number.ensures.range.0
 
-pub returns-clause-works : goal.returns-clause-works
-returns-clause-works g c =
+pub returns-clause-usable : goal.returns-clause-usable
+returns-clause-usable g c =
     let s = tracked g.F.Medium c.args.self.now.store in
     let new = tracked g.F.Medium c.drop_temporary.new.store in
     let ts = c.args.self.now.tables.items in
     let d = c.index_mut.result.now in
     let d' = c.drop_temporary.new.self in
     let value = c.index_mut.ensures.value in
-    let low = user_within s ts c.requires.works _ _ c.number.ensures.value c.requires.user in
-    let ready = ready_at s ts c.requires.works c.number.result low d value in
+    let low = user_within s ts c.requires.usable _ _ c.number.ensures.value c.requires.user in
+    let ready = ready_at s ts c.requires.usable c.number.result low d value in
     let e = c.drop_temporary.ensures in
-    let rows = ap g.F.Medium.rows e.now in
+    let contents = ap g.F.Medium.contents e.now in
     let counts = ap g.F.Medium.record_count e.now in
     let words = ap g.F.Medium.words_each e.now in
     let faults = ap g.F.Medium.faults e.now in
-    sound_then s ts c.requires.works c.number.result low d value new d'
-    (one_dropped s new d d' ready rows counts words faults e.works e.quota e.many e.counts e.others) faults (left_seen s new d d' ready rows e.works e.many e.left)
+    sound_then s ts c.requires.usable c.number.result low d value new d'
+    (one_dropped s new d d' ready contents counts words faults e.usable e.quota e.many e.counts e.others) faults (left_seen s new d d' ready contents e.usable e.many e.left)

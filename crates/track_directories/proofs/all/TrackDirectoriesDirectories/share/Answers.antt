@@ -7,21 +7,21 @@ pub share_over-requires : goal.share_over-requires
 share_over-requires g c =
     let s = tracked g.F.Medium c.args.self.now.store in
     let ts = c.args.self.now.tables.items in
-    let low : 0 < length ts = let some = c.requires.works.some in omega (arith, some) in
-    ready_at s ts c.requires.works 0 low c.index_mut.result.now c.index_mut.ensures.value
+    let low : 0 < length ts = let some = c.requires.usable.some in omega (arith, some) in
+    ready_at s ts c.requires.usable 0 low c.index_mut.result.now c.index_mut.ensures.value
 
 pub returns-clause-shares : goal.returns-clause-shares
 returns-clause-shares g c =
     let s = tracked g.F.Medium c.args.self.now.store in
     let ts = c.args.self.now.tables.items in
-    let low : 0 < length ts = let some = c.requires.works.some in omega (arith, some) in
+    let low : 0 < length ts = let some = c.requires.usable.some in omega (arith, some) in
     let e = c.share_over.ensures in
-    shares_at s ts c.requires.works low c.index_mut.result.now c.index_mut.ensures.value (tracked g.F.Medium c.share_over.new.store) c.share_over.new.table c.share_over.result e.one
+    shares_at s ts c.requires.usable low c.index_mut.result.now c.index_mut.ensures.value (tracked g.F.Medium c.share_over.new.store) c.share_over.new.table c.share_over.result e.one
     c.args.op.now e.done e.fits
 
-pub returns-clause-works : goal.returns-clause-works
-returns-clause-works g c =
+pub returns-clause-usable : goal.returns-clause-usable
+returns-clause-usable g c =
     let s = tracked g.F.Medium c.args.self.now.store in
     let ts = c.args.self.now.tables.items in
-    let low : 0 < length ts = let some = c.requires.works.some in omega (arith, some) in
-    sound_at s ts c.requires.works 0 low c.index_mut.result.now c.index_mut.ensures.value (tracked g.F.Medium c.share_over.new.store) c.share_over.new.table c.share_over.result c.share_over.ensures.one
+    let low : 0 < length ts = let some = c.requires.usable.some in omega (arith, some) in
+    sound_at s ts c.requires.usable 0 low c.index_mut.result.now c.index_mut.ensures.value (tracked g.F.Medium c.share_over.new.store) c.share_over.new.table c.share_over.result c.share_over.ensures.one

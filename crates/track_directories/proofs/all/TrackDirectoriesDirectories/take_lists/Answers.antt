@@ -15,26 +15,26 @@ use Rattle.track_directories.proofs.Tables.{all_ready}
 use Rattle.track_directories.proofs.Lying.{files_in, tables_split, lists_are, lists_seen, list_seen, lists_lie}
 use Rattle.track_directories.proofs.all.TrackDirectoriesDirectories.take_lists.Goals as goal
 
-pub lists_on-requires-clause-works : goal.lists_on-requires-clause-works
-lists_on-requires-clause-works g c =
+pub lists_on-requires-clause-usable : goal.lists_on-requires-clause-usable
+lists_on-requires-clause-usable g c =
     let s = tracked g.F.Medium c.args.self.now.store in
     let ts = c.args.self.now.tables.items in
     let xs = c.as_slice.result.now in
-    let P : TrackTable → Type 0 = λ t. IsDirectory s.rows s.taken t.quota t.used t.files.items in
+    let P : TrackTable → Type 0 = λ t. IsDirectory s.contents s.taken t.quota t.used t.files.items in
     let split = tables_split xs c.common-item.result c.in-len1-up.len_at_least c.common-item.is in
-    All-rest P c.common-item.result (take (length xs - 1) (drop 1 xs)) ts (sym c.as_slice.ensures.value ∙ split) (all_ready s ts c.requires.works)
+    All-rest P c.common-item.result (take (length xs - 1) (drop 1 xs)) ts (sym c.as_slice.ensures.value ∙ split) (all_ready s ts c.requires.usable)
 
-pub read_all-requires-clause-works : goal.read_all-requires-clause-works
-read_all-requires-clause-works g c =
+pub read_all-requires-clause-usable : goal.read_all-requires-clause-usable
+read_all-requires-clause-usable g c =
     let s = tracked g.F.Medium c.args.self.now.store in
     let ts = c.args.self.now.tables.items in
     let xs = c.as_slice.result.now in
     let d = c.common-item.result in
-    let P : TrackTable → Type 0 = λ t. IsDirectory s.rows s.taken t.quota t.used t.files.items in
+    let P : TrackTable → Type 0 = λ t. IsDirectory s.contents s.taken t.quota t.used t.files.items in
     let split = tables_split xs d c.in-len1-up.len_at_least c.common-item.is in
-    let here : P d = All-head P d (take (length xs - 1) (drop 1 xs)) (subst (All P) (sym c.as_slice.ensures.value ∙ split) (all_ready s ts c.requires.works)) in
-    subst (λ (o : Option (List (List ℕ))). IsDirectory o c.lists_on.new.store.tracks.taken.items d.quota d.used d.files.items) (sym c.in_ok-own.ensures.rows)
-    (subst (λ (t : Tracks). IsDirectory s.rows t.taken.items d.quota d.used d.files.items) (sym c.in_ok-own.ensures.tracks) here)
+    let here : P d = All-head P d (take (length xs - 1) (drop 1 xs)) (subst (All P) (sym c.as_slice.ensures.value ∙ split) (all_ready s ts c.requires.usable)) in
+    subst (λ (o : Option (List (List ℕ))). IsDirectory o c.lists_on.new.store.tracks.taken.items d.quota d.used d.files.items) (sym c.in_ok-own.ensures.contents)
+    (subst (λ (t : Tracks). IsDirectory s.contents t.taken.items d.quota d.used d.files.items) (sym c.in_ok-own.ensures.tracks) here)
 
 pub returns-clause-lists : goal.returns-clause-lists
 returns-clause-lists g c = λ told.
@@ -44,9 +44,9 @@ returns-clause-lists g c = λ told.
     let d = c.common-item.result in
     let own = take (length xs - 1) (drop 1 xs) in
     let split = sym c.as_slice.ensures.value ∙ tables_split xs d c.in-len1-up.len_at_least c.common-item.is in
-    lists_seen s.rows own c.in_ok-own.own.items told c.in_ok-own.ensures.files
-    ∙ lists_are (λ (t : TrackTable). seen s.rows t.files.items) d own
-    ∙ ap (λ (ds : List TrackTable). lists_from 1 (length ds - 1) (files_at s.rows ds)) (sym split)
+    lists_seen s.contents own c.in_ok-own.own.items told c.in_ok-own.ensures.files
+    ∙ lists_are (λ (t : TrackTable). seen s.contents t.files.items) d own
+    ∙ ap (λ (ds : List TrackTable). lists_from 1 (length ds - 1) (files_at s.contents ds)) (sym split)
 
 pub returns-clause-common : goal.returns-clause-common
 returns-clause-common g c = λ told.
@@ -55,8 +55,8 @@ returns-clause-common g c = λ told.
     let d = c.common-item.result in
     let y = c.in_ok-common.common in
     let split = sym c.as_slice.ensures.value ∙ tables_split xs d c.in-len1-up.len_at_least c.common-item.is in
-    let read : WhereTold s.rows (λ rows. y ≡ files_in rows d) = subst (λ (o : Option (List (List ℕ))). WhereTold o (λ rows. y ≡ files_in rows d)) c.in_ok-own.ensures.rows c.in_ok-common.ensures.files in
-    list_seen s.rows d y told read ∙ ap (λ (ds : List TrackTable). files_at s.rows ds 0) (sym split)
+    let read : WhereTold s.contents (λ contents. y ≡ files_in contents d) = subst (λ (o : Option (List (List ℕ))). WhereTold o (λ contents. y ≡ files_in contents d)) c.in_ok-own.ensures.contents c.in_ok-common.ensures.files in
+    list_seen s.contents d y told read ∙ ap (λ (ds : List TrackTable). files_at s.contents ds 0) (sym split)
 
 pub returns-clause-lies : goal.returns-clause-lies
 returns-clause-lies g c =
@@ -67,6 +67,6 @@ returns-clause-lies g c =
     let y = c.in_ok-common.common in
     let own = take (length xs - 1) (drop 1 xs) in
     let split = sym c.as_slice.ensures.value ∙ tables_split xs d c.in-len1-up.len_at_least c.common-item.is in
-    let read : WhereTold s.rows (λ rows. y ≡ files_in rows d) = subst (λ (o : Option (List (List ℕ))). WhereTold o (λ rows. y ≡ files_in rows d)) c.in_ok-own.ensures.rows c.in_ok-common.ensures.files in
-    subst (λ (o : Option (List (List ℕ))). WhereTold o (λ rows. LieOn rows c.in_ok-own.own.items y)) (sym (c.in_ok-common.ensures.rows ∙ c.in_ok-own.ensures.rows))
-    (lists_lie s.rows s.taken d own (subst (AreDirectories s.rows s.taken) split c.requires.works.all) c.in_ok-own.own.items y c.in_ok-own.ensures.files read)
+    let read : WhereTold s.contents (λ contents. y ≡ files_in contents d) = subst (λ (o : Option (List (List ℕ))). WhereTold o (λ contents. y ≡ files_in contents d)) c.in_ok-own.ensures.contents c.in_ok-common.ensures.files in
+    subst (λ (o : Option (List (List ℕ))). WhereTold o (λ contents. LieOn contents c.in_ok-own.own.items y)) (sym (c.in_ok-common.ensures.contents ∙ c.in_ok-own.ensures.contents))
+    (lists_lie s.contents s.taken d own (subst (AreDirectories s.contents s.taken) split c.requires.usable.all) c.in_ok-own.own.items y c.in_ok-own.ensures.files read)

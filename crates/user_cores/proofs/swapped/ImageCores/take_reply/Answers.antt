@@ -1,7 +1,7 @@
 use Rattle.std.proofs.Common.{◌≡◌, ◌≤◌, ◌*◌, ℕ, ◌∙◌, ap, subst, drop}
 use Rattle.image_map.specs.State.{size}
 use Rattle.image_map.specs.Image.{state}
-use Rattle.user_cores.proofs.Works.{works_in}
+use Rattle.user_cores.proofs.Usable.{works_in}
 use Rattle.user_cores.proofs.swapped.ImageCores.take_reply.Goals as goal
 
 pub returns-clause-worked : goal.returns-clause-worked

@@ -1,6 +1,6 @@
 use Rattle.std.proofs.Common.{◌≡◌, ◌∙◌, ℕ, List, [], Ok, Some, sym, ap, subst}
 use Rattle.std.specs.declared.result.Result.{Result}
-use Rattle.machine_model.specs.Machine.{table}
+use Rattle.machine_model.specs.Machine.{step_of}
 use Rattle.machine_model.specs.Step as machine
 use Rattle.machine_model.specs.Step.{entry}
 use Rattle.program_model.specs.declared.Call.{Call}
@@ -16,7 +16,7 @@ use Rattle.user_session.proofs.session.Session.entry_replied.Goals as goal
 pub returns-clause-step : goal.returns-clause-step
 returns-clause-step g c = λ op fs asks.
     let core = g.M.MemoryPort.words c.args.core.now in
-    let found : table c.args.self.now.inner.regs core ≡ entry c.in-Entry.name = ap (λ (u : User). table u.inner.regs core) (sym c.self.view_is) ∙ sym c.in-Entry.ensures.table in
+    let found : step_of c.args.self.now.inner.regs core ≡ entry c.in-Entry.name = ap (λ (u : User). step_of u.inner.regs core) (sym c.self.view_is) ∙ sym c.in-Entry.ensures.step_of in
     let call : call_of c.args.self.now.inner.regs core c.in-Entry.name ≡ Ok c.in-Ok.call =
     ap (λ (u : User). call_of u.inner.regs core c.in-Entry.name) (sym c.self.view_is)
     ∙ ap (λ (ws : List ℕ). call_of c.self.inside.regs ws c.in-Entry.name) (sym c.in-Entry.ensures.stays.1) ∙ sym c.in-Ok.ensures.value in
@@ -24,7 +24,7 @@ returns-clause-step g c = λ op fs asks.
     ap (λ (x : Result Call EntryFault). entry_asks x core) (sym call) ∙ ap (λ (s : machine.Step). step_asks s (in_store (stored core []) c.args.self.now).inner) (sym found) ∙ asks in
     let row = subst (λ (ws : List ℕ). CallTook c.in-Ok.call c.args.reply.now c.call_replied.result.ending c.call_replied.result.clock c.args.self.now c.call_replied.new.self (stored ws fs) (stored (g.M.MemoryPort.words c.call_replied.new.core) fs)) c.in-Entry.ensures.stays.1 (c.call_replied.ensures.row fs) in
     entry_took c.args.now c.args.reply.now c.args.self.now c.call_replied.new.self (stored core fs) (stored (g.M.MemoryPort.words c.call_replied.new.core) fs) c.in-Entry.name (Ok c.in-Ok.call) op c.call_replied.result
-    c.requires.works c.requires.filled found call c.requires.on (ap (λ (u : User). u.given) (sym c.self.view_is)) (makes, row)
+    c.requires.works c.requires.filled found call c.requires.on (ap (λ (u : User). u.fed) (sym c.self.view_is)) (makes, row)
 
 pub returns-clause-keeps : goal.returns-clause-keeps
 returns-clause-keeps g c = g.met.M.MemoryPort.goes_on _ _ _ c.in-Entry.ensures.keeps c.call_replied.ensures.keeps

@@ -6,7 +6,7 @@ use Rattle.user_session.proofs.session.Session.obey.Goals as goal
 pub returns-in_ok-say_why-in-BadArguments-clause-row : goal.returns-in_ok-say_why-in-BadArguments-clause-row
 returns-in_ok-say_why-in-BadArguments-clause-row g c =
     let are = g.met.P.FilePort.is_known c.args.files.now c.requires.port in
-    rw c.in-BadArguments.is (over_these _ _ _ _ are are (refl, c.in_ok-say_why-in-BadArguments.ensures.ok, recut_same _ _ c.requires.size, refl, refl, refl))
+    rw c.in-BadArguments.is (over_these _ _ _ _ are are (refl, c.in_ok-say_why-in-BadArguments.ensures.ok, recut_same _ _ c.requires.size, refl, refl, refl, refl))
 
 pub returns-in_ok-start-in-Start-clause-row : goal.returns-in_ok-start-in-Start-clause-row
 returns-in_ok-start-in-Start-clause-row g c =

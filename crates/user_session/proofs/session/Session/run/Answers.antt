@@ -1,6 +1,6 @@
 use Rattle.std.proofs.Common.{◌≡◌, ◌∙◌, ◌*◌, ◌<◌, ◌-◌, ◌^◌, [], length, sym, ap, subst}
 use Rattle.std.specs.Prelude.{IfOk, OnErr}
-use Rattle.machine_model.specs.Machine.{table}
+use Rattle.machine_model.specs.Machine.{step_of}
 use Rattle.user_model.specs.Inner.{Stored}
 use Rattle.user_model.specs.Session.{works_in}
 use Rattle.user_model.specs.User.{User}
@@ -19,7 +19,7 @@ pub enter-requires-clause-filled : goal.enter-requires-clause-filled
 enter-requires-clause-filled g c = let e = at_entry _ _ _ _ _ _ _ c.in-Entry.is (c.in_ok-step.ensures.does []) in ap (λ (u : User). u.inner.fill) e.same ∙ c.requires.filled
 
 pub enter-requires-clause-at : goal.enter-requires-clause-at
-enter-requires-clause-at g c = let e = at_entry _ _ _ _ _ _ _ c.in-Entry.is (c.in_ok-step.ensures.does []) in (λ j. table (e.same j).inner.regs (e.store j).core) ∙ e.at
+enter-requires-clause-at g c = let e = at_entry _ _ _ _ _ _ _ c.in-Entry.is (c.in_ok-step.ensures.does []) in (λ j. step_of (e.same j).inner.regs (e.store j).core) ∙ e.at
 
 pub enter-requires-clause-size : goal.enter-requires-clause-size
 enter-requires-clause-size g c =

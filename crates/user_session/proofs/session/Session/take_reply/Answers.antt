@@ -1,5 +1,5 @@
 use Rattle.std.proofs.Common.{◌≡◌, ◌∙◌, false, [], None, Some, sym, ap}
-use Rattle.machine_model.specs.Machine.{table}
+use Rattle.machine_model.specs.Machine.{step_of}
 use Rattle.user_model.specs.declared.Command.{Command}
 use Rattle.user_model.specs.Commands.{command_asks}
 use Rattle.user_model.specs.Session.{works_in}
@@ -20,14 +20,14 @@ pub entry_replied-requires-clause-asks : goal.entry_replied-requires-clause-asks
 entry_replied-requires-clause-asks g c =
     let core = g.M.MemoryPort.words c.args.core.now in (
       c.requires.asks.0,
-      asks_anywhere (table c.args.self.now.inner.regs core) core [] c.requires.asks.1.had c.args.self.now
+      asks_anywhere (step_of c.args.self.now.inner.regs core) core [] c.requires.asks.1.had c.args.self.now
           ∙ (asked_filled (in_store (stored core c.requires.asks.1.had) c.args.self.now) c.requires.asks.0 (sym c.works.ensures ∙ c.if-works.true) c.requires.asks.1.makes).1,
     )
 
 pub returns-then-works-clause-step : goal.returns-then-works-clause-step
 returns-then-works-clause-step g c = λ op asks.
     let core = g.M.MemoryPort.words c.args.core.now in
-    let is = asks_anywhere (table c.args.self.now.inner.regs core) core [] asks.had c.args.self.now
+    let is = asks_anywhere (step_of c.args.self.now.inner.regs core) core [] asks.had c.args.self.now
     ∙ (asked_filled (in_store (stored core asks.had) c.args.self.now) op (sym c.works.ensures ∙ c.if-works.true) asks.makes).1 in
     record { had = asks.had; has = asks.had; was = asks.was; now = asks.was; does = c.entry_replied.ensures.step op asks.had is }
 
@@ -53,6 +53,6 @@ returns-clause-step g c = λ op asks.
       has = row.0;
       was = asks.was;
       now = row.1;
-      does = command_took c.args.now c.args.reply.now c.args.self.now c.copy_replied.new.self (stored core asks.had) (stored core row.0) c.in-Some.line c.command_of.result op s idle asked.0 (sym c.in-Some.ensures) (sym c.command_of.ensures) (asked_on p asks.can) (ap (λ (u : User). u.given) (sym c.self.view_is)) (makes, row.2);
+      does = command_took c.args.now c.args.reply.now c.args.self.now c.copy_replied.new.self (stored core asks.had) (stored core row.0) c.in-Some.line c.command_of.result op s idle asked.0 (sym c.in-Some.ensures) (sym c.command_of.ensures) (asked_on p asks.can) (ap (λ (u : User). u.fed) (sym c.self.view_is)) (makes, row.2);
     })
     (c.copy_replied.ensures.row asks.had asks.was)

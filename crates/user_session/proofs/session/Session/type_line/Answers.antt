@@ -22,7 +22,7 @@ returns-in-Ok-clause-row g c =
     let is : known_of tells told ≡ Ok (g.P.FilePort.files c.append.new.self) =
     ap (λ (q : ℕ). known_of tells (appended c.args.name (words_of_line 14 c.args.line) q files)) (sym c.requires.quota)
     ∙ ap (λ (ws : List ℕ). known_of tells (appended c.args.name ws quota files)) (sym c.line_words.ensures) ∙ c.in-Ok.ensures.left in
-    over_done tells core core files _ told _ are is (λ has done. rw (none, done) (refl, search rules, recut_same _ _ c.requires.size, refl, refl, refl))
+    over_done tells core core files _ told _ are is (λ has done. rw (none, done) (refl, search rules, recut_same _ _ c.requires.size, refl, refl, refl, refl))
 
 pub returns-in-Err-Refused-clause-row : goal.returns-in-Err-Refused-clause-row
 returns-in-Err-Refused-clause-row g c =
@@ -36,4 +36,4 @@ returns-in-Err-Refused-clause-row g c =
     let refused : appended c.args.name (words_of_line 14 c.args.line) c.args.self.now.inner.account.tracks files ≡ Err c.in-Err-Refused.refusal =
     ap (λ (q : ℕ). appended c.args.name (words_of_line 14 c.args.line) q files) (sym c.requires.quota)
     ∙ ap (λ (ws : List ℕ). appended c.args.name ws quota files) (sym c.line_words.ensures) ∙ change.0 in
-    over_refused tells core core files _ _ are change.1 (rw (none, refused) (refl, search rules, recut_same _ _ c.requires.size, refl, refl, refl))
+    over_refused tells core core files _ _ are change.1 (rw (none, refused) (refl, search rules, recut_same _ _ c.requires.size, refl, refl, refl, refl))

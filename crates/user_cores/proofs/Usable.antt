@@ -3,7 +3,7 @@ use Rattle.std.proofs.Common.{◌≡◌, ℕ, ◌*◌, ◌≤◌, List, true, le
 use Rattle.plan_model.specs.Loads.{is_loaded}
 use Rattle.image_map.specs.State.{ImageState, size, places_in}
 use Rattle.user_cores.specs.Cores.{WorksIn}
-use Rattle.user_cores.specs.Works.{cores_in}
+use Rattle.user_cores.specs.Usable.{cores_in}
 use Rattle.user_cores.proofs.Images.{words_resident, words_stay}
 use Rattle.std.proofs.lemmas.List.{length-take-le}
 
@@ -13,15 +13,15 @@ pub works_in : (u : ℕ) (s : ImageState) (words : List ℕ) → size s u ≤ 12
 works_in u s words most is len behind =
     record {
       rest = record {
-        others = λ v some them. words_stay s.words words s.drum.rows s.owners s.slots s.sizes u v is behind them;
+        others = λ v some them. words_stay s.words words s.drum.contents s.owners s.slots s.sizes u v is behind them;
         tells = refl;
         quotas = refl;
         calls = refl;
         faults = refl;
       };
       len = length-take-le (256 * size s u) words (omega (arith, len, most));
-      was = words_resident s.words s.drum.rows s.owners s.slots s.sizes u is;
-      mine = words_resident words s.drum.rows s.owners s.slots s.sizes u is;
+      was = words_resident s.words s.drum.contents s.owners s.slots s.sizes u is;
+      mine = words_resident words s.drum.contents s.owners s.slots s.sizes u is;
       sizes = refl;
       places = refl;
     }

@@ -17,28 +17,28 @@ use Rattle.file_tracks.proofs.Replaced.{Swaps, bit_le}
 use Rattle.file_tracks.proofs.Tables.{files_set, occurs_at, occurs_two}
 
 -- only tracks of the changed file have other words
-module _ (contents rows' : List (List ℕ)) (taken taken' : List Bool) (fs : List Filed) (i : ℕ) (d g : Filed)
+module _ (contents contents' : List (List ℕ)) (taken taken' : List Bool) (fs : List Filed) (i : ℕ) (d g : Filed)
     (inside : i < length fs) (once : (t : ℕ) → occurs t fs ≤ bit taken t)
     (swaps : Swaps taken taken' (get_or fs i d).tracks.items g.tracks.items)
-    (same : (t : ℕ) → count_in t g.tracks.items ≡ 0 → record_at rows' t ≡ record_at contents t) where
+    (same : (t : ℕ) → count_in t g.tracks.items ≡ 0 → record_at contents' t ≡ record_at contents t) where
   at_most : (t : ℕ) → occurs t fs ≤ 1
   at_most t = let a = once t in let b = bit_le taken t in omega (arith, a, b)
 
   not_new : (t : ℕ) → 1 ≤ occurs t fs → count_in t (get_or fs i d).tracks.items ≡ 0 → count_in t g.tracks.items ≡ 0
   not_new t some none = let a = once t in let b = bit_le taken t in let c = bit_le taken' t in let e = swaps.bits t in omega (arith, a, b, c, e, some, none)
 
-  pub changed_elsewhere : (others : ℕ → ℕ) → ((t : ℕ) → others t + occurs t fs ≡ bit taken t) → (t : ℕ) → 1 ≤ others t → record_at rows' t ≡ record_at contents t
+  pub changed_elsewhere : (others : ℕ → ℕ) → ((t : ℕ) → others t + occurs t fs ≡ bit taken t) → (t : ℕ) → 1 ≤ others t → record_at contents' t ≡ record_at contents t
   changed_elsewhere others beside t some =
       same t (let a = beside t in let b = bit_le taken t in let c = bit_le taken' t in let e = swaps.bits t in let o = occurs_at t fs i d inside in omega (arith, a, b, c, e, o, some))
 
-  pub changed_whole : All (IsWhole contents) fs → IsWhole rows' g → All (IsWhole rows') (set fs i g)
+  pub changed_whole : All (IsWhole contents) fs → IsWhole contents' g → All (IsWhole contents') (set fs i g)
   changed_whole all here =
-      All-from_get_or (IsWhole rows') (set fs i g) d (λ j low. elim (cases_eq j i) [
-        | inl is ↦ subst (λ (f : Filed). IsWhole rows' f) (sym (ap (λ (n : ℕ). get_or (set fs i g) n d) is ∙ get_or-set_same fs i g d inside)) here
+      All-from_get_or (IsWhole contents') (set fs i g) d (λ j low. elim (cases_eq j i) [
+        | inl is ↦ subst (λ (f : Filed). IsWhole contents' f) (sym (ap (λ (n : ℕ). get_or (set fs i g) n d) is ∙ get_or-set_same fs i g d inside)) here
         | inr other ↦
             let within : j < length fs = let l = length-set fs i g in omega (arith, l, low) in
             let was : IsWhole contents (get_or fs j d) = All-get_or (IsWhole contents) fs j d within all in
-            subst (λ (f : Filed). IsWhole rows' f) (sym (get_or-set_other fs i j g d other))
+            subst (λ (f : Filed). IsWhole contents' f) (sym (get_or-set_other fs i j g d other))
             (λ t some.
             let two = occurs_two t fs i j d inside within other in
             let most = at_most t in
@@ -47,10 +47,10 @@ module _ (contents rows' : List (List ℕ)) (taken taken' : List Bool) (fs : Lis
       ])
 
   pub changed_file : (name : NamePair) (words : List ℕ) → NamesDiffer (files_on contents fs) → is_named name (body_on contents (get_or fs i d)) ≡ true
-      → g.name ≡ (get_or fs i d).name → g.mode ≡ (get_or fs i d).mode → content rows' g ≡ words
-      → files_on rows' (set fs i g) ≡ set (files_on contents fs) i (record (body_on contents (get_or fs i d)) { words = words })
+      → g.name ≡ (get_or fs i d).name → g.mode ≡ (get_or fs i d).mode → content contents' g ≡ words
+      → files_on contents' (set fs i g) ≡ set (files_on contents fs) i (record (body_on contents (get_or fs i d)) { words = words })
   changed_file name words differ named same_name same_mode is =
-      files_set contents rows' fs i g d inside at_most (λ t some none. same t (not_new t some none))
+      files_set contents contents' fs i g d inside at_most (λ t some none. same t (not_new t some none))
       ∙ ap (set (files_on contents fs) i) (λ j. record { name = same_name j; mode = same_mode j; words = is j })
 
 -- tracks that stand in a part of a list stand in the list

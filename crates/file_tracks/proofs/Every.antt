@@ -79,11 +79,11 @@ module _ (contents : Option (List (List ℕ))) (taken : List Bool) (ds : List Tr
   pub beside : StandBeside elsewhere taken one.files.items
   beside t = let a = total_at t ds d e low in let b = all.once t in omega (arith, a, b)
 
-  module _ (rows' : Option (List (List ℕ))) (taken' : List Bool) (g : TrackTable)
-      (new : IsDirectory rows' taken' g.quota g.used g.files.items) (leaves : LeavesOthers contents rows' taken taken' one.files.items g.files.items elsewhere)
-      (told : contents ≡ None → rows' ≡ None)
+  module _ (contents' : Option (List (List ℕ))) (taken' : List Bool) (g : TrackTable)
+      (new : IsDirectory contents' taken' g.quota g.used g.files.items) (leaves : LeavesOthers contents contents' taken taken' one.files.items g.files.items elsewhere)
+      (told : contents ≡ None → contents' ≡ None)
       (quota : g.quota ≡ one.quota) (many : length taken' ≡ length taken) (counts : count_taken taken' + one.used ≡ count_taken taken + g.used) where
-    was_told : (now : List (List ℕ)) → rows' ≡ Some now → (was : List (List ℕ)) × (contents ≡ Some was)
+    was_told : (now : List (List ℕ)) → contents' ≡ Some now → (was : List (List ℕ)) × (contents ≡ Some was)
     was_told now q = by_rows contents refl
       where
         by_rows : (o : Option (List (List ℕ))) → contents ≡ o → (was : List (List ℕ)) × (contents ≡ Some was)
@@ -94,17 +94,17 @@ module _ (contents : Option (List (List ℕ))) (taken : List Bool) (ds : List Tr
     other_track : (t j : ℕ) → j < length ds → j ≢ d → 1 ≤ occurs t (get_or ds j e).files.items → 1 ≤ elsewhere t
     other_track t j k n some = let a = total_two t ds d j e low k n in omega (arith, a, some)
 
-    kept_row : (was now : List (List ℕ)) → contents ≡ Some was → rows' ≡ Some now → (t j : ℕ) → j < length ds → j ≢ d → 1 ≤ occurs t (get_or ds j e).files.items → record_at now t ≡ record_at was t
+    kept_row : (was now : List (List ℕ)) → contents ≡ Some was → contents' ≡ Some now → (t j : ℕ) → j < length ds → j ≢ d → 1 ≤ occurs t (get_or ds j e).files.items → record_at now t ≡ record_at was t
     kept_row was now p q t j k n some =
         subst (λ (x : Option (List (List ℕ))). WhereTold x (λ now. (t : ℕ) → 1 ≤ elsewhere t → record_at now t ≡ record_at was t)) q
-        (subst (λ (x : Option (List (List ℕ))). WhereTold x (λ was. WhereTold rows' (λ now. (t : ℕ) → 1 ≤ elsewhere t → record_at now t ≡ record_at was t))) p leaves.held)
+        (subst (λ (x : Option (List (List ℕ))). WhereTold x (λ was. WhereTold contents' (λ now. (t : ℕ) → 1 ≤ elsewhere t → record_at now t ≡ record_at was t))) p leaves.held)
         t (other_track t j k n some)
 
     -- no other directory has changed
-    pub others_same : (was now : List (List ℕ)) → contents ≡ Some was → rows' ≡ Some now → (j : ℕ) → j < length ds → j ≢ d → files_on now (get_or ds j e).files.items ≡ files_on was (get_or ds j e).files.items
+    pub others_same : (was now : List (List ℕ)) → contents ≡ Some was → contents' ≡ Some now → (j : ℕ) → j < length ds → j ≢ d → files_on now (get_or ds j e).files.items ≡ files_on was (get_or ds j e).files.items
     others_same was now p q j k n = files_same was now (get_or ds j e).files.items (λ t some. kept_row was now p q t j k n some)
 
-    whole_there : (j : ℕ) → j < length ds → j ≢ d → (x : Option (List (List ℕ))) → rows' ≡ x → WhereTold x (λ now. All (IsWhole now) (get_or ds j e).files.items)
+    whole_there : (j : ℕ) → j < length ds → j ≢ d → (x : Option (List (List ℕ))) → contents' ≡ x → WhereTold x (λ now. All (IsWhole now) (get_or ds j e).files.items)
     whole_there j k n None q = tt
     whole_there j k n (Some now) q =
         let w = was_told now q in
@@ -114,24 +114,24 @@ module _ (contents : Option (List (List ℕ))) (taken : List Bool) (ds : List Tr
         at_each : (was : List (List ℕ)) → contents ≡ Some was → (fs : List Filed) → All (IsWhole was) fs → ((t : ℕ) → 1 ≤ occurs t fs → record_at now t ≡ record_at was t) → All (IsWhole now) fs
         at_each was p fs h same = λ i f low t some. ap length (same t (let o = occurs_at t fs i f low in omega (arith, o, some))) ∙ h i f low t some
 
-    pub are_still : AreDirectories rows' taken' (set ds d g)
+    pub are_still : AreDirectories contents' taken' (set ds d g)
     are_still = record {
       once = λ t. (let a = total-set t ds d g e low in let b = leaves.beside t in let c = total_at t ds d e low in omega (arith, a, b, c));
       counted = (let a = used_all-set ds d g e low in let b = all.counted in omega (arith, a, b, counts));
       fits = (let a = quota_all-set ds d g e low in let b = all.fits in omega (arith, a, b, quota, many));
       each = λ j x k. elim (cases_eq j d) [
         | inl same ↦
-            subst (IsOne rows') (sym (ap (λ (n : ℕ). get_or (set ds d g) n x) same ∙ get_or-set_same ds d g x low))
+            subst (IsOne contents') (sym (ap (λ (n : ℕ). get_or (set ds d g) n x) same ∙ get_or-set_same ds d g x low))
             (record { few = new.few; counted = new.counted; tracked = new.tracked; modes = new.modes; differ = new.differ; whole = new.whole })
         | inr other ↦
             let within : j < length ds = (let l = length-set ds d g in omega (arith, l, k)) in
             let was = all.each j e within in
-            subst (IsOne rows') (sym (get_or-set_other ds d j g x other ∙ get_or_default ds j x e within))
-            (record { few = was.few; counted = was.counted; tracked = was.tracked; modes = was.modes; differ = was.differ; whole = whole_there j within other rows' refl })
+            subst (IsOne contents') (sym (get_or-set_other ds d j g x other ∙ get_or_default ds j x e within))
+            (record { few = was.few; counted = was.counted; tracked = was.tracked; modes = was.modes; differ = was.differ; whole = whole_there j within other contents' refl })
       ];
     }
 
-none_too : (contents rows' : Option (List (List ℕ))) → tells_of rows' ≡ tells_of contents → contents ≡ None → rows' ≡ None
+none_too : (contents contents' : Option (List (List ℕ))) → tells_of contents' ≡ tells_of contents → contents ≡ None → contents' ≡ None
 unfolding tells_of
 none_too contents None t e = refl
 none_too None (Some r) t e = absurd (true≢false t)
@@ -139,13 +139,13 @@ none_too (Some s) (Some r) t e = absurd (let k = e in cc)
 
 -- the same from what a port's calls leave
 module _ (contents : Option (List (List ℕ))) (taken : List Bool) (ds : List TrackTable) (all : AreDirectories contents taken ds) (d : ℕ) (e : TrackTable) (low : d < length ds)
-    (rows' : Option (List (List ℕ))) (taken' : List Bool) (g : TrackTable) (new : IsDirectory rows' taken' g.quota g.used g.files.items)
-    (after : IsAfter contents rows' taken taken' (get_or ds d e) g) (quota : g.quota ≡ (get_or ds d e).quota) where
-  leaves : LeavesOthers contents rows' taken taken' (get_or ds d e).files.items g.files.items (elsewhere contents taken ds all d e low)
+    (contents' : Option (List (List ℕ))) (taken' : List Bool) (g : TrackTable) (new : IsDirectory contents' taken' g.quota g.used g.files.items)
+    (after : IsAfter contents contents' taken taken' (get_or ds d e) g) (quota : g.quota ≡ (get_or ds d e).quota) where
+  leaves : LeavesOthers contents contents' taken taken' (get_or ds d e).files.items g.files.items (elsewhere contents taken ds all d e low)
   leaves = after.others (elsewhere contents taken ds all d e low) (beside contents taken ds all d e low)
 
-  pub all_still : AreDirectories rows' taken' (set ds d g)
-  all_still = are_still contents taken ds all d e low rows' taken' g new leaves (none_too contents rows' after.telling) quota after.many after.counts
+  pub all_still : AreDirectories contents' taken' (set ds d g)
+  all_still = are_still contents taken ds all d e low contents' taken' g new leaves (none_too contents contents' after.telling) quota after.many after.counts
 
-  pub others_stay : (was now : List (List ℕ)) → contents ≡ Some was → rows' ≡ Some now → (j : ℕ) → j < length ds → j ≢ d → files_on now (get_or ds j e).files.items ≡ files_on was (get_or ds j e).files.items
-  others_stay = others_same contents taken ds all d e low rows' taken' g new leaves (none_too contents rows' after.telling) quota after.many after.counts
+  pub others_stay : (was now : List (List ℕ)) → contents ≡ Some was → contents' ≡ Some now → (j : ℕ) → j < length ds → j ≢ d → files_on now (get_or ds j e).files.items ≡ files_on was (get_or ds j e).files.items
+  others_stay = others_same contents taken ds all d e low contents' taken' g new leaves (none_too contents contents' after.telling) quota after.many after.counts

@@ -32,11 +32,11 @@ other_row contents (x ∷ ts) ws t h =
     other_row (slice_set contents x (take 432 ws)) ts (drop 432 ws) t (omega (arith, k, h))
     ∙ get_or-set_other contents x t (take 432 ws) [] (λ e. not_head x t ts h (sym e))
 
-pub joined_other : (contents rows' : List (List ℕ)) (ts : List ℕ) → ((t : ℕ) → 1 ≤ count_in t ts → record_at rows' t ≡ record_at contents t) → joined rows' ts ≡ joined contents ts
-joined_other contents rows' [] h = refl
-joined_other contents rows' (x ∷ ts) h =
+pub joined_other : (contents contents' : List (List ℕ)) (ts : List ℕ) → ((t : ℕ) → 1 ≤ count_in t ts → record_at contents' t ≡ record_at contents t) → joined contents' ts ≡ joined contents ts
+joined_other contents contents' [] h = refl
+joined_other contents contents' (x ∷ ts) h =
     let here = head_here x ts in
-    (λ j. h x (omega (arith, here)) j ++ joined_other contents rows' ts (λ t some. h t (let k = in_rest x t ts in omega (arith, k, some))) j)
+    (λ j. h x (omega (arith, here)) j ++ joined_other contents contents' ts (λ t some. h t (let k = in_rest x t ts in omega (arith, k, some))) j)
 
 pub set_all-length : (contents : List (List ℕ)) (ts ws : List ℕ) → length (set_all contents ts ws) ≡ length contents
 set_all-length contents [] ws = refl

@@ -100,15 +100,15 @@ module _ (o : Option (List (List ℕ))) (taken taken' : List Bool) (quota used n
         → WhereTold o (λ was. WhereTold (with_words o v.items padded) (λ after. put name ws quota (files_on was fs) ≡ Ok (files_on after (set fs i g))))
     done_so None e d w = tt
     done_so (Some contents) e d w =
-        let rows' : List (List ℕ) = set_all contents v.items padded in
-        let whole : All (IsWhole rows') (set fs i g) = subst (λ (p : Option (List (List ℕ))). WhereTold p (λ contents. All (IsWhole contents) (set fs i g))) (with_words_is contents v.items padded) w.whole in
-        let after : files_on rows' (set fs i g) ≡ with_change name (λ (x : FileBody). record x { words = ws }) (files_on contents fs) =
+        let contents' : List (List ℕ) = set_all contents v.items padded in
+        let whole : All (IsWhole contents') (set fs i g) = subst (λ (p : Option (List (List ℕ))). WhereTold p (λ contents. All (IsWhole contents) (set fs i g))) (with_words_is contents v.items padded) w.whole in
+        let after : files_on contents' (set fs i g) ≡ with_change name (λ (x : FileBody). record x { words = ws }) (files_on contents fs) =
         replaced contents taken taken' fs i f g padded low d.once swaps_at (many_le contents e) long name (names_differ contents fs d.differ)
         (is_found name (files_on contents fs) (body_on contents (get_or fs i f)) (found contents f)) (ap (λ (x : Filed). x.name) is) (ap (λ (x : Filed). x.mode) is)
         ∙ ap (λ (zs : List ℕ). with_change name (λ (x : FileBody). record x { words = zs }) (files_on contents fs)) cut in
         subst (λ (p : Option (List (List ℕ))). WhereTold p (λ after. put name ws quota (files_on contents fs) ≡ Ok (files_on after (set fs i g)))) (sym (with_words_is contents v.items padded))
-        (put_done name ws quota (files_on contents fs) (body_on contents f) (found_is contents) not_kept (files_on rows' (set fs i g)) now after
-        (record { count = w.counted ∙ sym (tracks_are rows' (set fs i g) w.tracked whole); most = fits }))
+        (put_done name ws quota (files_on contents fs) (body_on contents f) (found_is contents) not_kept (files_on contents' (set fs i g)) now after
+        (record { count = w.counted ∙ sym (tracks_are contents' (set fs i g) w.tracked whole); most = fits }))
 
     pub put_is_done : WhereTold o (λ was. WhereTold (with_words o v.items padded) (λ after. put name ws quota (files_on was fs) ≡ Ok (files_on after (set fs i g))))
     put_is_done = done_so o reaches h put_works

@@ -42,8 +42,8 @@ module _ (contents : List (List ℕ)) (taken taken' : List Bool) (fs : List File
     (swaps : Swaps taken taken' (get_or fs i d).tracks.items g.tracks.items)
     (many : length taken' ≤ length contents)
     (len : length padded ≡ 432 * length g.tracks.items) where
-  abbrev rows' : List (List ℕ)
-  rows' = set_all contents g.tracks.items padded
+  abbrev contents' : List (List ℕ)
+  contents' = set_all contents g.tracks.items padded
 
   at_most : (t : ℕ) → occurs t fs ≤ 1
   at_most t = let a = once t in let b = bit_le taken t in omega (arith, a, b)
@@ -65,14 +65,14 @@ module _ (contents : List (List ℕ)) (taken taken' : List Bool) (fs : List File
   not_new t some none =
       let a = once t in let b = bit_le taken t in let c = bit_le taken' t in let e = swaps.bits t in omega (arith, a, b, c, e, some, none)
 
-  pub new_words : joined rows' g.tracks.items ≡ padded
+  pub new_words : joined contents' g.tracks.items ≡ padded
   new_words = joined_same contents g.tracks.items padded new_one new_within len
 
-  pub files_are : files_on rows' (set fs i g) ≡ set (files_on contents fs) i (body_on rows' g)
-  files_are = files_set contents rows' fs i g d inside at_most (λ t some none. other_row contents g.tracks.items padded t (not_new t some none))
+  pub files_are : files_on contents' (set fs i g) ≡ set (files_on contents fs) i (body_on contents' g)
+  files_are = files_set contents contents' fs i g d inside at_most (λ t some none. other_row contents g.tracks.items padded t (not_new t some none))
 
   -- tracks that stand elsewhere keep their words
-  pub elsewhere : (others : ℕ → ℕ) → ((t : ℕ) → others t + occurs t fs ≡ bit taken t) → (t : ℕ) → 1 ≤ others t → record_at rows' t ≡ record_at contents t
+  pub elsewhere : (others : ℕ → ℕ) → ((t : ℕ) → others t + occurs t fs ≡ bit taken t) → (t : ℕ) → 1 ≤ others t → record_at contents' t ≡ record_at contents t
   elsewhere others beside t some =
       other_row contents g.tracks.items padded t
       (let a = beside t in let b = bit_le taken t in let c = bit_le taken' t in let e = swaps.bits t in let o = occurs_at t fs i d inside in omega (arith, a, b, c, e, o, some))
@@ -86,7 +86,7 @@ module _ (contents : List (List ℕ)) (taken taken' : List Bool) (fs : List File
   module _ (name : NamePair) (differ : NamesDiffer (files_on contents fs)) (named : is_named name (body_on contents (get_or fs i d)) ≡ true)
       (same_name : g.name ≡ (get_or fs i d).name) (same_mode : g.mode ≡ (get_or fs i d).mode) where
     -- the file's words are the new ones, and no other file has changed
-    pub replaced : files_on rows' (set fs i g) ≡ with_change name (λ f. record f { words = take g.words padded }) (files_on contents fs)
+    pub replaced : files_on contents' (set fs i g) ≡ with_change name (λ f. record f { words = take g.words padded }) (files_on contents fs)
     replaced =
         let at : get_or (files_on contents fs) i (body_on contents d) ≡ body_on contents (get_or fs i d) = get_or-map (body_on contents) fs i d (body_on contents d) inside in
         let here : i < length (files_on contents fs) = let l = length-map fs (body_on contents) in omega (arith, l, inside) in
@@ -96,16 +96,16 @@ module _ (contents : List (List ℕ)) (taken taken' : List Bool) (fs : List File
         ∙ sym (change_at name (λ f. record f { words = take g.words padded }) (files_on contents fs) i (body_on contents d) here differ (ap (is_named name) at ∙ named))
 
   -- every track of a file is whole
-  pub whole_still : All (IsWhole contents) fs → All (IsWhole rows') (set fs i g)
+  pub whole_still : All (IsWhole contents) fs → All (IsWhole contents') (set fs i g)
   whole_still all =
-      All-from_get_or (IsWhole rows') (set fs i g) d (λ j low. elim (cases_eq j i) [
+      All-from_get_or (IsWhole contents') (set fs i g) d (λ j low. elim (cases_eq j i) [
         | inl same ↦
-            subst (λ (f : Filed). IsWhole rows' f) (sym (ap (λ (n : ℕ). get_or (set fs i g) n d) same ∙ get_or-set_same fs i g d inside))
+            subst (λ (f : Filed). IsWhole contents' f) (sym (ap (λ (n : ℕ). get_or (set fs i g) n d) same ∙ get_or-set_same fs i g d inside))
             (λ t some. whole_rows contents g.tracks.items padded new_one new_within len t some)
         | inr other ↦
             let within : j < length fs = let l = length-set fs i g in omega (arith, l, low) in
             let was : IsWhole contents (get_or fs j d) = All-get_or (IsWhole contents) fs j d within all in
-            subst (λ (f : Filed). IsWhole rows' f) (sym (get_or-set_other fs i j g d other))
+            subst (λ (f : Filed). IsWhole contents' f) (sym (get_or-set_other fs i j g d other))
             (λ t some.
             let two = occurs_two t fs i j d inside within other in
             let most = at_most t in

@@ -18,15 +18,15 @@ use Rattle.file_map.proofs.Tracks.{tracks-cons}
 use Rattle.std.proofs.lemmas.List.{length-take-le}
 use Rattle.file_tracks.proofs.Joined.{joined_other, joined-length}
 
-pub content_same : (contents rows' : List (List ℕ)) (f : Filed) → ((t : ℕ) → 1 ≤ count_in t f.tracks.items → record_at rows' t ≡ record_at contents t) → content rows' f ≡ content contents f
-content_same contents rows' f h = ap (take f.words) (joined_other contents rows' f.tracks.items h)
+pub content_same : (contents contents' : List (List ℕ)) (f : Filed) → ((t : ℕ) → 1 ≤ count_in t f.tracks.items → record_at contents' t ≡ record_at contents t) → content contents' f ≡ content contents f
+content_same contents contents' f h = ap (take f.words) (joined_other contents contents' f.tracks.items h)
 
 -- files of which no track changed
-pub files_same : (contents rows' : List (List ℕ)) (fs : List Filed) → ((t : ℕ) → 1 ≤ occurs t fs → record_at rows' t ≡ record_at contents t) → files_on rows' fs ≡ files_on contents fs
-files_same contents rows' [] h = refl
-files_same contents rows' (f ∷ fs) h =
-    (λ j. record { name = f.name; mode = f.mode; words = content_same contents rows' f (λ t some. h t (omega (arith, some))) j }
-    ∷ files_same contents rows' fs (λ t some. h t (omega (arith, some))) j)
+pub files_same : (contents contents' : List (List ℕ)) (fs : List Filed) → ((t : ℕ) → 1 ≤ occurs t fs → record_at contents' t ≡ record_at contents t) → files_on contents' fs ≡ files_on contents fs
+files_same contents contents' [] h = refl
+files_same contents contents' (f ∷ fs) h =
+    (λ j. record { name = f.name; mode = f.mode; words = content_same contents contents' f (λ t some. h t (omega (arith, some))) j }
+    ∷ files_same contents contents' fs (λ t some. h t (omega (arith, some))) j)
 
 pub occurs_at : (t : ℕ) (fs : List Filed) (i : ℕ) (d : Filed) → i < length fs → count_in t (get_or fs i d).tracks.items ≤ occurs t fs
 occurs_at t [] i d h = absurd (omega arith)
@@ -52,19 +52,19 @@ occurs-append t [] gs = omega arith
 occurs-append t (f ∷ fs) gs = let k = occurs-append t fs gs in omega (arith, k)
 
 -- one file has changed, and no track of another
-pub files_set : (contents rows' : List (List ℕ)) (fs : List Filed) (i : ℕ) (g d : Filed) → i < length fs → ((t : ℕ) → occurs t fs ≤ 1)
-    → ((t : ℕ) → 1 ≤ occurs t fs → count_in t (get_or fs i d).tracks.items ≡ 0 → record_at rows' t ≡ record_at contents t)
-    → files_on rows' (set fs i g) ≡ set (files_on contents fs) i (body_on rows' g)
-files_set contents rows' [] i g d h once same = absurd (omega arith)
-files_set contents rows' (f ∷ fs) zero g d h once same =
-    ap (λ (xs : List FileBody). body_on rows' g ∷ xs) (files_same contents rows' fs (λ t some. same t (omega (arith, some)) (let k = once t in omega (arith, k, some))))
-files_set contents rows' (f ∷ fs) (suc i) g d h once same =
+pub files_set : (contents contents' : List (List ℕ)) (fs : List Filed) (i : ℕ) (g d : Filed) → i < length fs → ((t : ℕ) → occurs t fs ≤ 1)
+    → ((t : ℕ) → 1 ≤ occurs t fs → count_in t (get_or fs i d).tracks.items ≡ 0 → record_at contents' t ≡ record_at contents t)
+    → files_on contents' (set fs i g) ≡ set (files_on contents fs) i (body_on contents' g)
+files_set contents contents' [] i g d h once same = absurd (omega arith)
+files_set contents contents' (f ∷ fs) zero g d h once same =
+    ap (λ (xs : List FileBody). body_on contents' g ∷ xs) (files_same contents contents' fs (λ t some. same t (omega (arith, some)) (let k = once t in omega (arith, k, some))))
+files_set contents contents' (f ∷ fs) (suc i) g d h once same =
     let inside : i < length fs = omega arith in
     (λ j. record {
       name = f.name;
       mode = f.mode;
-      words = content_same contents rows' f (λ t some. same t (omega (arith, some)) (let k = once t in let l = occurs_at t fs i d inside in omega (arith, k, l, some))) j;
-    } ∷ files_set contents rows' fs i g d inside (λ t. let k = once t in omega (arith, k)) (λ t some none. same t (omega (arith, some)) none) j)
+      words = content_same contents contents' f (λ t some. same t (omega (arith, some)) (let k = once t in let l = occurs_at t fs i d inside in omega (arith, k, l, some))) j;
+    } ∷ files_set contents contents' fs i g d inside (λ t. let k = once t in omega (arith, k)) (λ t some none. same t (omega (arith, some)) none) j)
 
 -- the file of a name changed, by its place
 

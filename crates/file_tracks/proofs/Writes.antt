@@ -33,8 +33,8 @@ module _ (contents : List (List ℕ)) (ts v ws patch : List ℕ) (w place from t
   abbrev b : List ℕ
   b = take (to - from) (drop from v)
 
-  abbrev rows' : List (List ℕ)
-  rows' = set_all contents b patch
+  abbrev contents' : List (List ℕ)
+  contents' = set_all contents b patch
 
   abbrev c : List ℕ
   c = drop (to - from) (drop from v)
@@ -61,13 +61,13 @@ module _ (contents : List (List ℕ)) (ts v ws patch : List ℕ) (w place from t
   not_in : (t n : ℕ) → count_in t (take from v) + n ≤ 1 → 1 ≤ count_in t (take from v) → n ≡ 0
   not_in t n most some = omega (arith, most, some)
 
-  before_same : joined rows' (take from v) ≡ joined contents (take from v)
-  before_same = joined_other contents rows' (take from v) (λ t some.
+  before_same : joined contents' (take from v) ≡ joined contents (take from v)
+  before_same = joined_other contents contents' (take from v) (λ t some.
       let p = count_split t from v in let q = count_take t (to - from) (drop from v) in let o = once t in
       other_row contents b patch t (omega (arith, p, q, o, some)))
 
-  behind_same : joined rows' c ≡ joined contents c
-  behind_same = joined_other contents rows' c (λ t some.
+  behind_same : joined contents' c ≡ joined contents c
+  behind_same = joined_other contents contents' c (λ t some.
       let p = count_drop t from v in let q = count_split t (to - from) (drop from v) in let o = once t in
       other_row contents b patch t (omega (arith, p, q, o, some)))
 
@@ -80,14 +80,14 @@ module _ (contents : List (List ℕ)) (ts v ws patch : List ℕ) (w place from t
   pub b_long : length b ≡ to - from
   b_long = let p = length-take (to - from) (drop from v) in let q = length-drop from v in let t = to_le in omega (arith, p, q, t)
 
-  here_is : joined rows' b ≡ patch
+  here_is : joined contents' b ≡ patch
   here_is = joined_same contents b patch b_once b_within (long ∙ ap (λ (n : ℕ). 432 * n) (sym b_long))
 
-  parts : joined rows' v ≡ joined contents (take from ts) ++ (patch ++ joined contents c)
+  parts : joined contents' v ≡ joined contents (take from ts) ++ (patch ++ joined contents c)
   parts =
-      ap (joined rows') (sym (take-append-drop from v) ∙ ap (λ (us : List ℕ). take from v ++ us) (sym (take-append-drop (to - from) (drop from v))))
-      ∙ joined-append rows' (take from v) (b ++ c)
-      ∙ (λ j. before_same j ++ joined-append rows' b c j)
+      ap (joined contents') (sym (take-append-drop from v) ∙ ap (λ (us : List ℕ). take from v ++ us) (sym (take-append-drop (to - from) (drop from v))))
+      ∙ joined-append contents' (take from v) (b ++ c)
+      ∙ (λ j. before_same j ++ joined-append contents' b c j)
       ∙ (λ j. joined contents (front_is j) ++ (here_is j ++ behind_same j))
 
   m_long : length m ≡ min to (length ts) - from

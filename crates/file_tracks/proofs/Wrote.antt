@@ -62,8 +62,8 @@ module _ (o : Option (List (List ℕ))) (taken taken' : List Bool) (quota used n
   -- for records that are told
   module _ (contents : List (List ℕ)) (reach : length taken ≤ length contents) (whole : All (IsWhole contents) fs)
       (patch_is : patch ≡ overwritten (place - 432 * from) ws (joined contents (take (min to (length f.tracks.items) - from) (drop from f.tracks.items)) ++ replicate (432 * (to - from) - 432 * length (take (min to (length f.tracks.items) - from) (drop from f.tracks.items))) 0)) where
-    abbrev rows' : List (List ℕ)
-    rows' = set_all contents b patch
+    abbrev contents' : List (List ℕ)
+    contents' = set_all contents b patch
 
     new_within : (t : ℕ) → 1 ≤ count_in t v.items → t < length contents
     new_within t some =
@@ -74,13 +74,13 @@ module _ (o : Option (List (List ℕ))) (taken taken' : List Bool) (quota used n
     whole_f : IsWhole contents f
     whole_f = subst (IsWhole contents) (sym is) (All-get_or (IsWhole contents) fs i f low whole)
 
-    same : (t : ℕ) → count_in t v.items ≡ 0 → record_at rows' t ≡ record_at contents t
+    same : (t : ℕ) → count_in t v.items ≡ 0 → record_at contents' t ≡ record_at contents t
     same t none = other_row contents b patch t (let p = count_take t (to - from) (drop from v.items) in let q = count_drop t from v.items in omega (arith, p, q, none))
 
-    words_are : content rows' g ≡ overwritten place ws (content contents f)
+    words_are : content contents' g ≡ overwritten place ws (content contents f)
     words_are = written_content contents f.tracks.items v.items ws patch f.words place from to whole_f new_one new_within front has new_len below first last long patch_is
 
-    whole_g : IsWhole rows' g
+    whole_g : IsWhole contents' g
     whole_g t some = elim (cases_eq (count_in t b) 0) [
       | inl none ↦
           let p = in_part contents f.tracks.items v.items ws patch f.words place from to whole_f new_one new_within front has new_len below first last long patch_is t in
@@ -93,19 +93,19 @@ module _ (o : Option (List (List ℕ))) (taken taken' : List Bool) (quota used n
           t (omega (arith, there))
     ]
 
-    pub all_whole : All (IsWhole rows') (set fs i g)
-    all_whole = changed_whole contents rows' taken taken' fs i f g low h.once swaps_at same whole whole_g
+    pub all_whole : All (IsWhole contents') (set fs i g)
+    all_whole = changed_whole contents contents' taken taken' fs i f g low h.once swaps_at same whole whole_g
 
-    pub elsewhere_too : (others : ℕ → ℕ) → StandBeside others taken fs → (t : ℕ) → 1 ≤ others t → record_at rows' t ≡ record_at contents t
-    elsewhere_too others beside = changed_elsewhere contents rows' taken taken' fs i f g low h.once swaps_at same others beside
+    pub elsewhere_too : (others : ℕ → ℕ) → StandBeside others taken fs → (t : ℕ) → 1 ≤ others t → record_at contents' t ≡ record_at contents t
+    elsewhere_too others beside = changed_elsewhere contents contents' taken taken' fs i f g low h.once swaps_at same others beside
 
     pub file_is : (name : NamePair) → file_named name (files_on contents fs) ≡ Some (body_on contents (get_or fs i f)) →
-        files_on rows' (set fs i g) ≡ with_change name (λ (x : FileBody). record x { words = overwritten place ws x.words }) (files_on contents fs)
+        files_on contents' (set fs i g) ≡ with_change name (λ (x : FileBody). record x { words = overwritten place ws x.words }) (files_on contents fs)
     file_is name found =
         let named = is_found name (files_on contents fs) (body_on contents (get_or fs i f)) found in
         let at : get_or (files_on contents fs) i (body_on contents f) ≡ body_on contents (get_or fs i f) = get_or-map (body_on contents) fs i f (body_on contents f) low in
         let inside : i < length (files_on contents fs) = let l = length-map fs (body_on contents) in omega (arith, l, low) in
-        changed_file contents rows' taken taken' fs i f g low h.once swaps_at same name (overwritten place ws (content contents f)) (names_differ contents fs h.differ) named (ap (λ (x : Filed). x.name) is) (ap (λ (x : Filed). x.mode) is) words_are
+        changed_file contents contents' taken taken' fs i f g low h.once swaps_at same name (overwritten place ws (content contents f)) (names_differ contents fs h.differ) named (ap (λ (x : Filed). x.name) is) (ap (λ (x : Filed). x.mode) is) words_are
         ∙ ap (λ (x : Filed). set (files_on contents fs) i (record (body_on contents (get_or fs i f)) { words = overwritten place ws (content contents x) })) is
         ∙ ap (λ (x : FileBody). set (files_on contents fs) i (record x { words = overwritten place ws x.words })) (sym at)
         ∙ sym (change_at name (λ (x : FileBody). record x { words = overwritten place ws x.words }) (files_on contents fs) i (body_on contents f) inside (names_differ contents fs h.differ) (ap (is_named name) at ∙ named))

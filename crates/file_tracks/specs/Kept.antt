@@ -16,21 +16,21 @@ pub record IsPort (contents : Option (List (List ℕ))) (count each : ℕ) (take
   pub well : failed ≡ false
 
 -- the disk tells its records as before, as many tracks more are taken as the directory uses more, and what stands elsewhere is left
-pub record IsAfter (contents rows' : Option (List (List ℕ))) (taken taken' : List Bool) (d d' : TrackTable) : Type 0 where
-  pub telling : tells_of rows' ≡ tells_of contents
+pub record IsAfter (contents contents' : Option (List (List ℕ))) (taken taken' : List Bool) (d d' : TrackTable) : Type 0 where
+  pub telling : tells_of contents' ≡ tells_of contents
   pub many : length taken' ≡ length taken
   pub counts : count_taken taken' + d.used ≡ count_taken taken + d'.used
-  pub others : (others : ℕ → ℕ) → StandBeside others taken d.files.items → LeavesOthers contents rows' taken taken' d.files.items d'.files.items others
+  pub others : (others : ℕ → ℕ) → StandBeside others taken d.files.items → LeavesOthers contents contents' taken taken' d.files.items d'.files.items others
 
 -- what calls leave: as long as none has failed at the disk, all tracks elsewhere are as they were
-pub record Goes (contents rows' : Option (List (List ℕ))) (taken taken' : List Bool) (faults faults' : ℕ) (d d' : TrackTable) (failed failed' : Bool) : Type 0 where
+pub record Goes (contents contents' : Option (List (List ℕ))) (taken taken' : List Bool) (faults faults' : ℕ) (d d' : TrackTable) (failed failed' : Bool) : Type 0 where
   pub quota : d'.quota ≡ d.quota
   pub rises : faults ≤ faults'
-  pub after : failed' ≡ false → (failed ≡ false) × IsAfter contents rows' taken taken' d d'
+  pub after : failed' ≡ false → (failed ≡ false) × IsAfter contents contents' taken taken' d d'
 
 -- tracks that stand elsewhere hold what they held
 abbrev pub SameElsewhere : Option (List (List ℕ)) → Option (List (List ℕ)) → (ℕ → ℕ) → Type 0
-SameElsewhere contents rows' others = WhereTold contents (λ was. WhereTold rows' (λ now. (t : ℕ) → 1 ≤ others t → record_at now t ≡ record_at was t))
+SameElsewhere contents contents' others = WhereTold contents (λ was. WhereTold contents' (λ now. (t : ℕ) → 1 ≤ others t → record_at now t ≡ record_at was t))
 
 pub held_still : (contents : Option (List (List ℕ))) (others : ℕ → ℕ) → SameElsewhere contents contents others
 held_still None others = tt

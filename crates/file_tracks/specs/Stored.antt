@@ -66,9 +66,9 @@ abbrev pub StandBeside : (others : ℕ → ℕ) → List Bool → List Filed →
 StandBeside others taken fs = (t : ℕ) → others t + occurs t fs ≡ bit taken t
 
 -- what a call does to tracks elsewhere: they stand beside the files as before, and hold what they held
-pub record LeavesOthers (contents rows' : Option (List (List ℕ))) (taken taken' : List Bool) (fs fs' : List Filed) (others : ℕ → ℕ) : Type 0 where
+pub record LeavesOthers (contents contents' : Option (List (List ℕ))) (taken taken' : List Bool) (fs fs' : List Filed) (others : ℕ → ℕ) : Type 0 where
   pub beside : StandBeside others taken' fs'
-  pub held : WhereTold contents (λ was. WhereTold rows' (λ now. (t : ℕ) → 1 ≤ others t → record_at now t ≡ record_at was t))
+  pub held : WhereTold contents (λ was. WhereTold contents' (λ now. (t : ℕ) → 1 ≤ others t → record_at now t ≡ record_at was t))
 
 -- contents that may be those of a disk: the told ones, where it tells
 abbrev pub MayBe : Option (List (List ℕ)) → List (List ℕ) → Type 0

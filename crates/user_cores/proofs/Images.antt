@@ -28,13 +28,13 @@ whole_one : (n m : ℕ) (image : Option (List (List ℕ))) → AreWhole image �
 whole_one n m None whole = whole
 whole_one n m (Some blocks) whole = resized_whole n m blocks whole
 
-pub whole_resized : (bank bank' : List ℕ) (contents rows' : Option (List (List ℕ))) (owners owners' : List ℕ) (s s' : Slots) (sizes sizes' : List ℕ) (user m : ℕ)
-    → image_in bank' rows' owners' s' sizes' user ≡ resized (size_of sizes user) m (image_in bank contents owners s sizes user)
-    → ((u : ℕ) → 1 ≤ u → u ≢ user → image_in bank' rows' owners' s' sizes' u ≡ image_in bank contents owners s sizes u)
-    → ((u : ℕ) → 1 ≤ u → AreWhole (image_in bank contents owners s sizes u)) → (u : ℕ) → 1 ≤ u → AreWhole (image_in bank' rows' owners' s' sizes' u)
-whole_resized bank bank' contents rows' owners owners' s s' sizes sizes' user m mine others were =
+pub whole_resized : (bank bank' : List ℕ) (contents contents' : Option (List (List ℕ))) (owners owners' : List ℕ) (s s' : Slots) (sizes sizes' : List ℕ) (user m : ℕ)
+    → image_in bank' contents' owners' s' sizes' user ≡ resized (size_of sizes user) m (image_in bank contents owners s sizes user)
+    → ((u : ℕ) → 1 ≤ u → u ≢ user → image_in bank' contents' owners' s' sizes' u ≡ image_in bank contents owners s sizes u)
+    → ((u : ℕ) → 1 ≤ u → AreWhole (image_in bank contents owners s sizes u)) → (u : ℕ) → 1 ≤ u → AreWhole (image_in bank' contents' owners' s' sizes' u)
+whole_resized bank bank' contents contents' owners owners' s s' sizes sizes' user m mine others were =
     let old = λ (u : ℕ). image_in bank contents owners s sizes u in
-    whole_all user (λ u. image_in bank' rows' owners' s' sizes' u) old (λ some. subst AreWhole (sym mine) (whole_one (size_of sizes user) m (old user) (were user some))) others were
+    whole_all user (λ u. image_in bank' contents' owners' s' sizes' u) old (λ some. subst AreWhole (sym mine) (whole_one (size_of sizes user) m (old user) (were user some))) others were
 
 pub words_resized : (bank : List ℕ) (contents : Option (List (List ℕ))) (owners : List ℕ) (s : Slots) (sizes : List ℕ) (u m : ℕ) (new : Option (List (List ℕ)))
     → new ≡ resized (size_of sizes u) m (image_in bank contents owners s sizes u) → AreWhole (image_in bank contents owners s sizes u) → is_some contents ≡ true
@@ -44,13 +44,13 @@ words_resized bank (Some contents) owners s sizes u m new is whole told = ap wor
 
 -- one user's image is cut to nothing and extended
 
-pub whole_replaced : (bank bank' : List ℕ) (contents rows' : Option (List (List ℕ))) (owners owners' : List ℕ) (s s' : Slots) (sizes sizes' : List ℕ) (user m : ℕ)
-    → image_in bank' rows' owners' s' sizes' user ≡ resized 0 m (resized (size_of sizes user) 0 (image_in bank contents owners s sizes user))
-    → ((u : ℕ) → 1 ≤ u → u ≢ user → image_in bank' rows' owners' s' sizes' u ≡ image_in bank contents owners s sizes u)
-    → ((u : ℕ) → 1 ≤ u → AreWhole (image_in bank contents owners s sizes u)) → (u : ℕ) → 1 ≤ u → AreWhole (image_in bank' rows' owners' s' sizes' u)
-whole_replaced bank bank' contents rows' owners owners' s s' sizes sizes' user m mine others were =
+pub whole_replaced : (bank bank' : List ℕ) (contents contents' : Option (List (List ℕ))) (owners owners' : List ℕ) (s s' : Slots) (sizes sizes' : List ℕ) (user m : ℕ)
+    → image_in bank' contents' owners' s' sizes' user ≡ resized 0 m (resized (size_of sizes user) 0 (image_in bank contents owners s sizes user))
+    → ((u : ℕ) → 1 ≤ u → u ≢ user → image_in bank' contents' owners' s' sizes' u ≡ image_in bank contents owners s sizes u)
+    → ((u : ℕ) → 1 ≤ u → AreWhole (image_in bank contents owners s sizes u)) → (u : ℕ) → 1 ≤ u → AreWhole (image_in bank' contents' owners' s' sizes' u)
+whole_replaced bank bank' contents contents' owners owners' s s' sizes sizes' user m mine others were =
     let old = λ (u : ℕ). image_in bank contents owners s sizes u in
-    whole_all user (λ u. image_in bank' rows' owners' s' sizes' u) old (λ some. subst AreWhole (sym mine) (whole_one 0 m (resized (size_of sizes user) 0 (old user)) (whole_one (size_of sizes user) 0 (old user) (were user some)))) others were
+    whole_all user (λ u. image_in bank' contents' owners' s' sizes' u) old (λ some. subst AreWhole (sym mine) (whole_one 0 m (resized (size_of sizes user) 0 (old user)) (whole_one (size_of sizes user) 0 (old user) (were user some)))) others were
 
 pub words_replaced : (bank : List ℕ) (contents : Option (List (List ℕ))) (owners : List ℕ) (s : Slots) (sizes : List ℕ) (u m : ℕ) (new : Option (List (List ℕ)))
     → new ≡ resized 0 m (resized (size_of sizes u) 0 (image_in bank contents owners s sizes u)) → is_some contents ≡ true → words_of new ≡ zeros m

@@ -1,10 +1,9 @@
 //! A case that is done.
-ghost use Rattle.std.specs.Prelude.{◌≡◌, IfOk, length};
+ghost use Rattle.std.specs.Prelude.{IfOk};
 ghost use Rattle.std.specs.List.{All};
 ghost use Rattle.medium.specs.Damages.{IsDamage};
-ghost use Rattle.medium.specs.Medium.{HasShape};
-ghost use Rattle.medium.specs.Rows.{told_rows};
 ghost use Rattle.medium.specs.declared.memory.Damage.{Damage};
+ghost use Rattle.run_cases.specs.Media.{AreWhole, IsLarge};
 
 use crate::case::{Case, Device, Each, Faults};
 use crate::link::link_of;
@@ -125,9 +124,7 @@ fn medium_of(
     records: u16,
     words: u16,
 ) -> Result<MemoryMedium>
-    ensures shape { IfOk result (λ m. HasShape (told_rows m.damages m.contents) (length m.contents)) }
-    ensures count { IfOk result (λ m. length m.contents ≡ records) }
-    ensures words { IfOk result (λ m. m.words_each ≡ words) }
+    ensures { IfOk result (λ m. IsLarge m records words) }
 {
     let damages = damages_of(alloc, faults.damage, words)?;
     let fails = fails_of(alloc, device, &faults.fails, beside)?;
@@ -154,25 +151,66 @@ fn sink_of(alloc: Global, case: &Case, beside: Option<FailingCall>) -> Result<Me
     Ok(sink)
 }
 
+/// The drum and the disk of a case.
+#[derive(Drop)]
+struct Media {
+    drum: MemoryMedium,
+    disk: MemoryMedium,
+}
+
+/// Source and sink of a case.
+#[derive(Drop)]
+struct Streams {
+    input: MemorySource,
+    output: MemorySink,
+}
+
+/// The drum and the disk of a case, each as large as the program's.
+fn media_of(alloc: Global, case: &Case, beside: Option<FailingCall>) -> Result<Media>
+    ensures { IfOk result AreWhole }
+{
+    let drum = medium_of(alloc, Device::Drum, &case.drum, beside, 3840, 256)?;
+    let disk = medium_of(alloc, Device::Disk, &case.disk, beside, 10000, 432)?;
+    Ok(Media { drum, disk })
+}
+
+/// Source and sink of a case.
+fn streams_of(alloc: Global, case: &Case, beside: Option<FailingCall>) -> Result<Streams> {
+    let input = source_of(alloc, case, beside)?;
+    let output = sink_of(alloc, case, beside)?;
+    Ok(Streams { input, output })
+}
+
+/// What comes of these words over streams, media and a link.
+fn outcome_of(
+    alloc: Global,
+    words: &ArgList,
+    streams: &mut Streams,
+    media: &mut Media,
+    link: &mut MemoryLink,
+) -> Outcome
+    requires { AreWhole media.old }
+{
+    run_ctss(
+        alloc,
+        words,
+        &mut streams.input,
+        &mut streams.output,
+        &mut media.drum,
+        &mut media.disk,
+        link,
+    )
+}
+
 /// Does a case, of which one call may fail beside those that it names, and answers the status.
 fn status_of(rt: &HostRuntime, case: &Case, beside: Option<FailingCall>) -> Result<u8> {
     let alloc = rt.alloc();
     let words = words_of(alloc, case)?;
-    let mut drum = medium_of(alloc, Device::Drum, &case.drum, beside, 3840, 256)?;
-    let mut disk = medium_of(alloc, Device::Disk, &case.disk, beside, 10000, 432)?;
+    let mut media = media_of(alloc, case, beside)?;
     let mut link = link_of(alloc, case)?;
-    let mut input = source_of(alloc, case, beside)?;
-    let mut output = sink_of(alloc, case, beside)?;
-    let outcome = run_ctss(
-        alloc,
-        &words,
-        &mut input,
-        &mut output,
-        &mut drum,
-        &mut disk,
-        &mut link,
-    );
-    tell(rt, case, &outcome, output.bytes(), &link)?;
+    let mut streams = streams_of(alloc, case, beside)?;
+    let outcome = outcome_of(alloc, &words, &mut streams, &mut media, &mut link);
+    tell(rt, case, &outcome, streams.output.bytes(), &link)?;
     Ok(outcome.status)
 }
 

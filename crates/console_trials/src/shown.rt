@@ -83,6 +83,25 @@ fn shows<R: LiveCore>(rt: &impl Abort, run: &R, number: u8, from: usize, all: &[
     );
 }
 
+/// Tries what the consoles of a core show of these events.
+fn shows_all<R: LiveCore>(rt: &impl Abort, core: &mut R, events: &[Timed]) -> Result<(), Fail>
+    requires ready { (R.seen core.old).is_ended ≡ false }
+    requires sound { R.Sound core.old }
+{
+    play(core, events)?;
+    // From its beginning, inside a line, at its end, at the end of all, and past it.
+    for from in [0, 3, 10, FIRST.len(), 10_000] {
+        shows(rt, core, 1, from, FIRST);
+    }
+    shows(rt, core, 2, 0, SECOND);
+    shows(rt, core, 3, 0, b"");
+    shows(rt, core, 32, 0, b"");
+    let mut into = [0u8; 12];
+    let count = core.out_since(console(rt, 2), 8, &mut into);
+    assert_eq!(rt; (count, &into), (12, b"\r\nLOGIN REFU"));
+    Ok(())
+}
+
 #[test]
 fn each_console_shows_its_own_in_any_parts(rt: HostRuntime) -> Result<(), Fail> {
     let script = script_of(&rt, rt.alloc(), SCRIPT)?;
@@ -92,17 +111,7 @@ fn each_console_shows_its_own_in_any_parts(rt: HostRuntime) -> Result<(), Fail> 
     let Ok(()) = wrote else {
         panic!(rt; "the disk failed");
     };
-    play(&mut run, script.events.as_slice())?;
-    // From its beginning, inside a line, at its end, at the end of all, and past it.
-    for from in [0, 3, 10, FIRST.len(), 10_000] {
-        shows(&rt, &run, 1, from, FIRST);
-    }
-    shows(&rt, &run, 2, 0, SECOND);
-    shows(&rt, &run, 3, 0, b"");
-    shows(&rt, &run, 32, 0, b"");
-    let mut into = [0u8; 12];
-    let count = run.out_since(console(&rt, 2), 8, &mut into);
-    assert_eq!(rt; (count, &into), (12, b"\r\nLOGIN REFU"));
+    shows_all(&rt, &mut run, script.events.as_slice())?;
     let (supervisor, _) = run.into_parts();
     assert!(rt; !supervisor.ended());
     Ok(())

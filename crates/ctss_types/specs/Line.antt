@@ -1,8 +1,15 @@
 -- claim: a line of text, and how its characters are kept.
-use Rattle.std.specs.Prelude.{◌≡◌, ◌≤◌, ℕ, ◌-◌, true, nat_eq, if◌then◌else◌, List, [], ◌∷◌, ◌++◌, length, replicate, take, drop}
+use Rattle.std.specs.Prelude.{◌≡◌, ◌≤◌, ℕ, ◌-◌, true, nat_eq, if◌then◌else◌, List, [], ◌∷◌, codes, ◌++◌, length, replicate, take, drop}
 use Rattle.std.specs.List.{list_all}
 use Rattle.std.proofs.Common.{sym, ◌∙◌, ap, arith, take-append-drop, length-take}
 use Rattle.bcd48.specs.Characters.{is_character}
+use Rattle.ctss_types.specs.declared.line.LineFault.{LineFault}
+use Rattle.ctss_types.specs.declared.line.LineFault.TheVariants as fault
+
+-- what is said of a text that is no line
+abbrev pub line_fault_text : LineFault → List ℕ
+line_fault_text fault.TooLong = codes "a line has at most 84 characters"
+line_fault_text fault.NotBcd = codes "a character is outside the 48"
 
 -- x before a line from which trailing blanks are gone
 abbrev pub before_rest : ℕ → List ℕ → List ℕ

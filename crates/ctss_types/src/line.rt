@@ -19,6 +19,11 @@ pub enum LineFault {
 }
 
 impl fmt::Display for LineFault {
+    ghost use Rattle.std.specs.Prelude.{Some};
+    ghost use Rattle.ctss_types.specs.Line.{line_fault_text};
+
+    ghost output = { λ fault. Some (line_fault_text fault) };
+
     fn fmt<W: fmt::Write>(&self, f: &mut fmt::Formatter<W>) -> fmt::Result {
         f.write_str(match self {
             LineFault::TooLong => "a line has at most 84 characters",

@@ -1,16 +1,10 @@
--- proof: drum and disk of a case are as large as the program's.
-use Rattle.std.specs.Prelude.{◌≡◌, ℕ, length}
-use Rattle.medium.specs.Medium.{HasShape}
+-- proof: drum and disk of a case serve as the program's do.
+use Rattle.std.specs.Prelude.{length}
+use Rattle.drum_slots.specs.Kept.{Serves}
 use Rattle.medium.specs.Rows.{told_rows}
-use Rattle.medium.specs.declared.memory.MemoryMedium.{MemoryMedium}
+use Rattle.track_store.specs.Tracks.{Serves as Holds}
 use Rattle.run_cases.specs.declared.play.Media.{Media}
 
--- it tells its records, where it does, and has so many of so many words
-pub record IsLarge (m : MemoryMedium) (records words : ℕ) : Type 0 where
-  pub shape : HasShape (told_rows m.damages m.contents) (length m.contents)
-  pub count : length m.contents ≡ records
-  pub each : m.words_each ≡ words
-
 pub record AreWhole (m : Media) : Type 0 where
-  pub drum : IsLarge m.drum 3840 256
-  pub disk : IsLarge m.disk 10000 432
+  pub drum : Serves (told_rows m.drum.damages m.drum.contents) (length m.drum.contents) m.drum.words_each 3840
+  pub disk : Holds (told_rows m.disk.damages m.disk.contents) (length m.disk.contents) m.disk.words_each 10000

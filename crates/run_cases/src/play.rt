@@ -1,9 +1,11 @@
 //! A case that is done.
-ghost use Rattle.std.specs.Prelude.{IfOk};
+ghost use Rattle.std.specs.Prelude.{◌≡◌, IfOk, length};
 ghost use Rattle.std.specs.List.{All};
 ghost use Rattle.medium.specs.Damages.{IsDamage};
+ghost use Rattle.medium.specs.Medium.{HasShape};
+ghost use Rattle.medium.specs.Rows.{told_rows};
 ghost use Rattle.medium.specs.declared.memory.Damage.{Damage};
-ghost use Rattle.run_cases.specs.Media.{AreWhole, IsLarge};
+ghost use Rattle.run_cases.specs.Media.{AreWhole};
 
 use crate::case::{Case, Device, Each, Faults};
 use crate::link::link_of;
@@ -124,7 +126,9 @@ fn medium_of(
     records: u16,
     words: u16,
 ) -> Result<MemoryMedium>
-    ensures { IfOk result (λ m. IsLarge m records words) }
+    ensures shape { IfOk result (λ m. HasShape (told_rows m.damages m.contents) (length m.contents)) }
+    ensures count { IfOk result (λ m. length m.contents ≡ records) }
+    ensures words { IfOk result (λ m. m.words_each ≡ words) }
 {
     let damages = damages_of(alloc, faults.damage, words)?;
     let fails = fails_of(alloc, device, &faults.fails, beside)?;

@@ -114,37 +114,30 @@ fn does<D: Medium>(
     assert!(rt; !image.failed() && 1 <= number && number <= 30);
     assert!(rt; (number as usize) < quotas.len());
     let (user, quota) = (UserNo::of(number), quotas[number as usize]);
-    match action {
+    let went = match action {
         Give(blocks) => {
             assert!(rt; blocks <= quota);
             image.replace_user(user, blocks);
+            true
         }
         Resize(blocks) => {
             assert!(rt; blocks <= quota);
             image.resize_user(user, blocks);
+            true
         }
         Load(dumped, read, fresh) => {
-            let plan = image.load_user(user);
-            assert_eq!(rt; image.failed(), plan.is_err(), "{step:?}");
-            let moved = Plan {
-                dumped,
-                read,
-                fresh,
-            };
-            assert_eq!(rt; plan?, moved, "{step:?}");
+            image.load_user(user)?
+                == Plan {
+                    dumped,
+                    read,
+                    fresh,
+                }
         }
-        Put(address, number) => {
-            assert_eq!(rt;
-                put(rt, image, user, address, word(number)),
-                Ok(()),
-                "{step:?}"
-            );
-        }
-        Get(address, number) => {
-            assert_eq!(rt; get(image, user, address), number.map(word), "{step:?}");
-        }
-        Resident(is) => assert_eq!(rt; image.resident(user), is, "{step:?}"),
-    }
+        Put(address, number) => put(rt, image, user, address, word(number)) == Ok(()),
+        Get(address, number) => get(image, user, address) == number.map(word),
+        Resident(is) => image.resident(user) == is,
+    };
+    assert!(rt; went, "{step:?}");
     Ok(())
 }
 

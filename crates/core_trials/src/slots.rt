@@ -62,25 +62,24 @@ fn does<D: Medium>(
     assert!(rt; 1 <= number && number <= 30 && (number as usize) < quotas.len());
     assert!(rt; block < quotas[number as usize]);
     let user = UserNo::of(number);
-    match action {
+    let went = match action {
         Put(word, ended) => {
-            assert!(rt; !table.has(user, block));
-            let put = table.put_block(user, block, &filled(u64::from(word)));
-            assert_eq!(rt; put, ended, "step {at}: {step:?}");
+            !table.has(user, block)
+                && table.put_block(user, block, &filled(u64::from(word))) == ended
         }
         Get(word, ended) => {
-            assert!(rt; table.has(user, block));
             let mut words = filled(0);
-            let got = table.get_block(user, block, &mut words);
-            assert_eq!(rt; got, ended, "step {at}: {step:?}");
-            assert!(rt;
-                got.is_err() || words == filled(u64::from(word)),
-                "step {at}: {step:?}"
-            );
+            table.has(user, block)
+                && table.get_block(user, block, &mut words) == ended
+                && (ended.is_err() || words == filled(u64::from(word)))
         }
-        Has(kept) => assert_eq!(rt; table.has(user, block), kept, "step {at}: {step:?}"),
-        Free => table.free_from(user, block),
-    }
+        Has(kept) => table.has(user, block) == kept,
+        Free => {
+            table.free_from(user, block);
+            true
+        }
+    };
+    assert!(rt; went, "step {at}: {step:?}");
 }
 
 /// Does these steps.

@@ -51,8 +51,8 @@ fn assembly(rt: &impl Abort, alloc: Global, cards: &[&[u8]]) -> Result<Assembly,
     let hello = FileName::new(name_word(b"HELLO"), name_word(b"FAP"));
     let mut files = Files::new(alloc, 10);
     for card in cards {
-        let line = LineText::from_bytes(card)?;
-        assert!(rt; files.append(hello, &line_words(&line)).is_ok());
+        let words = line_words(&LineText::from_bytes(card)?);
+        assert!(rt; files.append(hello, &words).is_ok());
     }
     Ok(assemble_file(alloc, hello, &mut files)?)
 }

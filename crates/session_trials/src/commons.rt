@@ -70,7 +70,7 @@ fn what_two_users_write_is_read(rt: HostRuntime) -> Result<(), Fail> {
     for (row, (n, place, act, want)) in OF_TWO_USERS.iter().enumerate() {
         let op = operation(rt.alloc(), *n, *place, *act)?;
         let want = reply(rt.alloc(), *want)?;
-        assert_eq!(rt; apply(&op, &mut files)?, want, "row {row}");
+        assert!(rt; apply(&op, &mut files)? == want, "row {row}");
     }
     Ok(())
 }

@@ -60,12 +60,31 @@ fn makes_decks(rt: HostRuntime) -> Result<(), Fail> {
         let cards = cards_of_text(rt.alloc(), text)?;
         assert!(rt; cards.len() < 100);
         let deck = assemble(rt.alloc(), cards.as_slice())?;
-        let mut bits = Vec::new(rt.alloc());
-        for word in deck.words.as_slice() {
-            bits.push(word.bits())?;
-        }
-        assert_eq!(rt; bits.as_slice(), *want);
+        let bits = deck.words.as_slice().iter().map(|word| word.bits());
+        assert!(rt; bits.eq(want.iter().copied()));
     }
+    Ok(())
+}
+
+/// A card of six words.
+const SIX: &[u8] = b"       BCI     6,ABCDEFABCDEFABCDEFABCDEFABCDEFABCDEF\n";
+
+#[test]
+fn a_segment_has_4096_words_at_most(rt: HostRuntime) -> Result<(), Fail> {
+    let mut text = Vec::new(rt.alloc());
+    for _ in 0..683 {
+        text.extend_from_slice(SIX)?;
+    }
+    text.extend_from_slice(b"       END\n")?;
+    let cards = cards_of_text(rt.alloc(), &text)?;
+    assert!(rt; cards.len() < 1000);
+    let deck = assemble(rt.alloc(), cards.as_slice())?;
+    let words = deck.words.as_slice();
+    assert!(rt; words.len() == 4101);
+    assert_eq!(rt;
+        [words[1].bits(), words[4098].bits()],
+        [4096 << 18, (2 << 18) + 4096]
+    );
     Ok(())
 }
 

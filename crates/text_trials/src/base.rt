@@ -33,12 +33,17 @@ static REFUSED: [Refused; 6] = [
     ("no END", b"", 3, ScriptCause::NoEnd),
 ];
 
+const BASE: &[u8] = b"PARAM 1024 100 10 8 20 5\n\
+    USER 1 ALFA SESAME 8 10\n\
+    * AT 0 1 DIAL\n\
+    FILE 1 AT TEXT 1\n\
+    T AT 0 1 DIAL\n\
+    END 7\n";
+
 #[test]
 fn base_scripts_have_no_events(rt: HostRuntime) -> Result<(), Fail> {
-    let mut base = Vec::from_slice(rt.alloc(), HEAD)?;
-    base.extend_from_slice(b"* AT 0 1 DIAL\nFILE 1 AT TEXT 1\nT AT 0 1 DIAL\nEND 7\n")?;
-    let script = read_base(rt.alloc(), &base)?;
-    let same = read_script(rt.alloc(), &base)?;
-    assert_eq!(rt; (script == same, script.end), (true, 7));
+    let script = read_base(rt.alloc(), BASE)?;
+    let same = read_script(rt.alloc(), BASE)?;
+    assert!(rt; script == same && script.end == 7);
     refuses(&rt, rt.alloc(), Reader::Base, HEAD, &REFUSED)
 }

@@ -331,8 +331,8 @@ static BEHIND_HEAD: [Refused; 33] = [
     ),
     (
         "a file twice",
-        b"FILE 1 A B 1\nFILE 1 A B 1\n",
-        4,
+        b"FILE 1 A B 1\nO 7\nFILE 1 A B 1\n",
+        5,
         ScriptCause::NotACard,
     ),
     (

@@ -22,7 +22,7 @@ not_named true t is = false_is is
 not_named false t is = refl
 
 no_read : (k : ℕ) (d : Done) → is_at (names d) k ≡ false → reads_at d k ≡ false
-no_read k (DidOpen failed) is = refl
+no_read k (DidOpen port failed) is = refl
 no_read k (DidAccept answer) is = refl
 no_read k (DidRead id answer bytes) is = is
 no_read k (DidWrite id answer bytes) is = refl
@@ -30,7 +30,7 @@ no_read k (DidClose id) is = refl
 no_read k (DidWait millis failed) is = refl
 
 no_write : (k : ℕ) (d : Done) → is_at (names d) k ≡ false → writes_at d k ≡ false
-no_write k (DidOpen failed) is = refl
+no_write k (DidOpen port failed) is = refl
 no_write k (DidAccept answer) is = refl
 no_write k (DidRead id answer bytes) is = refl
 no_write k (DidWrite id answer bytes) is = is
@@ -51,7 +51,7 @@ not_new k None p is = refl
 not_new k (Some id) p is = ap (λ (t : Bool). if t then nothing_passed else p) is
 
 pub passed_kept : (k : ℕ) (d : Done) (p : Passed) → is_on k d ≡ false → passed_after d k p ≡ p
-passed_kept k (DidOpen failed) p is = refl
+passed_kept k (DidOpen port failed) p is = refl
 passed_kept k (DidAccept answer) p is = not_new k (new_of answer) p is
 passed_kept k (DidRead id answer bytes) p is = ap (λ (t : Bool). if t then record p { taken = p.taken ++ bytes } else p) (not_named (nat_eq k id) false is)
 passed_kept k (DidWrite id answer bytes) p is = ap (λ (t : Bool). if t then record p { sent = p.sent ++ bytes } else p) (not_named (nat_eq k id) false is)

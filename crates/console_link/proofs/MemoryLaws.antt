@@ -194,9 +194,9 @@ close_did s id ours =
 same_all : (d : Done) (c : ConnectionState) (k : ℕ) → ((b : Bool) → open_after d k b ≡ b) → Counted d k (counts_of_connection c) (counts_of_connection c) → passed_after d k (passed_of c) ≡ passed_of c → Changes d k c c
 same_all d c k opens counts passed = record { opens = sym (opens c.opened); counts = counts; passed = sym passed; over = λ h. h }
 
-pub open_did : (s : LinkState) → s.faults < 2 ^ 64 → Did (DidOpen (open_fails s)) (memory_seen s) (memory_seen (after_open s))
-open_did s f = link_did (DidOpen (open_fails s)) s (after_open s)
-    (λ k. same_all (DidOpen (open_fails s)) (connection_at s k) k (λ b. refl) (record { faults = refl; read_waits = refl; write_waits = refl }) refl)
+pub open_did : (s : LinkState) (port : ℕ) → s.faults < 2 ^ 64 → Did (DidOpen port (open_fails s)) (memory_seen s) (memory_seen (after_open port s))
+open_did s port f = link_did (DidOpen port (open_fails s)) s (after_open port s)
+    (λ k. same_all (DidOpen port (open_fails s)) (connection_at s k) k (λ b. refl) (record { faults = refl; read_waits = refl; write_waits = refl }) refl)
     tt (rise (open_fails s) s.faults f) refl refl refl tt
 
 pub wait_did : (s : LinkState) (millis : ℕ) → s.faults < 2 ^ 64 → Did (DidWait millis (wait_fails s)) (memory_seen s) (memory_seen (after_wait millis s))

@@ -51,7 +51,7 @@ pub record LinkSeen : Type 0 where
 
 -- a call with its answer and the bytes that passed
 pub data Done : Type 0 where
-  DidOpen : (failed : Bool) → Done
+  DidOpen : (port : ℕ) → (failed : Bool) → Done
   DidAccept : (answer : Accepted) → Done
   DidRead : (id : ℕ) → (answer : LinkGot) → (bytes : List ℕ) → Done
   DidWrite : (id : ℕ) → (answer : LinkTook) → (bytes : List ℕ) → Done
@@ -59,7 +59,7 @@ pub data Done : Type 0 where
   DidWait : (millis : ℕ) → (failed : Bool) → Done
 
 abbrev pub call_of : Done → CallMade
-call_of (DidOpen failed) = made.Open failed
+call_of (DidOpen port failed) = made.Open port failed
 call_of (DidAccept answer) = made.Accept answer
 call_of (DidRead id answer bytes) = made.Read id answer
 call_of (DidWrite id answer bytes) = made.Write id answer
@@ -97,7 +97,7 @@ new_of accepted.NotYet = None
 new_of accepted.Failed = None
 
 abbrev pub accepts : Done → Option ℕ
-accepts (DidOpen failed) = None
+accepts (DidOpen port failed) = None
 accepts (DidAccept answer) = new_of answer
 accepts (DidRead id answer bytes) = None
 accepts (DidWrite id answer bytes) = None
@@ -110,7 +110,7 @@ if_new (Some id) k x was = if nat_eq k id then x else was
 
 -- which connections are open behind a call
 abbrev pub open_after : Done → ℕ → Bool → Bool
-open_after (DidOpen failed) k was = was
+open_after (DidOpen port failed) k was = was
 open_after (DidAccept answer) k was = if_new (new_of answer) k true was
 open_after (DidRead id answer bytes) k was = was
 open_after (DidWrite id answer bytes) k was = was
@@ -119,7 +119,7 @@ open_after (DidWait millis failed) k was = was
 
 -- what has passed over a connection behind a call
 abbrev pub passed_after : Done → ℕ → Passed → Passed
-passed_after (DidOpen failed) k was = was
+passed_after (DidOpen port failed) k was = was
 passed_after (DidAccept answer) k was = if_new (new_of answer) k nothing_passed was
 passed_after (DidRead id answer bytes) k was = if nat_eq k id then record was { taken = was.taken ++ bytes } else was
 passed_after (DidWrite id answer bytes) k was = if nat_eq k id then record was { sent = was.sent ++ bytes } else was
@@ -171,7 +171,7 @@ accept_waits accepted.Failed = false
 
 -- the connection that a call names, if any
 abbrev pub names : Done → Option ℕ
-names (DidOpen failed) = None
+names (DidOpen port failed) = None
 names (DidAccept answer) = None
 names (DidRead id answer bytes) = Some id
 names (DidWrite id answer bytes) = Some id
@@ -187,7 +187,7 @@ is_none None = true
 is_none (Some id) = false
 
 abbrev pub is_failed : Done → Bool
-is_failed (DidOpen failed) = failed
+is_failed (DidOpen port failed) = failed
 is_failed (DidAccept answer) = accept_failed answer
 is_failed (DidRead id answer bytes) = got_failed answer
 is_failed (DidWrite id answer bytes) = took_failed answer
@@ -195,7 +195,7 @@ is_failed (DidClose id) = false
 is_failed (DidWait millis failed) = failed
 
 abbrev pub reads_at : Done → ℕ → Bool
-reads_at (DidOpen failed) k = false
+reads_at (DidOpen port failed) k = false
 reads_at (DidAccept answer) k = false
 reads_at (DidRead id answer bytes) k = nat_eq k id
 reads_at (DidWrite id answer bytes) k = false
@@ -203,7 +203,7 @@ reads_at (DidClose id) k = false
 reads_at (DidWait millis failed) k = false
 
 abbrev pub writes_at : Done → ℕ → Bool
-writes_at (DidOpen failed) k = false
+writes_at (DidOpen port failed) k = false
 writes_at (DidAccept answer) k = false
 writes_at (DidRead id answer bytes) k = false
 writes_at (DidWrite id answer bytes) k = nat_eq k id
@@ -211,7 +211,7 @@ writes_at (DidClose id) k = false
 writes_at (DidWait millis failed) k = false
 
 abbrev pub is_accept : Done → Bool
-is_accept (DidOpen failed) = false
+is_accept (DidOpen port failed) = false
 is_accept (DidAccept answer) = true
 is_accept (DidRead id answer bytes) = false
 is_accept (DidWrite id answer bytes) = false
@@ -219,7 +219,7 @@ is_accept (DidClose id) = false
 is_accept (DidWait millis failed) = false
 
 abbrev pub not_yet : Done → Bool
-not_yet (DidOpen failed) = false
+not_yet (DidOpen port failed) = false
 not_yet (DidAccept answer) = accept_waits answer
 not_yet (DidRead id answer bytes) = got_waits answer
 not_yet (DidWrite id answer bytes) = took_waits answer
@@ -239,7 +239,7 @@ pub record Counted (d : Done) (k : ℕ) (old new : Counts) : Type 0 where
 
 -- a read that found the end found a connection that is over
 abbrev pub IsOver : Done → LinkSeen → Type 0
-IsOver (DidOpen failed) s = Unit {0}
+IsOver (DidOpen port failed) s = Unit {0}
 IsOver (DidAccept answer) s = Unit {0}
 IsOver (DidRead id (got.Bytes n) bytes) s = Unit {0}
 IsOver (DidRead id got.End bytes) s = s.is_over id ≡ true

@@ -179,8 +179,8 @@ is_listed list call number = list_any (λ (a : LinkAt). same_call a.call call &&
 abbrev pub open_fails : LinkState → Bool
 open_fails s = is_listed s.fails kind.Open (next s.opens)
 
-abbrev pub after_open : LinkState → LinkState
-after_open s = record s { opens = next s.opens; faults = next_if (open_fails s) s.faults; calls = with_call s.calls (made.Open (open_fails s)) }
+abbrev pub after_open : ℕ → LinkState → LinkState
+after_open port s = record s { opens = next s.opens; faults = next_if (open_fails s) s.faults; calls = with_call s.calls (made.Open port (open_fails s)) }
 
 abbrev pub wait_fails : LinkState → Bool
 wait_fails s = is_listed s.fails kind.Wait (next s.rests)

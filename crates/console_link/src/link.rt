@@ -49,7 +49,7 @@ pub enum LinkTook {
 /// A call that was made, with its answer.
 #[derive(Clone, Copy, Debug, PartialEq, Eq)]
 pub enum CallMade {
-    Open { failed: bool },
+    Open { port: u16, failed: bool },
     Accept(Accepted),
     Read(u32, LinkGot),
     Write(u32, LinkTook),
@@ -64,7 +64,7 @@ pub trait Link {
 
     /// Listens at a port.
     fn open(&mut self, port: u16) -> Result<(), Failed>
-        ensures { Did (DidOpen (is_err result)) (seen self.old) (seen self.new) };
+        ensures { Did (DidOpen port (is_err result)) (seen self.old) (seen self.new) };
 
     /// The next connection, where one waits.
     fn accept(&mut self) -> Accepted

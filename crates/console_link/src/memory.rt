@@ -229,12 +229,15 @@ impl Link for MemoryLink {
     #[tactic(auto, using(crate::proofs::MemoryLaws::open_did))]
     fn open(&mut self, port: u16) -> Result<(), Failed>
         ensures answer { is_err result ≡ open_fails self.old }
-        ensures state { self.new ≡ after_open self.old }
-        ensures did { Did (DidOpen (is_err result)) (memory_seen self.old) (memory_seen self.new) }
+        ensures state { self.new ≡ after_open port self.old }
+        ensures did { Did (DidOpen port (is_err result)) (memory_seen self.old) (memory_seen self.new) }
     {
         self.opens = self.opens.saturating_add(1);
         let fails = is_listed(&self.fails, LinkCall::Open, self.opens);
-        self.log.push(CallMade::Open { failed: fails });
+        self.log.push(CallMade::Open {
+            port,
+            failed: fails,
+        });
         if fails {
             self.faults = self.faults.saturating_add(1);
             return Err(Failed);

@@ -223,7 +223,7 @@ silent_by status n old new o is h = subst (λ (k : ℕ). IsSilent k old new o) (
 abbrev pub live_by : ℕ → Script → List Timed → Script
 live_by turns base events = live_script base events (1000 * turns)
 
-comes_live : (port turns : ℕ) (old new : DevicesSeen) (base : Script) (events : List Timed) → IsSpelled (Serve port turns) old.input.left new.input.left base → IsTalk turns events old.link new.link → Comes (Serve port turns) old new (live_by turns base events)
+comes_live : (port turns : ℕ) (old new : DevicesSeen) (base : Script) (events : List Timed) → IsSpelled (Serve port turns) old.input.left new.input.left base → IsTalk port turns events old.link new.link → Comes (Serve port turns) old new (live_by turns base events)
 comes_live port turns old new base events spelled talk = record { base = base; events = events; spelled = spelled; talk = talk; script_is = refl }
 
 done_live : (turns : ℕ) (old new : DevicesSeen) (base : Script) (events : List Timed) (rec run : Record) → IsLiveRecord base turns events old.media new.media rec → run ≡ rec → IsDone (live_by turns base events) old.media new.media run
@@ -231,13 +231,13 @@ done_live turns old new base events rec run live is =
     subst (IsDone (live_by turns base events) old.media new.media) (sym is) (record { record_is = live.record_is; counted = live.counted; lie = live.lie })
 
 pub live_run : (port turns : ℕ) (old new : DevicesSeen) (o : Outcome) (base : Script) (events : List Timed) (rec : Record) → IsSpelled (Serve port turns) old.input.left new.input.left base
-    → IsLiveRecord base turns events old.media new.media rec → IsTalk turns events old.link new.link → o.run ≡ rec → (o.card ≡ 0) × (o.cause ≡ 0)
+    → IsLiveRecord base turns events old.media new.media rec → IsTalk port turns events old.link new.link → o.run ≡ rec → (o.card ≡ 0) × (o.cause ≡ 0)
     → new.output.held ≡ after old.output.held (text_for (Serve port turns) (live_by turns base events) o.run) → IsRun (Serve port turns) old new o
 live_run port turns old new o base events rec spelled live talk is numbers written =
     is_run (Serve port turns) old new o (live_by turns base events) (comes_live port turns old new base events spelled talk) (done_live turns old new base events rec o.run live is) numbers written
 
 pub live_cut : (words : List (List ℕ)) (port turns : ℕ) → mode_of words ≡ Some (Serve port turns) → (old new : DevicesSeen) (o : Outcome) (base : Script) (events : List Timed) (rec : Record) → IsSpelled (Serve port turns) old.input.left new.input.left base
-    → IsLiveRecord base turns events old.media new.media rec → IsTalk turns events old.link new.link → o.run ≡ rec → (o.card ≡ 0) × (o.cause ≡ 0)
+    → IsLiveRecord base turns events old.media new.media rec → IsTalk port turns events old.link new.link → o.run ≡ rec → (o.card ≡ 0) × (o.cause ≡ 0)
     → GrewByProperPrefix old.output.held (text_for (Serve port turns) (live_by turns base events) o.run) new.output.held → IsCutOff words old new o
 live_cut words port turns asked old new o base events rec spelled live talk is numbers part =
     cut_run words (Serve port turns) asked old new o (live_by turns base events) (comes_live port turns old new base events spelled talk) (done_live turns old new base events rec o.run live is) numbers part
@@ -249,7 +249,7 @@ live_stopped words port turns asked old new o base rec spelled silent stopped is
     (record { mode = Serve port turns; asked = asked; stopped = record { base = base; spelled = spelled; stopped = stopped.stopped }; silent = silent; card = refl; cause = refl })
 
 pub live_lost : (words : List (List ℕ)) (port turns : ℕ) → mode_of words ≡ Some (Serve port turns) → (old new : DevicesSeen) (o : Outcome) (base : Script) (rec : Record) → IsSpelled (Serve port turns) old.input.left new.input.left base
-    → new.output.held ≡ old.output.held → LiveIsLost base turns old.media new.media old.link new.link rec → o ≡ failed 6 rec → RunLosesFiles words old new o
+    → new.output.held ≡ old.output.held → LiveIsLost base port turns old.media new.media old.link new.link rec → o ≡ failed 6 rec → RunLosesFiles words old new o
 live_lost words port turns asked old new o base rec spelled silent lost is =
     subst (RunLosesFiles words old new) (sym is)
     (record { mode = Serve port turns; asked = asked; loses = record { base = base; spelled = spelled; lacks = lost.lacks }; silent = silent; card = refl; cause = refl })
@@ -301,12 +301,12 @@ live_told_no_memory left = by_base 8 (λ said. at_8 said) left
 
 -- what was served, by how it ended
 
-module _ (base : Script) (turns : ℕ) (was now : MediaSeen) (a b : LinkSeen) (s : Served) (is_served : IsServed base turns was now a b s) where
-  pub all_served : (events : List Timed) (rec : Record) → s ≡ Done events rec → IsLiveRecord base turns events was now rec × IsTalk turns events a b
-  all_served events rec is = subst (λ (x : Served). IsServed base turns was now a b x) is is_served
+module _ (base : Script) (port turns : ℕ) (was now : MediaSeen) (a b : LinkSeen) (s : Served) (is_served : IsServed base port turns was now a b s) where
+  pub all_served : (events : List Timed) (rec : Record) → s ≡ Done events rec → IsLiveRecord base turns events was now rec × IsTalk port turns events a b
+  all_served events rec is = subst (λ (x : Served). IsServed base port turns was now a b x) is is_served
 
   pub drum_ended : (rec : Record) → s ≡ DrumFailed rec → LiveIsStopped base turns was now rec
-  drum_ended rec is = subst (λ (x : Served). IsServed base turns was now a b x) is is_served
+  drum_ended rec is = subst (λ (x : Served). IsServed base port turns was now a b x) is is_served
 
-  pub disk_ended : (rec : Record) → s ≡ DiskFailed rec → LiveIsLost base turns was now a b rec
-  disk_ended rec is = subst (λ (x : Served). IsServed base turns was now a b x) is is_served
+  pub disk_ended : (rec : Record) → s ≡ DiskFailed rec → LiveIsLost base port turns was now a b rec
+  disk_ended rec is = subst (λ (x : Served). IsServed base port turns was now a b x) is is_served

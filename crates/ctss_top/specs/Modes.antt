@@ -73,12 +73,13 @@ pub record IsMade (n : ℕ) (left rest : Option (List ℕ)) (script : Script) : 
   pub unread : rest ≡ left
   pub made : script ≡ made_script n
 
--- A base script came, people talked over the link for so many turns, and this is the base with the events that they gave.
-pub record IsLive (mode : Mode) (turns : ℕ) (old new : DevicesSeen) (script : Script) : Type 0 where
+-- A base script came, people talked over the link at this port for so many turns, and this is the base with the events that they
+-- gave.
+pub record IsLive (mode : Mode) (port turns : ℕ) (old new : DevicesSeen) (script : Script) : Type 0 where
   pub base : Script
   pub events : List Timed
   pub spelled : IsSpelled mode old.input.left new.input.left base
-  pub talk : IsTalk turns events old.link new.link
+  pub talk : IsTalk port turns events old.link new.link
   pub script_is : script ≡ live_script base events (1000 * turns)
 
 abbrev pub Comes : Mode → DevicesSeen → DevicesSeen → Script → Type 0
@@ -86,7 +87,7 @@ Comes Replay old new script = IsSpelled Replay old.input.left new.input.left scr
 Comes Dump old new script = IsSpelled Dump old.input.left new.input.left script
 Comes (Load n) old new script = IsMade n old.input.left new.input.left script
 Comes Asm old new script = true ≡ false
-Comes (Serve port turns) old new script = IsLive (Serve port turns) turns old new script
+Comes (Serve port turns) old new script = IsLive (Serve port turns) port turns old new script
 
 -- these bytes came, they were all or too many, and the script is refused
 pub record IsRefused (mode : Mode) (left rest : Option (List ℕ)) (bytes : List ℕ) (refusal : ScriptRefusal) : Type 0 where

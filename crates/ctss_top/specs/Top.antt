@@ -78,17 +78,17 @@ pub record ScriptLosesFiles (mode : Mode) (old new : DevicesSeen) (result : Outc
   pub lacks : old.media.tells ≡ true → LacksFiles script result.run
 
 -- the same of live consoles
-pub record LiveLosesFiles (mode : Mode) (turns : ℕ) (old new : DevicesSeen) (result : Outcome) : Type 0 where
+pub record LiveLosesFiles (mode : Mode) (port turns : ℕ) (old new : DevicesSeen) (result : Outcome) : Type 0 where
   pub base : Script
   pub spelled : IsSpelled mode old.input.left new.input.left base
-  pub lacks : old.media.tells ≡ true → LiveLacksFiles base turns old.link new.link result.run
+  pub lacks : old.media.tells ≡ true → LiveLacksFiles base port turns old.link new.link result.run
 
 abbrev pub LosesFor : Mode → DevicesSeen → DevicesSeen → Outcome → Type 0
 LosesFor Replay old new result = ScriptLosesFiles Replay old new result
 LosesFor Dump old new result = ScriptLosesFiles Dump old new result
 LosesFor (Load n) old new result = ScriptLosesFiles (Load n) old new result
 LosesFor Asm old new result = true ≡ false
-LosesFor (Serve port turns) old new result = LiveLosesFiles (Serve port turns) turns old new result
+LosesFor (Serve port turns) old new result = LiveLosesFiles (Serve port turns) port turns old new result
 
 pub record RunLosesFiles (words : List (List ℕ)) (old new : DevicesSeen) (result : Outcome) : Type 0 where
   pub mode : Mode

@@ -74,23 +74,23 @@ abbrev blank : List (List ℕ)
 blank = replicate 32 []
 
 module _ (base : Script) (was now : MediaSeen) (a b : Whole) (begins : Begins base was.tells a) {C : Type 0} (goes : C → List CoreCall → C → Type 0) (old new : C) (follow : (calls : List CoreCall) → goes old calls new → Follows calls a b)
-    (was_is : a.back.calls ≡ was.drum_calls) (count : ℕ) where
+    (was_is : a.back.calls ≡ was.drum_calls) (port count : ℕ) where
   talk_from_blank : (events : List Timed) (l m : LinkSeen) → TalkIsDone goes a.bare.texts count events l m old new → TalkIsDone goes blank count events l m old new
   talk_from_blank events l m talk = subst (λ (texts : List (List ℕ)). TalkIsDone goes texts count events l m old new) begins.texts talk
 
-  talk_is : (events : List Timed) (k l m : LinkSeen) → Did (DidOpen false) k l → TalkIsDone goes blank count events l m old new → IsTalk count events k m
-  talk_is events k l m opened t = record { turns = t.turns; many = t.many; lawful = t.lawful; link = Then (DidOpen false) _ k l m opened t.link; events_are = t.events_are }
+  talk_is : (events : List Timed) (k l m : LinkSeen) → Did (DidOpen port false) k l → TalkIsDone goes blank count events l m old new → IsTalk port count events k m
+  talk_is events k l m opened t = record { turns = t.turns; many = t.many; lawful = t.lawful; link = Then (DidOpen port false) _ k l m opened t.link; events_are = t.events_are }
 
   -- all turns were done
-  pub served : (events shown : List Timed) (k l m : LinkSeen) (rec : Record) → events ≡ shown → Did (DidOpen false) k l → TalkIsDone goes a.bare.texts count events l m old new
-      → EndsComplete b.bare b.back.held rec → b.back.calls ≡ now.drum_calls → WhereTold now.disk_contents (λ contents. LieOn contents rec.files rec.common) → IsLiveRecord base count shown was now rec × IsTalk count shown k m
+  pub served : (events shown : List Timed) (k l m : LinkSeen) (rec : Record) → events ≡ shown → Did (DidOpen port false) k l → TalkIsDone goes a.bare.texts count events l m old new
+      → EndsComplete b.bare b.back.held rec → b.back.calls ≡ now.drum_calls → WhereTold now.disk_contents (λ contents. LieOn contents rec.files rec.common) → IsLiveRecord base count shown was now rec × IsTalk port count shown k m
   served events shown k l m rec is opened talk ends now_is lie =
       let t : TalkIsDone goes blank count shown l m old new = subst (λ (es : List Timed). TalkIsDone goes blank count es l m old new) is (talk_from_blank events l m talk) in
       (live_record base was t.turns a b begins was_is now count shown rec t.many t.events_are (follow _ t.core) ends now_is lie, talk_is shown k l m opened t)
 
   -- and then the disk failed
-  pub lost_behind : was.disk_faults ≤ a.back.disk_faults → (events : List Timed) (k l m : LinkSeen) (rec : Record) → Did (DidOpen false) k l → TalkIsDone goes a.bare.texts count events l m old new
-      → ((places : Places) → rec ≡ without_files (record_from (ended (run_with places b.bare)))) → Rose b.back.disk_faults now.disk_faults → IsLost base count was now k m rec
+  pub lost_behind : was.disk_faults ≤ a.back.disk_faults → (events : List Timed) (k l m : LinkSeen) (rec : Record) → Did (DidOpen port false) k l → TalkIsDone goes a.bare.texts count events l m old new
+      → ((places : Places) → rec ≡ without_files (record_from (ended (run_with places b.bare)))) → Rose b.back.disk_faults now.disk_faults → IsLost base port count was now k m rec
   lost_behind was_disk events k l m rec opened talk said rose =
       let t = talk_from_blank events l m talk in
       let more = disk_rises _ a b (follow _ t.core) in
@@ -124,7 +124,7 @@ module _ (base : Script) (was now : MediaSeen) (a b : Whole) (begins : Begins ba
         cause = rose;
       }
 
-  pub lost : (j k m : LinkSeen) (rec : Record) → TalkIsCut goes a.bare.texts count serve.Disk k m old new → rec ≡ record_so_far (run_apart b) → Rose was.disk_faults now.disk_faults → IsLost base count was now j m rec
+  pub lost : (j k m : LinkSeen) (rec : Record) → TalkIsCut goes a.bare.texts count serve.Disk k m old new → rec ≡ record_so_far (run_apart b) → Rose was.disk_faults now.disk_faults → IsLost base port count was now j m rec
   lost j k m rec talk rec_is rose =
       let t = cut_from_blank serve.Disk k m talk in
       let at_limit = of_disk t.at t.cut.met in
@@ -137,17 +137,17 @@ module _ (base : Script) (was now : MediaSeen) (a b : Whole) (begins : Begins ba
   pub cut_served : (was_drum : a.back.faults ≡ was.drum_faults) (was_disk : was.disk_faults ≤ a.back.disk_faults)
       → b.back.calls ≡ now.drum_calls → b.back.faults ≡ now.drum_faults → b.back.disk_faults ≡ now.disk_faults
       → (fault : ServeFault) (j k m : LinkSeen) → TalkIsCut goes a.bare.texts count fault k m old new → IsCause fault k m (seen_of a) (seen_of b)
-      → (rec : Record) → rec ≡ record_so_far (run_apart b) → (s : Served) → IsLeft fault rec s → IsServed base count was now j m s
+      → (rec : Record) → rec ≡ record_so_far (run_apart b) → (s : Served) → IsLeft fault rec s → IsServed base port count was now j m s
   cut_served was_drum was_disk calls drum disk serve.Link j k m talk cause rec is s left = absurd left
   cut_served was_drum was_disk calls drum disk serve.NoMemory j k m talk cause rec is s left = absurd left
   cut_served was_drum was_disk calls drum disk serve.Drum j k m talk cause rec is s left =
-      subst (IsServed base count was now j m) (sym left) (stopped k m rec talk is calls (rose_as a.back.faults b.back.faults was.drum_faults now.drum_faults was_drum cause drum))
+      subst (IsServed base port count was now j m) (sym left) (stopped k m rec talk is calls (rose_as a.back.faults b.back.faults was.drum_faults now.drum_faults was_drum cause drum))
   cut_served was_drum was_disk calls drum disk serve.Disk j k m talk cause rec is s left =
-      subst (IsServed base count was now j m) (sym left) (lost j k m rec talk is (omega (arith, was_disk, cause, disk)))
+      subst (IsServed base port count was now j m) (sym left) (lost j k m rec talk is (omega (arith, was_disk, cause, disk)))
 
 -- the first files could not be written
-pub lost_at_start : (base : Script) (turns : ℕ) (was now : MediaSeen) (a b : LinkSeen) (rec : Record) → b ≡ a → rec ≡ record_so_far (start_of base) → Rose was.disk_faults now.disk_faults → IsLost base turns was now a b rec
-lost_at_start base turns was now a b rec same is rose = record { lacks = λ told. AtStart same is; cause = rose }
+pub lost_at_start : (base : Script) (port turns : ℕ) (was now : MediaSeen) (a b : LinkSeen) (rec : Record) → b ≡ a → rec ≡ record_so_far (start_of base) → Rose was.disk_faults now.disk_faults → IsLost base port turns was now a b rec
+lost_at_start base port turns was now a b rec same is rose = record { lacks = λ told. AtStart same is; cause = rose }
 
 -- a call that failed, and one that didn't
 pub err_of : {T E : Type 0} (r : Result T E) (P : Type 0) → is_err r ≡ true → OnErr r P → P

@@ -59,21 +59,21 @@ pub record IsStopped (base : Script) (turns : ℕ) (was now : MediaSeen) (rec : 
   pub cause : Rose was.drum_faults now.drum_faults
 
 -- A record without files: of the start, before the listener was opened; of a turn; or of the whole run, behind all turns.
-pub data LacksFiles (base : Script) (turns : ℕ) (a b : LinkSeen) (rec : Record) : Type 0 where
-  AtStart : b ≡ a → rec ≡ record_so_far (start_of base) → LacksFiles base turns a b rec
-  InTurn : IsInTurn base turns rec → LacksFiles base turns a b rec
-  AtEnd : (events : List Timed) → IsTalk turns events a b → rec ≡ without_files (record_of (live_script base events (1000 * turns))) → LacksFiles base turns a b rec
+pub data LacksFiles (base : Script) (port turns : ℕ) (a b : LinkSeen) (rec : Record) : Type 0 where
+  AtStart : b ≡ a → rec ≡ record_so_far (start_of base) → LacksFiles base port turns a b rec
+  InTurn : IsInTurn base turns rec → LacksFiles base port turns a b rec
+  AtEnd : (events : List Timed) → IsTalk port turns events a b → rec ≡ without_files (record_of (live_script base events (1000 * turns))) → LacksFiles base port turns a b rec
 
 -- the same where the disk failed
-pub record IsLost (base : Script) (turns : ℕ) (was now : MediaSeen) (a b : LinkSeen) (rec : Record) : Type 0 where
-  pub lacks : was.tells ≡ true → LacksFiles base turns a b rec
+pub record IsLost (base : Script) (port turns : ℕ) (was now : MediaSeen) (a b : LinkSeen) (rec : Record) : Type 0 where
+  pub lacks : was.tells ≡ true → LacksFiles base port turns a b rec
   pub cause : Rose was.disk_faults now.disk_faults
 
--- what was served over drum, disk and a link
-abbrev pub IsServed : Script → ℕ → (was now : MediaSeen) (a b : LinkSeen) → Served → Type 0
-IsServed base turns was now a b (Done events rec) = IsLiveRecord base turns events was now rec × IsTalk turns events a b
-IsServed base turns was now a b (DrumFailed rec) = IsStopped base turns was now rec
-IsServed base turns was now a b (DiskFailed rec) = IsLost base turns was now a b rec
+-- what was served at a port, over drum, disk and a link
+abbrev pub IsServed : Script → (port turns : ℕ) → (was now : MediaSeen) (a b : LinkSeen) → Served → Type 0
+IsServed base port turns was now a b (Done events rec) = IsLiveRecord base turns events was now rec × IsTalk port turns events a b
+IsServed base port turns was now a b (DrumFailed rec) = IsStopped base turns was now rec
+IsServed base port turns was now a b (DiskFailed rec) = IsLost base port turns was now a b rec
 
 -- what is left of a run in which a turn failed, of which so much is shown: nothing but for a fault of drum or disk
 abbrev pub IsLeft : ServeFault → Record → Served → Type 0

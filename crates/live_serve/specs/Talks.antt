@@ -27,13 +27,13 @@ closes_of_desk (seat ∷ seats) = close_of seat ++ closes_of_desk seats
 abbrev pub calls_of_talk : List (List ℕ) → List TurnSeen → List Done
 calls_of_talk texts turns = calls_of_turns texts empty_desk turns ++ closes_of_desk (desk_behind texts empty_desk turns).seats
 
--- The listener was opened, so many turns were done with 32 consoles that had shown nothing, and all connections were closed. The run was given
--- these events.
-pub record IsTalk (count : ℕ) (events : List Timed) (a b : LinkSeen) : Type 0 where
+-- The listener was opened at this port, so many turns were done with 32 consoles that had shown nothing, and all connections were
+-- closed. The run was given these events.
+pub record IsTalk (port count : ℕ) (events : List Timed) (a b : LinkSeen) : Type 0 where
   pub turns : List TurnSeen
   pub many : length turns ≡ count
   pub lawful : AreTurns (replicate 32 []) empty_desk turns
-  pub link : DidAll (DidOpen false ∷ calls_of_talk (replicate 32 []) turns) a b
+  pub link : DidAll (DidOpen port false ∷ calls_of_talk (replicate 32 []) turns) a b
   pub events_are : events ≡ events_in (events_of_turns 0 (replicate 32 []) empty_desk turns)
 
 -- a core behind all its turns, of consoles that had shown these texts

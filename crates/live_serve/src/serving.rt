@@ -48,7 +48,7 @@ pub fn serve<D: Medium, F: Medium, L: Link>(
     requires turns { turns ≤ 100000 }
     requires drum { Serves (D.contents drum.old) (D.record_count drum.old) (D.words_each drum.old) 3840 }
     requires disk { Holds (F.contents disk.old) (F.record_count disk.old) (F.words_each disk.old) 10000 }
-    ensures served { IfOk result (IsServed base.now turns (media_seen D.Medium F.Medium drum.old disk.old)
+    ensures served { IfOk result (IsServed base.now port turns (media_seen D.Medium F.Medium drum.old disk.old)
         (media_seen D.Medium F.Medium drum.new disk.new) (L.seen link.old) (L.seen link.new)) }
     ensures link { result ≡ Err ServingFault.Link → Rose (L.seen link.old).faults (L.seen link.new).faults }
 {

@@ -12,6 +12,6 @@ use Rattle.live_serve.specs.Talks.{IsTalk}
 -- The live script of a base that was read, of so many turns and of the events that they gave reads as itself, where its text isn't too long.
 abbrev pub LiveScriptsAreRead : Type 0
 LiveScriptsAreRead =
-    (bytes : List ℕ) (base : Script) (turns : ℕ) (events : List Timed) (a b : LinkSeen) → base_of bytes ≡ Ok base → turns ≤ 100000 → IsTalk turns events a b
+    (bytes : List ℕ) (base : Script) (port turns : ℕ) (events : List Timed) (a b : LinkSeen) → base_of bytes ≡ Ok base → turns ≤ 100000 → IsTalk port turns events a b
     → length (script_text_of (live_script base events (1000 * turns))) ≤ max_bytes
     → script_of (script_text_of (live_script base events (1000 * turns))) ≡ Ok (live_script base events (1000 * turns))

@@ -10,14 +10,14 @@ use Rattle.ctss_top.proofs.live.host.Goals as goal
 
 pub returns-in-Ok-Done-clause-done : goal.returns-in-Ok-Done-clause-done
 returns-in-Ok-Done-clause-done g c was now spelled h =
-    let both = all_served c.args.base c.args.turns _ _ _ _ c.in-Ok-Done.field-0 c.in-Ok-Done.ensures.served c.in-Ok-Done.events c.in-Ok-Done.record c.in-Ok-Done.field-0-is in
+    let both = all_served c.args.base c.args.port c.args.turns _ _ _ _ c.in-Ok-Done.field-0 c.in-Ok-Done.ensures.served c.in-Ok-Done.events c.in-Ok-Done.record c.in-Ok-Done.field-0-is in
     let script : ℕ → Script = λ n. record c.args.base { events = c.in-Ok-Done.events; end = 1000 * n } in
     live_run c.args.port c.args.turns _ _ c.write_run.result c.args.base c.in-Ok-Done.events c.in-Ok-Done.record spelled both.0 both.1 (c.write_run.ensures.run (grind (arith, h, nat_tests))) c.write_run.ensures.numbers
     (subst (λ (n : ℕ). g.K.Sink.held c.write_run.new.sink ≡ after (g.K.Sink.held c.args.sink.now) (text_for (Serve c.args.port c.args.turns) (script n) c.write_run.result.run)) c.from.ensures (c.write_run.ensures.text h))
 
 pub returns-in-Ok-Done-clause-part : goal.returns-in-Ok-Done-clause-part
 returns-in-Ok-Done-clause-part g c words was now asked spelled h =
-    let both = all_served c.args.base c.args.turns _ _ _ _ c.in-Ok-Done.field-0 c.in-Ok-Done.ensures.served c.in-Ok-Done.events c.in-Ok-Done.record c.in-Ok-Done.field-0-is in
+    let both = all_served c.args.base c.args.port c.args.turns _ _ _ _ c.in-Ok-Done.field-0 c.in-Ok-Done.ensures.served c.in-Ok-Done.events c.in-Ok-Done.record c.in-Ok-Done.field-0-is in
     let script : ℕ → Script = λ n. record c.args.base { events = c.in-Ok-Done.events; end = 1000 * n } in
     live_cut words c.args.port c.args.turns asked _ _ c.write_run.result c.args.base c.in-Ok-Done.events c.in-Ok-Done.record spelled both.0 both.1 (c.write_run.ensures.run (grind (arith, h, nat_tests))) c.write_run.ensures.numbers
     (subst (λ (n : ℕ). GrewByProperPrefix (g.K.Sink.held c.args.sink.now) (text_for (Serve c.args.port c.args.turns) (script n) c.write_run.result.run) (g.K.Sink.held c.write_run.new.sink)) c.from.ensures (c.write_run.ensures.part h))
@@ -25,9 +25,9 @@ returns-in-Ok-Done-clause-part g c words was now asked spelled h =
 pub returns-in-Ok-DrumFailed-clause-stopped : goal.returns-in-Ok-DrumFailed-clause-stopped
 returns-in-Ok-DrumFailed-clause-stopped g c words was now asked spelled h =
     live_stopped words c.args.port c.args.turns asked _ _ c.failed.result c.args.base c.in-Ok-DrumFailed.run' spelled refl
-    (drum_ended c.args.base c.args.turns _ _ _ _ c.in-Ok-DrumFailed.field-0 c.in-Ok-DrumFailed.ensures.served c.in-Ok-DrumFailed.run' c.in-Ok-DrumFailed.field-0-is) c.failed.ensures
+    (drum_ended c.args.base c.args.port c.args.turns _ _ _ _ c.in-Ok-DrumFailed.field-0 c.in-Ok-DrumFailed.ensures.served c.in-Ok-DrumFailed.run' c.in-Ok-DrumFailed.field-0-is) c.failed.ensures
 
 pub returns-in-Ok-DiskFailed-clause-lost : goal.returns-in-Ok-DiskFailed-clause-lost
 returns-in-Ok-DiskFailed-clause-lost g c words was now asked spelled h =
     live_lost words c.args.port c.args.turns asked _ _ c.failed-in-Ok-DiskFailed.result c.args.base c.in-Ok-DiskFailed.run' spelled refl
-    (disk_ended c.args.base c.args.turns _ _ _ _ c.in-Ok-DiskFailed.field-0 c.in-Ok-DiskFailed.ensures.served c.in-Ok-DiskFailed.run' c.in-Ok-DiskFailed.field-0-is) c.failed-in-Ok-DiskFailed.ensures
+    (disk_ended c.args.base c.args.port c.args.turns _ _ _ _ c.in-Ok-DiskFailed.field-0 c.in-Ok-DiskFailed.ensures.served c.in-Ok-DiskFailed.run' c.in-Ok-DiskFailed.field-0-is) c.failed-in-Ok-DiskFailed.ensures

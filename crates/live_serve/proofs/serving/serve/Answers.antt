@@ -26,7 +26,7 @@ returns-then-is_err-clause-served g c =
     let failed = sym c.is_err.ensures.value ∙ c.if-is_err.true in
     let same = c.back-then-is_err.ensures.same ∙ ap (λ d. (disk_of d).ghost_name) c.into_parts-cores.ensures.files ∙ ap (λ x. (disk_of x.files).ghost_name) c.into_parts-supervisor.ensures.cores ∙ c.in_ok-run.ensures.disk in
     let was = media_seen g.D.Medium g.F.Medium c.args.drum.now c.args.disk.now in
-    lost_at_start c.args.base.now c.args.turns was _ _ _ c.in_ok-stop.field-0 refl
+    lost_at_start c.args.base.now c.args.port c.args.turns was _ _ _ c.in_ok-stop.field-0 refl
     (c.in_ok-stop.ensures ∙ ap (λ (s : Bare). record_so_far (run_with no_places s)) c.into_parts-supervisor.ensures.supervisor ∙ begun.shown)
     (subst (Rose was.disk_faults) (sym (ap (λ d. g.F.Medium.faults (disk_of d).now) c.into_parts-cores.ensures.files ∙ ap (λ x. g.F.Medium.faults (disk_of x.files).now) c.into_parts-supervisor.ensures.cores) ∙ search (rules, same))
     (err_of c.in_ok-run.field-0.wrote _ failed begun.cause))
@@ -53,7 +53,7 @@ returns-in-Err-clause-served g c =
     let drum = ap (λ (d : DrumState). d.name) c.back-in-Err.ensures.seen ∙ ap (λ i. (state i).drum.name) ends.cores ∙ ap (λ x. (state x.cores).drum.name) parts.cores ∙ cut.core.0.0 ∙ c.in_ok-run.ensures.drum in
     let disk = c.back-in-Err-2.ensures.same ∙ ap (λ d. (disk_of d).ghost_name) ends.files ∙ ap (λ x. (disk_of x.files).ghost_name) parts.cores ∙ cut.core.0.1 ∙ c.in_ok-run.ensures.disk in
     ok_map c.cut_off.result (IsLeft fault (record_so_far (run_with no_places sup))) _
-    (cut_served c.args.base.now (media_seen g.D.Medium g.F.Medium c.args.drum.now c.args.disk.now) _ a b begins _ _ _ (λ calls h. h.1) begun.calls c.args.turns begun.drum begun.disk
+    (cut_served c.args.base.now (media_seen g.D.Medium g.F.Medium c.args.drum.now c.args.disk.now) _ a b begins _ _ _ (λ calls h. h.1) begun.calls c.args.port c.args.turns begun.drum begun.disk
     (sym (ap (λ i. (state i).drum.calls) ends.cores ∙ ap (λ x. (state x.cores).drum.calls) parts.cores) ∙ search (rules, drum))
     (sym (ap (λ i. (state i).drum.faults) ends.cores ∙ ap (λ x. (state x.cores).drum.faults) parts.cores) ∙ search (rules, drum))
     (sym (ap (λ d. g.F.Medium.faults (disk_of d).now) ends.files ∙ ap (λ x. g.F.Medium.faults (disk_of x.files).now) parts.cores) ∙ search (rules, disk))
@@ -87,8 +87,8 @@ returns-in-Complete-clause-served g c =
     let closes : EndsComplete sup (back_of (cores_in (state behind.cores)) (shown g.F.Medium behind.files)).held rec =
     subst (Closes sup (back_of (cores_in (state behind.cores)) (shown g.F.Medium behind.files)) (back_of (cores_in (state last.cores)) (shown g.F.Medium last.files))) c.in-Complete.is c.in_ok-record.ensures.closes in
     let lies = subst (λ (z : Closed). IfComplete z (λ rec. WhereTold (g.F.Medium.contents (disk_of last.files).now) (λ contents. LieOn contents rec.files rec.common))) c.in-Complete.is c.in_ok-record.ensures.lies in
-    served c.args.base.now (media_seen g.D.Medium g.F.Medium c.args.drum.now c.args.disk.now) _ a b begins _ _ _ (λ calls h. h.1) begun.calls c.args.turns _ _ _ _ _ rec refl
-    (subst (λ (f : Bool). Did (DidOpen f) (g.L.Link.seen c.args.link.now) (g.L.Link.seen c.open.new.self)) (sym c.is_err-2.ensures.value ∙ c.if-is_err-2.false) c.open.ensures)
+    served c.args.base.now (media_seen g.D.Medium g.F.Medium c.args.drum.now c.args.disk.now) _ a b begins _ _ _ (λ calls h. h.1) begun.calls c.args.port c.args.turns _ _ _ _ _ rec refl
+    (subst (λ (f : Bool). Did (DidOpen c.args.port f) (g.L.Link.seen c.args.link.now) (g.L.Link.seen c.open.new.self)) (sym c.is_err-2.ensures.value ∙ c.if-is_err-2.false) c.open.ensures)
     done
     (subst (λ (s : Bare). EndsComplete s b.back.held rec) parts.supervisor (subst (λ x. EndsComplete sup (back_of (cores_in (state x.cores)) (shown g.F.Medium x.files)).held rec) parts.cores closes))
     (sym (ap (λ i. (state i).drum.calls) ends.cores ∙ c.close-closed.ensures.calls ∙ ap (λ x. (state x.cores).drum.calls) parts.cores) ∙ search (rules, drum))
@@ -112,8 +112,8 @@ returns-in-WithoutFiles-clause-served g c =
     let disk = c.back-3.ensures.same ∙ ap (λ d. (disk_of d).ghost_name) ends.files ∙ c.close-closed.ensures.keeps.1 ∙ ap (λ x. (disk_of x.files).ghost_name) parts.cores ∙ done.core.0.1 ∙ c.in_ok-run.ensures.disk in
     let closes : EndsWithoutFiles sup (g.F.Medium.faults (disk_of behind.files).now) (g.F.Medium.faults (disk_of last.files).now) rec =
     subst (Closes sup (back_of (cores_in (state behind.cores)) (shown g.F.Medium behind.files)) (back_of (cores_in (state last.cores)) (shown g.F.Medium last.files))) c.in-WithoutFiles.is c.in_ok-record.ensures.closes in
-    lost_behind c.args.base.now (media_seen g.D.Medium g.F.Medium c.args.drum.now c.args.disk.now) _ a b begins _ _ _ (λ calls h. h.1) begun.calls c.args.turns begun.disk _ _ _ _ rec
-    (subst (λ (f : Bool). Did (DidOpen f) (g.L.Link.seen c.args.link.now) (g.L.Link.seen c.open.new.self)) (sym c.is_err-2.ensures.value ∙ c.if-is_err-2.false) c.open.ensures)
+    lost_behind c.args.base.now (media_seen g.D.Medium g.F.Medium c.args.drum.now c.args.disk.now) _ a b begins _ _ _ (λ calls h. h.1) begun.calls c.args.port c.args.turns begun.disk _ _ _ _ rec
+    (subst (λ (f : Bool). Did (DidOpen c.args.port f) (g.L.Link.seen c.args.link.now) (g.L.Link.seen c.open.new.self)) (sym c.is_err-2.ensures.value ∙ c.if-is_err-2.false) c.open.ensures)
     done
     (λ p. closes.said p ∙ ap (λ (s : Bare). without_files (record_from (ended (run_with p s)))) parts.supervisor)
     (rose_as _ _ _ _ (ap (λ x. g.F.Medium.faults (disk_of x.files).now) parts.cores) closes.cause (sym (ap (λ d. g.F.Medium.faults (disk_of d).now) ends.files) ∙ search (rules, disk)))

@@ -107,7 +107,7 @@ fn finds_faults(rt: HostRuntime) -> Result<(), Fail> {
     let cards = cards_of_text(rt.alloc(), FAULTS)?;
     assert!(rt; cards.len() < 100);
     match faults_in(assemble(rt.alloc(), cards.as_slice())) {
-        Some(faults) => assert_eq!(rt; faults.as_slice(), FOUND.as_slice()),
+        Some(faults) => assert!(rt; faults.as_slice() == FOUND.as_slice()),
         None => assert!(rt; false),
     }
     Ok(())

@@ -11,7 +11,7 @@ fn ask(rt: &impl Abort, alloc: Global, rows: &[(&[&str], Option<Mode>)]) -> Resu
         for word in *words {
             list.add(word)?;
         }
-        assert_eq!(rt; list.mode()?, *want, "{words:?}");
+        assert!(rt; list.mode()? == *want, "{words:?}");
     }
     Ok(())
 }

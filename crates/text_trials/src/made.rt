@@ -53,7 +53,7 @@ fn text(event: &Event) -> &str {
 /// Tries the account and the file of a user.
 fn has_user(rt: &impl Abort, account: &Account, file: &OwnedFile, want: &(&str, &str, u64, u64)) {
     let words = file.body.words.as_slice();
-    assert_eq!(rt; words.len(), 12, "of {}", want.0);
+    assert!(rt; words.len() == 12, "of {}", want.0);
     assert_eq!(rt;
         (
             name_text(account.name).as_str(),
@@ -68,10 +68,8 @@ fn has_user(rt: &impl Abort, account: &Account, file: &OwnedFile, want: &(&str, 
 #[test]
 fn zero_makes_four_users(rt: HostRuntime) -> Result<(), Fail> {
     let script = make_script(rt.alloc(), 0)?;
-    assert_eq!(rt;
-        (script.accounts.len(), script.files.len(), script.end),
-        (4, 4, 1_000_000)
-    );
+    let counts = [script.accounts.len(), script.files.len()];
+    assert!(rt; counts == [4, 4] && script.end == 1_000_000);
     let users = script
         .accounts
         .as_slice()
@@ -86,7 +84,7 @@ fn zero_makes_four_users(rt: HostRuntime) -> Result<(), Fail> {
 #[test]
 fn zero_makes_four_sessions(rt: HostRuntime) -> Result<(), Fail> {
     let script = make_script(rt.alloc(), 0)?;
-    assert_eq!(rt; script.events.len(), 24);
+    assert!(rt; script.events.len() == 24);
     for (timed, want) in script.events.as_slice().iter().zip(&TYPED) {
         assert_eq!(rt;
             (timed.tick, timed.console.number(), text(&timed.event)),
@@ -107,12 +105,9 @@ fn twenty_six_makes_thirty_users(rt: HostRuntime) -> Result<(), Fail> {
         script.files.len(),
         script.events.len(),
     );
-    assert_eq!(rt;
-        (counts, last.tick, last.console.number()),
-        ((30, 30, 180), 3000, 30)
-    );
+    assert!(rt; counts == (30, 30, 180) && last.tick == 3000 && last.console.number() == 30);
     for (file, user) in script.files.as_slice().iter().zip(1..=30) {
-        assert_eq!(rt; file.owner.number(), user);
+        assert!(rt; file.owner.number() == user);
     }
     Ok(())
 }

@@ -35,10 +35,7 @@ fn reads_columns(rt: HostRuntime) -> Result<(), Fail> {
     };
     let columns = ([fields(go), fields(add)], fields(comment).comment);
     let added = operation(add.text.as_slice());
-    assert_eq!(rt;
-        (columns, added),
-        (([GO, ADD], true), Some(Operation::Machine(Op::Add)))
-    );
+    assert!(rt; columns == ([GO, ADD], true) && added == Some(Operation::Machine(Op::Add)));
     Ok(())
 }
 
@@ -86,9 +83,9 @@ fn reads_terms_and_numbers(rt: HostRuntime) {
         None,
         Some(Term::Named(name_word(b"A.1"))),
     ];
-    assert_eq!(rt; terms, want);
+    assert!(rt; terms == want);
     for (form, text, want) in &NUMBERS {
-        assert_eq!(rt; number(*form, text), *want, "{form:?}");
+        assert!(rt; number(*form, text) == *want, "{form:?}");
     }
 }
 
@@ -106,9 +103,7 @@ fn takes_apart_and_gives_words(rt: HostRuntime) -> Result<(), Fail> {
     let (Some(hello), [card]) = (hello, cards.as_slice()) else {
         return Err(Fail::new("no words, or not one card"));
     };
-    assert_eq!(rt;
-        (hello.as_slice(), card.text.as_slice()),
-        ([word].as_slice(), b"HELLO ".as_slice())
-    );
+    assert!(rt; hello.as_slice() == [word].as_slice());
+    assert!(rt; card.text.as_slice() == b"HELLO ".as_slice());
     Ok(())
 }

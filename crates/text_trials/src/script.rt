@@ -17,7 +17,7 @@ fn reads_as(
     let script = read_script(alloc, bytes)?;
     let sink = written(rt, alloc, &ScriptText { script: &script })?;
     let same = read_script(alloc, canonical)?;
-    assert_eq!(rt; (sink.bytes(), script == same), (canonical, true), "{what}");
+    assert!(rt; sink.bytes() == canonical && script == same, "{what}");
     Ok(script)
 }
 
@@ -31,6 +31,22 @@ pub enum Reader {
 /// What cards are, the cards, and the card and the cause of their refusal.
 pub type Refused = (&'static str, &'static [u8], u32, ScriptCause);
 
+/// Why a script, of a front and cards behind it, is refused.
+fn fault_of(
+    alloc: Global,
+    reader: Reader,
+    front: &[u8],
+    cards: &[u8],
+) -> Result<Option<ScriptFault>, Fail> {
+    let mut bytes = Vec::from_slice(alloc, front)?;
+    bytes.extend_from_slice(cards)?;
+    let read = match reader {
+        Reader::Any => read_script(alloc, &bytes),
+        Reader::Base => read_base(alloc, &bytes),
+    };
+    Ok(read.err())
+}
+
 /// Reads scripts, of a front and cards behind it, each of which is refused at a card for a cause.
 pub fn refuses(
     rt: &impl Abort,
@@ -40,17 +56,12 @@ pub fn refuses(
     rows: &[Refused],
 ) -> Result<(), Fail> {
     for (what, cards, card, cause) in rows {
-        let mut bytes = Vec::from_slice(alloc, front)?;
-        bytes.extend_from_slice(cards)?;
-        let read = match reader {
-            Reader::Any => read_script(alloc, &bytes),
-            Reader::Base => read_base(alloc, &bytes),
-        };
         let refusal = ScriptRefusal {
             card: *card,
             cause: *cause,
         };
-        assert_eq!(rt; read.err(), Some(ScriptFault::Refused(refusal)), "{what}");
+        let fault = fault_of(alloc, reader, front, cards)?;
+        assert!(rt; fault == Some(ScriptFault::Refused(refusal)), "{what}");
     }
     Ok(())
 }
@@ -99,16 +110,9 @@ fn reads_a_session(rt: HostRuntime) -> Result<(), Fail> {
         tracks: 10,
     };
     let script = reads_as(&rt, rt.alloc(), "a session", SESSION, SESSION)?;
-    assert_eq!(rt;
-        (
-            script.params,
-            script.accounts.as_slice(),
-            script.files.len(),
-            script.events.len(),
-            script.end
-        ),
-        (PARAMS, [account].as_slice(), 0, 4, 100)
-    );
+    assert!(rt; script.params == PARAMS && script.accounts.as_slice() == [account].as_slice());
+    let counts = [script.files.len(), script.events.len()];
+    assert!(rt; counts == [0, 4] && script.end == 100);
     for (timed, want) in script.events.as_slice().iter().zip(&EVENTS) {
         assert_eq!(rt;
             (
@@ -143,7 +147,7 @@ fn has_words(rt: &impl Abort, file: &OwnedFile, (owner, mode, bits): (u8, u8, &[
         (owner, name, mode, bits.len())
     );
     for (word, bits) in body.words.as_slice().iter().zip(bits) {
-        assert_eq!(rt; word.bits(), *bits);
+        assert!(rt; word.bits() == *bits);
     }
 }
 

@@ -53,10 +53,8 @@ fn words_and_names(rt: HostRuntime) {
     let (first, rest) = first_word(b"  LOGIN ALFA ");
     let (second, rest) = first_word(rest);
     let (none, _) = first_word(rest);
-    assert_eq!(rt;
-        [first, second, none],
-        [b"LOGIN".as_slice(), b"ALFA".as_slice(), b"".as_slice()]
-    );
+    let words = [b"LOGIN".as_slice(), b"ALFA".as_slice(), b"".as_slice()];
+    assert!(rt; [first, second, none] == words);
 
     let hello = name_word(b"HELLO");
     let name = FileName::new(hello, name_word(b"MAD"));

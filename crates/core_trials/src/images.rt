@@ -1,7 +1,8 @@
-ghost use Rattle.std.specs.Prelude.{◌≡◌, ◌≢◌, ◌<◌, ◌≤◌, ℕ, All, length};
+ghost use Rattle.std.specs.Prelude.{◌≡◌, ◌≢◌, ◌<◌, ◌≤◌, ◌+◌, ℕ, All, length};
 ghost use Rattle.core_bank.specs.Bank.{AreWords, block_at};
 ghost use Rattle.drum_slots.specs.Kept.{Serves};
 ghost use Rattle.drum_slots.specs.Table.{records_of};
+ghost use Rattle.onion_swap.specs.Places.{base_of};
 ghost use Rattle.image_map.specs.Blocks.{first};
 ghost use Rattle.image_map.specs.Images.{size_of, image_in, where_told};
 ghost use Rattle.medium.specs.Damages.{IsDamage};
@@ -23,8 +24,10 @@ enum Action {
     Give(u8),
     /// Gives the user another size.
     Resize(u8),
-    /// Loads the user, where this moves so many blocks to the drum, from it, and up as plus zeros.
-    Load(u8, u8, u8),
+    /// Loads the user, where this moves so many blocks to the drum, from it, and up as plus zeros, to this base.
+    Load(u8, u8, u8, u8),
+    /// The same, where its own blocks go to the drum before.
+    Move(u8, u8, u8, u8),
     /// Puts a word at an address of the user, which is loaded.
     Put(u16, i8),
     /// Gets the word at an address of the user.
@@ -33,7 +36,7 @@ enum Action {
     Resident(bool),
 }
 
-use Action::{Get, Give, Load, Put, Resident, Resize};
+use Action::{Get, Give, Load, Move, Put, Resident, Resize};
 
 /// A user's number, and what is done with its image.
 type Step = (u8, Action);
@@ -54,7 +57,8 @@ fn put<D: Medium>(
     ensures mine { image_in image.new.bank (D.contents image.new.tables.kept.drum.now) image.new.tables.owners
         image.new.tables.kept.slots image.new.tables.sizes.items user
         ≡ where_told (D.contents image.new.tables.kept.drum.now)
-        (first (size_of image.new.tables.sizes.items user) (block_at image.new.bank)) }
+        (first (size_of image.new.tables.sizes.items user)
+        (λ b. block_at image.new.bank (base_of image.new.tables.owners.bases user + b))) }
     ensures others { (u : ℕ) → u ≢ user
         → image_in image.new.bank (D.contents image.new.tables.kept.drum.now) image.new.tables.owners
         image.new.tables.kept.slots image.new.tables.sizes.items u
@@ -62,28 +66,34 @@ fn put<D: Medium>(
         image.old.tables.kept.slots image.old.tables.sizes.items u }
 {
     assert!(rt; image.resident(user));
-    let blocks = image.size(user);
-    store_in(image.bank_mut(), blocks, address, word)
+    let (base, blocks) = (image.base(user), image.size(user));
+    store_in(image.bank_mut(), base, blocks, address, word)
 }
 
-/// The word at an address of the first blocks of a bank.
-fn word_at(bank: &mut Bank, blocks: u8, address: u16) -> Result<Word, Outside>
-    requires most { blocks ≤ 128 }
+/// The word at an address of some blocks of a bank.
+fn word_at(bank: &mut Bank, base: u8, blocks: u8, address: u16) -> Result<Word, Outside>
+    requires most { base + blocks ≤ 128 }
     requires words { AreWords bank.old }
     ensures { bank.new ≡ bank.old }
 {
-    Port::over(bank, blocks).load(address)
+    Port::over(bank, base, blocks).load(address)
 }
 
 /// The word at an address of a resident user.
-fn get<D: Medium>(image: &mut Image<'_, D>, user: UserNo, address: u16) -> Result<Word, Outside>
+fn get<D: Medium>(
+    rt: &impl Abort,
+    image: &mut Image<'_, D>,
+    user: UserNo,
+    address: u16,
+) -> Result<Word, Outside>
     requires user { user < length image.old.tables.sizes.items }
     requires words { AreWords image.old.bank }
     ensures tables { image.new.tables ≡ image.old.tables }
     ensures bank { image.new.bank ≡ image.old.bank }
 {
-    let blocks = image.size(user);
-    word_at(image.bank_mut(), blocks, address)
+    assert!(rt; image.resident(user));
+    let (base, blocks) = (image.base(user), image.size(user));
+    word_at(image.bank_mut(), base, blocks, address)
 }
 
 /// The word of a small number.
@@ -125,16 +135,28 @@ fn does<D: Medium>(
             image.resize_user(user, blocks);
             true
         }
-        Load(dumped, read, fresh) => {
+        Load(dumped, read, fresh, base) => {
             image.load_user(user)?
                 == Plan {
+                    base,
+                    moved: false,
+                    dumped,
+                    read,
+                    fresh,
+                }
+        }
+        Move(dumped, read, fresh, base) => {
+            image.load_user(user)?
+                == Plan {
+                    base,
+                    moved: true,
                     dumped,
                     read,
                     fresh,
                 }
         }
         Put(address, number) => put(rt, image, user, address, word(number)) == Ok(()),
-        Get(address, number) => get(image, user, address) == number.map(word),
+        Get(address, number) => get(rt, image, user, address) == number.map(word),
         Resident(is) => image.resident(user) == is,
     };
     assert!(rt; went, "{step:?}");
@@ -163,42 +185,46 @@ fn runs<D: Medium>(
 
 #[test]
 fn loads_users_in_turn(rt: HostRuntime) -> Result<(), Fail> {
-    static STEPS: [Step; 13] = [
-        (1, Give(8)),
-        (2, Give(3)),
-        (3, Give(8)),
-        (1, Load(0, 0, 8)),
-        (1, Put(2047, -5)),
-        (2, Load(3, 0, 3)),
-        (2, Resident(true)),
+    static STEPS: [Step; 15] = [
+        (1, Give(64)),
+        (2, Give(64)),
+        (3, Give(32)),
+        (1, Load(0, 0, 64, 0)),
+        (1, Put(16383, -5)),
+        (1, Put(0, 6)),
+        (2, Load(0, 0, 64, 64)),
+        (1, Resident(true)),
+        // Half of the first user's blocks stay in core.
+        (3, Load(32, 0, 32, 0)),
         (1, Resident(false)),
-        // Five of these blocks were still the first user's.
-        (3, Load(8, 0, 8)),
-        (3, Get(2047, Ok(0))),
-        (1, Load(8, 8, 0)),
-        (1, Get(2047, Ok(-5))),
-        (1, Get(2048, Err(Outside))),
+        (2, Resident(true)),
+        (1, Load(32, 32, 0, 0)),
+        (1, Get(16383, Ok(-5))),
+        (1, Get(0, Ok(6))),
+        (3, Load(32, 32, 0, 0)),
     ];
-    let mut drum = MemoryMedium::new(rt.alloc(), 19, 256, &[], &[], 0)?;
-    let mut image = Image::new(rt.alloc(), &mut drum, 19, &[8, 3, 8])?;
-    assert_eq!(rt; runs(&rt, &mut image, &[0, 8, 3, 8], &STEPS), Ok(()));
+    let mut drum = MemoryMedium::new(rt.alloc(), 160, 256, &[], &[], 0)?;
+    let mut image = Image::new(rt.alloc(), &mut drum, 160, &[64, 64, 32])?;
+    assert_eq!(rt; runs(&rt, &mut image, &[0, 64, 64, 32], &STEPS), Ok(()));
     let _ = image.back();
     Ok(())
 }
 
 #[test]
 fn cuts_and_extends(rt: HostRuntime) -> Result<(), Fail> {
-    static STEPS: [Step; 10] = [
+    static STEPS: [Step; 11] = [
         (1, Give(4)),
-        (1, Load(0, 0, 4)),
+        (1, Load(0, 0, 4, 0)),
         (1, Put(600, 7)),
         (1, Resize(2)),
         (2, Give(4)),
-        (2, Load(2, 0, 4)),
-        (2, Put(600, 5)),
+        // It lies behind the first.
+        (2, Load(0, 0, 4, 2)),
+        (2, Put(100, 5)),
         (1, Resize(4)),
-        (1, Load(4, 2, 2)),
+        (1, Load(2, 0, 2, 0)),
         (1, Get(600, Ok(0))),
+        (2, Load(2, 2, 0, 2)),
     ];
     let mut drum = MemoryMedium::new(rt.alloc(), 16, 256, &[], &[], 0)?;
     let mut image = Image::new(rt.alloc(), &mut drum, 16, &[8, 8])?;
@@ -207,8 +233,31 @@ fn cuts_and_extends(rt: HostRuntime) -> Result<(), Fail> {
     Ok(())
 }
 
-/// Loads users 1, 2 and 1 in turn, of one block each, over a drum with these faults and damages, which makes two writes
-/// and one read. Compares how that ends, and if no load fails the word that user 1 has at address 5 then.
+#[test]
+fn moves_a_user_that_grows(rt: HostRuntime) -> Result<(), Fail> {
+    static STEPS: [Step; 11] = [
+        (1, Give(40)),
+        (1, Load(0, 0, 40, 0)),
+        (2, Give(60)),
+        (2, Load(0, 0, 60, 40)),
+        (2, Put(600, 7)),
+        (2, Resize(100)),
+        (2, Resident(false)),
+        (2, Move(72, 60, 40, 28)),
+        (2, Get(600, Ok(7))),
+        (2, Get(15360, Ok(0))),
+        // Blocks 0 to 27 of the first user are still in core.
+        (1, Load(12, 12, 0, 0)),
+    ];
+    let mut drum = MemoryMedium::new(rt.alloc(), 200, 256, &[], &[], 0)?;
+    let mut image = Image::new(rt.alloc(), &mut drum, 200, &[100, 100])?;
+    assert_eq!(rt; runs(&rt, &mut image, &[0, 100, 100], &STEPS), Ok(()));
+    let _ = image.back();
+    Ok(())
+}
+
+/// Loads users 1, 2 and 1 in turn, of all of core each, over a drum with these faults and damages, which makes 256 writes
+/// and 128 reads. Compares how that ends, and if no load fails the word that user 1 has at address 5 then.
 fn gives(
     rt: &impl Abort,
     alloc: Global,
@@ -220,17 +269,17 @@ fn gives(
     requires { All (λ damage. IsDamage 256 damage) damages.now }
 {
     let steps = [
-        (1, Give(1)),
-        (2, Give(1)),
-        (1, Load(0, 0, 1)),
+        (1, Give(128)),
+        (2, Give(128)),
+        (1, Load(0, 0, 128, 0)),
         (1, Put(5, 7)),
-        (2, Load(1, 0, 1)),
-        (1, Load(1, 1, 0)),
+        (2, Load(128, 0, 128, 0)),
+        (1, Load(128, 128, 0, 0)),
         (1, Get(5, Ok(word))),
     ];
-    let mut drum = MemoryMedium::new(alloc, 2, 256, faults, damages, 0)?;
-    let mut image = Image::new(alloc, &mut drum, 2, &[1, 1])?;
-    let outcome = runs(rt, &mut image, &[0, 1, 1], &steps);
+    let mut drum = MemoryMedium::new(alloc, 256, 256, faults, damages, 0)?;
+    let mut image = Image::new(alloc, &mut drum, 256, &[128, 128])?;
+    let outcome = runs(rt, &mut image, &[0, 128, 128], &steps);
     assert_eq!(rt; (outcome, image.failed()), (ended, ended.is_err()));
     let _ = image.back();
     Ok(())
@@ -248,8 +297,8 @@ fn shows_what_the_drum_gives(rt: HostRuntime) -> Result<(), Fail> {
 
 #[test]
 fn fails_with_each_call_of_the_drum(rt: HostRuntime) -> Result<(), Fail> {
-    for number in 1..4 {
+    for number in [1, 128, 129, 130, 383, 384] {
         gives(&rt, rt.alloc(), &[number], &[], 7, Err(DrumFault))?;
     }
-    gives(&rt, rt.alloc(), &[4], &[], 7, Ok(()))
+    gives(&rt, rt.alloc(), &[385], &[], 7, Ok(()))
 }

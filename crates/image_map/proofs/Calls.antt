@@ -9,8 +9,8 @@ use Rattle.drum_slots.specs.Keys.{key}
 use Rattle.drum_slots.specs.Slots.{slot_of, first_free}
 use Rattle.image_map.proofs.Moves.{eq_yes, eq_no}
 use Rattle.medium.specs.Medium.{write_call}
-use Rattle.plan_model.specs.Loads.{owner_of}
-use Rattle.image_map.specs.Loads.{BlockMap, dumped, emptied, taken, load_one, fetch_calls, dump_calls, load_to, calls_one, calls_to, with_calls, cut, FailedIn}
+use Rattle.onion_swap.specs.Places.{owner_of, base_of}
+use Rattle.image_map.specs.Loads.{BlockMap, dumped, emptied, put_to, put_calls_one, put_calls_to, taken, load_one, fetch_calls, dump_calls, load_to, calls_one, calls_to, with_calls, cut, FailedIn}
 
 pub with_calls-append : (told : Option CallList) (one two : List Call) → with_calls told (one ++ two) ≡ with_calls (with_calls told one) two
 with_calls-append told [] two = refl
@@ -40,46 +40,46 @@ either_way (Ok x) A B P a b f g = f refl a
 either_way (Err e) A B P a b f g = g b
 
 -- a dump failed
-pub dump_failed : (quotas : List ℕ) (h : BlockMap) (u b : ℕ) (ws : List ℕ) (old new : Option CallList) → owner_of h.owners b ≢ u → owner_of h.owners b ≢ 0
-    → new ≡ with_call old (record { is_write = true; at = first_free h.free; failed = true; words = [] }) → FailedIn old new (calls_one quotas h u b ws)
-dump_failed quotas h u b ws old new other some is =
-    let e : calls_one quotas h u b ws ≡ write_call (first_free h.free) false ∷ fetch_calls (slot_of (emptied quotas h b).slots (key quotas u b)) ws = rw (eq_no _ _ other, eq_no _ _ some) refl in
+pub dump_failed : (quotas bases : List ℕ) (h : BlockMap) (u b : ℕ) (ws : List ℕ) (old new : Option CallList) → owner_of h.owners (base_of bases u + b) ≢ u → owner_of h.owners (base_of bases u + b) ≢ 0
+    → new ≡ with_call old (record { is_write = true; at = first_free h.free; failed = true; words = [] }) → FailedIn old new (calls_one quotas bases h u b ws)
+dump_failed quotas bases h u b ws old new other some is =
+    let e : calls_one quotas bases h u b ws ≡ write_call (first_free h.free) false ∷ fetch_calls (slot_of (emptied quotas bases h (base_of bases u + b)).slots (key quotas u b)) ws = rw (eq_no _ _ other, eq_no _ _ some) refl in
     subst (λ (l : List Call). FailedIn old new l) (sym e) (0, (omega arith, is))
 
 -- a read failed
-pub fetch_failed : (quotas : List ℕ) (h : BlockMap) (u b at : ℕ) (ws : List ℕ) (old mid new : Option CallList) → owner_of h.owners b ≢ u
-    → mid ≡ with_calls old (dump_calls h b) → slot_of (emptied quotas h b).slots (key quotas u b) ≡ Some at
-    → new ≡ with_call mid (record { is_write = false; at = at; failed = true; words = [] }) → FailedIn old new (calls_one quotas h u b ws)
-fetch_failed quotas h u b at ws old mid new other so_far slot is =
+pub fetch_failed : (quotas bases : List ℕ) (h : BlockMap) (u b at : ℕ) (ws : List ℕ) (old mid new : Option CallList) → owner_of h.owners (base_of bases u + b) ≢ u
+    → mid ≡ with_calls old (dump_calls h (base_of bases u + b)) → slot_of (emptied quotas bases h (base_of bases u + b)).slots (key quotas u b) ≡ Some at
+    → new ≡ with_call mid (record { is_write = false; at = at; failed = true; words = [] }) → FailedIn old new (calls_one quotas bases h u b ws)
+fetch_failed quotas bases h u b at ws old mid new other so_far slot is =
     let call : Call = record { is_write = false; at = at; failed = false; words = ws } in
     let bad : Call = record { is_write = false; at = at; failed = true; words = [] } in
-    let one : calls_one quotas h u b ws ≡ dump_calls h b ++ fetch_calls (slot_of (emptied quotas h b).slots (key quotas u b)) ws = rw (eq_no _ _ other) refl in
-    let e : calls_one quotas h u b ws ≡ dump_calls h b ++ call ∷ [] = one ∙ ap (λ (o : Option ℕ). dump_calls h b ++ fetch_calls o ws) slot in
-    let found = cut_at (dump_calls h b) (call ∷ []) 0 in
-    let len : length (dump_calls h b ++ call ∷ []) ≡ length (dump_calls h b) + 1 = length-append (dump_calls h b) (call ∷ []) in
-    let inside : found.0 < length (dump_calls h b ++ call ∷ []) = omega (arith, found.1.0) in
-    let made : new ≡ with_calls old (cut (dump_calls h b ++ call ∷ []) found.0) =
-    is ∙ ap (λ (o : Option CallList). with_call o bad) so_far ∙ sym (with_calls-append old (dump_calls h b) (bad ∷ [])) ∙ ap (λ (l : List Call). with_calls old l) (sym found.1.1) in
+    let one : calls_one quotas bases h u b ws ≡ dump_calls h (base_of bases u + b) ++ fetch_calls (slot_of (emptied quotas bases h (base_of bases u + b)).slots (key quotas u b)) ws = rw (eq_no _ _ other) refl in
+    let e : calls_one quotas bases h u b ws ≡ dump_calls h (base_of bases u + b) ++ call ∷ [] = one ∙ ap (λ (o : Option ℕ). dump_calls h (base_of bases u + b) ++ fetch_calls o ws) slot in
+    let found = cut_at (dump_calls h (base_of bases u + b)) (call ∷ []) 0 in
+    let len : length (dump_calls h (base_of bases u + b) ++ call ∷ []) ≡ length (dump_calls h (base_of bases u + b)) + 1 = length-append (dump_calls h (base_of bases u + b)) (call ∷ []) in
+    let inside : found.0 < length (dump_calls h (base_of bases u + b) ++ call ∷ []) = omega (arith, found.1.0) in
+    let made : new ≡ with_calls old (cut (dump_calls h (base_of bases u + b) ++ call ∷ []) found.0) =
+    is ∙ ap (λ (o : Option CallList). with_call o bad) so_far ∙ sym (with_calls-append old (dump_calls h (base_of bases u + b)) (bad ∷ [])) ∙ ap (λ (l : List Call). with_calls old l) (sym found.1.1) in
     subst (λ (l : List Call). FailedIn old new l) (sym e) (found.0, (inside, made))
 
 some_from : (o : Option ℕ) → IsSome o → (at : ℕ) × (o ≡ Some at)
 some_from None is = let no : false ≡ true = is in absurd (cc)
 some_from (Some at) is = (at, refl)
 
-pub fetch_failed_from : (quotas : List ℕ) (h : BlockMap) (u b : ℕ) (ws : List ℕ) (old mid new : Option CallList) (hm : BlockMap) (qm : List ℕ) → owner_of h.owners b ≢ u
-    → hm ≡ emptied quotas h b → qm ≡ quotas → mid ≡ with_calls old (dump_calls h b) → IsSome (slot_of hm.slots (key qm u b))
+pub fetch_failed_from : (quotas bases : List ℕ) (h : BlockMap) (u b : ℕ) (ws : List ℕ) (old mid new : Option CallList) (hm : BlockMap) (qm : List ℕ) → owner_of h.owners (base_of bases u + b) ≢ u
+    → hm ≡ emptied quotas bases h (base_of bases u + b) → qm ≡ quotas → mid ≡ with_calls old (dump_calls h (base_of bases u + b)) → IsSome (slot_of hm.slots (key qm u b))
     → ((at : ℕ) → slot_of hm.slots (key qm u b) ≡ Some at → new ≡ with_call mid (record { is_write = false; at = at; failed = true; words = [] }))
-    → FailedIn old new (calls_one quotas h u b ws)
-fetch_failed_from quotas h u b ws old mid new hm qm other held same so_far kept is =
+    → FailedIn old new (calls_one quotas bases h u b ws)
+fetch_failed_from quotas bases h u b ws old mid new hm qm other held same so_far kept is =
     let found = some_from (slot_of hm.slots (key qm u b)) kept in
-    fetch_failed quotas h u b found.0 ws old mid new other so_far ((λ j. slot_of (sym held j).slots (key (sym same j) u b)) ∙ found.1) (is found.0 found.1)
+    fetch_failed quotas bases h u b found.0 ws old mid new other so_far ((λ j. slot_of (sym held j).slots (key (sym same j) u b)) ∙ found.1) (is found.0 found.1)
 
 -- what a dump leaves, where the block has another owner or none
-pub emptied_none : (quotas : List ℕ) (h : BlockMap) (b : ℕ) → owner_of h.owners b ≡ 0 → emptied quotas h b ≡ h
-emptied_none quotas h b is = rw (eq_yes _ _ is) refl
+pub emptied_none : (quotas bases : List ℕ) (h : BlockMap) (b : ℕ) → owner_of h.owners b ≡ 0 → emptied quotas bases h b ≡ h
+emptied_none quotas bases h b is = rw (eq_yes _ _ is) refl
 
-pub emptied_some : (quotas : List ℕ) (h : BlockMap) (b : ℕ) → owner_of h.owners b ≢ 0 → emptied quotas h b ≡ dumped quotas h (owner_of h.owners b) b
-emptied_some quotas h b is = rw (eq_no _ _ is) refl
+pub emptied_some : (quotas bases : List ℕ) (h : BlockMap) (b : ℕ) → owner_of h.owners b ≢ 0 → emptied quotas bases h b ≡ dumped quotas bases h (owner_of h.owners b) b
+emptied_some quotas bases h b is = rw (eq_no _ _ is) refl
 
 pub dump_calls_none : (h : BlockMap) (b : ℕ) → owner_of h.owners b ≡ 0 → dump_calls h b ≡ []
 dump_calls_none h b is = rw (eq_yes _ _ is) refl
@@ -88,113 +88,164 @@ pub dump_calls_some : (h : BlockMap) (b : ℕ) → owner_of h.owners b ≢ 0 →
 dump_calls_some h b is = rw (eq_no _ _ is) refl
 
 -- the calls of further blocks follow
-pub calls_more : (quotas : List ℕ) (h : BlockMap) (u m n : ℕ) (words : ℕ → List ℕ) → m ≤ n → (rest : List Call) × (calls_to quotas h u n words ≡ calls_to quotas h u m words ++ rest)
-calls_more quotas h u m zero words le =
+pub calls_more : (quotas bases : List ℕ) (h : BlockMap) (u m n : ℕ) (words : ℕ → List ℕ) → m ≤ n → (rest : List Call) × (calls_to quotas bases h u n words ≡ calls_to quotas bases h u m words ++ rest)
+calls_more quotas bases h u m zero words le =
     let e : m ≡ 0 = omega arith in
-    ([], ap (λ (k : ℕ). calls_to quotas h u k words) (sym e) ∙ sym (append-nil (calls_to quotas h u m words)))
-calls_more quotas h u m (suc n) words le = elim (cases_eq m (suc n)) [
-  | inl same ↦ ([], ap (λ (k : ℕ). calls_to quotas h u k words) (sym same) ∙ sym (append-nil (calls_to quotas h u m words)))
+    ([], ap (λ (k : ℕ). calls_to quotas bases h u k words) (sym e) ∙ sym (append-nil (calls_to quotas bases h u m words)))
+calls_more quotas bases h u m (suc n) words le = elim (cases_eq m (suc n)) [
+  | inl same ↦ ([], ap (λ (k : ℕ). calls_to quotas bases h u k words) (sym same) ∙ sym (append-nil (calls_to quotas bases h u m words)))
   | inr other ↦
       let below : m ≤ n = omega arith in
-      let one = calls_more quotas h u m n words below in
-      let last = calls_one quotas (load_to quotas h u n) u n (words n) in
-      (one.0 ++ last, ap (λ (l : List Call). l ++ last) one.1 ∙ append_assoc (calls_to quotas h u m words) one.0 last)
+      let one = calls_more quotas bases h u m n words below in
+      let last = calls_one quotas bases (load_to quotas bases h u n) u n (words (base_of bases u + n)) in
+      (one.0 ++ last, ap (λ (l : List Call). l ++ last) one.1 ∙ append_assoc (calls_to quotas bases h u m words) one.0 last)
 ]
 
--- the words of blocks from b on do not matter
-pub calls_same : (quotas : List ℕ) (h : BlockMap) (u b : ℕ) (one two : ℕ → List ℕ) → ((c : ℕ) → c < b → one c ≡ two c) → calls_to quotas h u b one ≡ calls_to quotas h u b two
-calls_same quotas h u zero one two same = refl
-calls_same quotas h u (suc b) one two same =
-    let front = calls_same quotas h u b one two (λ c below. same c (omega arith)) in
+-- the words of places from that of block b on do not matter
+pub calls_same : (quotas bases : List ℕ) (h : BlockMap) (u b : ℕ) (one two : ℕ → List ℕ) → ((c : ℕ) → c < b → one (base_of bases u + c) ≡ two (base_of bases u + c))
+    → calls_to quotas bases h u b one ≡ calls_to quotas bases h u b two
+calls_same quotas bases h u zero one two same = refl
+calls_same quotas bases h u (suc b) one two same =
+    let front = calls_same quotas bases h u b one two (λ c below. same c (omega arith)) in
     let last = same b (omega arith) in
-    λ i. front i ++ calls_one quotas (load_to quotas h u b) u b (last i)
+    λ i. front i ++ calls_one quotas bases (load_to quotas bases h u b) u b (last i)
 
--- a fault at block b is a fault in the whole list
-pub failed_on : (quotas : List ℕ) (h : BlockMap) (u b n : ℕ) (words : ℕ → List ℕ) (old now new : Option CallList)
-    → b < n → now ≡ with_calls old (calls_to quotas h u b words) → FailedIn now new (calls_one quotas (load_to quotas h u b) u b (words b))
-    → FailedIn old new (calls_to quotas h u n words)
-failed_on quotas h u b n words old now new below so_far fault =
-    let front = calls_to quotas h u b words in
-    let step = calls_one quotas (load_to quotas h u b) u b (words b) in
-    let more = calls_more quotas h u (suc b) n words (omega arith) in
-    let at = cut_at front step fault.0 in
-    let len : length (front ++ step) ≡ length front + length step = length-append front step in
-    let len2 : length ((front ++ step) ++ more.0) ≡ length (front ++ step) + length more.0 = length-append (front ++ step) more.0 in
-    let len3 : length (calls_to quotas h u n words) ≡ length ((front ++ step) ++ more.0) = ap (λ (l : List Call). length l) more.1 in
-    let inside : at.0 < length (front ++ step) = omega (arith, at.1.0, fault.1.0) in
-    let place : at.0 < length (calls_to quotas h u n words) = omega arith in
-    let cuts : cut (calls_to quotas h u n words) at.0 ≡ front ++ cut step fault.0 =
-    ap (λ (l : List Call). cut l at.0) more.1 ∙ cut-append_left (front ++ step) more.0 at.0 inside ∙ at.1.1 in (
+-- a fault in the first of some calls, and in those behind them
+
+pub failed_left : (one two : List Call) (old new : Option CallList) → FailedIn old new one → FailedIn old new (one ++ two)
+failed_left one two old new fault =
+    let len : length (one ++ two) ≡ length one + length two = length-append one two in
+    let place : fault.0 < length (one ++ two) = omega (arith, fault.1.0) in
+    (fault.0, (place, fault.1.1 ∙ ap (λ (l : List Call). with_calls old l) (sym (cut-append_left one two fault.0 fault.1.0))))
+
+pub failed_right : (one two : List Call) (old now new : Option CallList) → now ≡ with_calls old one → FailedIn now new two → FailedIn old new (one ++ two)
+failed_right one two old now new so_far fault =
+    let at = cut_at one two fault.0 in
+    let len : length (one ++ two) ≡ length one + length two = length-append one two in
+    let place : at.0 < length (one ++ two) = omega (arith, at.1.0, fault.1.0) in (
       at.0,
       (
         place,
-        fault.1.1 ∙ ap (λ (o : Option CallList). with_calls o (cut step fault.0)) so_far
-            ∙ sym (with_calls-append old front (cut step fault.0)) ∙ ap (λ (l : List Call). with_calls old l) (sym cuts),
+        fault.1.1 ∙ ap (λ (o : Option CallList). with_calls o (cut two fault.0)) so_far
+            ∙ sym (with_calls-append old one (cut two fault.0)) ∙ ap (λ (l : List Call). with_calls old l) (sym at.1.1),
       ),
     )
 
+-- a fault at block b is a fault in the whole list
+pub failed_on : (quotas bases : List ℕ) (h : BlockMap) (u b n : ℕ) (words : ℕ → List ℕ) (old now new : Option CallList)
+    → b < n → now ≡ with_calls old (calls_to quotas bases h u b words) → FailedIn now new (calls_one quotas bases (load_to quotas bases h u b) u b (words (base_of bases u + b)))
+    → FailedIn old new (calls_to quotas bases h u n words)
+failed_on quotas bases h u b n words old now new below so_far fault =
+    let front = calls_to quotas bases h u b words in
+    let step = calls_one quotas bases (load_to quotas bases h u b) u b (words (base_of bases u + b)) in
+    let more = calls_more quotas bases h u (suc b) n words (omega arith) in
+    subst (λ (l : List Call). FailedIn old new l) (sym more.1) (failed_left (front ++ step) more.0 old new (failed_right front step old now new so_far fault))
+
 -- the calls so far, seen through what they hold now
-so_far_is : (quotas : List ℕ) (h : BlockMap) (u b : ℕ) (one two : ℕ → List ℕ) (old mid : Option CallList)
-    → mid ≡ with_calls old (calls_to quotas h u b one) → ((c : ℕ) → c < b → two c ≡ one c) → mid ≡ with_calls old (calls_to quotas h u b two)
-so_far_is quotas h u b one two old mid so_far same = so_far ∙ ap (λ (l : List Call). with_calls old l) (sym (calls_same quotas h u b two one same))
+so_far_is : (quotas bases : List ℕ) (h : BlockMap) (u b : ℕ) (one two : ℕ → List ℕ) (old mid : Option CallList)
+    → mid ≡ with_calls old (calls_to quotas bases h u b one) → ((c : ℕ) → c < b → two (base_of bases u + c) ≡ one (base_of bases u + c)) → mid ≡ with_calls old (calls_to quotas bases h u b two)
+so_far_is quotas bases h u b one two old mid so_far same = so_far ∙ ap (λ (l : List Call). with_calls old l) (sym (calls_same quotas bases h u b two one same))
 
 -- one more block was loaded
-pub calls_step : (quotas : List ℕ) (h : BlockMap) (u b : ℕ) (one two : ℕ → List ℕ) (old mid new : Option CallList) (q : List ℕ) (hm : BlockMap)
-    → q ≡ quotas → hm ≡ load_to quotas h u b → mid ≡ with_calls old (calls_to quotas h u b one) → ((c : ℕ) → c < b → two c ≡ one c)
-    → new ≡ with_calls mid (calls_one q hm u b (two b)) → new ≡ with_calls old (calls_to quotas h u (b + 1) two)
-calls_step quotas h u b one two old mid new q hm same held so_far words is =
+pub calls_step : (quotas bases : List ℕ) (h : BlockMap) (u b : ℕ) (one two : ℕ → List ℕ) (old mid new : Option CallList) (q bs : List ℕ) (hm : BlockMap)
+    → q ≡ quotas → bs ≡ bases → hm ≡ load_to quotas bases h u b → mid ≡ with_calls old (calls_to quotas bases h u b one) → ((c : ℕ) → c < b → two (base_of bases u + c) ≡ one (base_of bases u + c))
+    → new ≡ with_calls mid (calls_one q bs hm u b (two (base_of bs u + b))) → new ≡ with_calls old (calls_to quotas bases h u (b + 1) two)
+calls_step quotas bases h u b one two old mid new q bs hm same based held so_far words is =
     is
-    ∙ (λ j. with_calls (so_far_is quotas h u b one two old mid so_far words j) (calls_one (same j) (held j) u b (two b)))
-    ∙ sym (with_calls-append old (calls_to quotas h u b two) (calls_one quotas (load_to quotas h u b) u b (two b)))
-    ∙ ap (λ (n : ℕ). with_calls old (calls_to quotas h u n two)) (sym (add-one b))
+    ∙ (λ j. with_calls (so_far_is quotas bases h u b one two old mid so_far words j) (calls_one (same j) (based j) (held j) u b (two (base_of (based j) u + b))))
+    ∙ sym (with_calls-append old (calls_to quotas bases h u b two) (calls_one quotas bases (load_to quotas bases h u b) u b (two (base_of bases u + b))))
+    ∙ ap (λ (n : ℕ). with_calls old (calls_to quotas bases h u n two)) (sym (add-one b))
 
 -- the load of one more block failed
-pub failed_step : (quotas : List ℕ) (h : BlockMap) (u b n : ℕ) (one two : ℕ → List ℕ) (old mid new : Option CallList) (q : List ℕ) (hm : BlockMap)
-    → q ≡ quotas → hm ≡ load_to quotas h u b → mid ≡ with_calls old (calls_to quotas h u b one) → ((c : ℕ) → c < b → two c ≡ one c) → b < n
-    → FailedIn mid new (calls_one q hm u b (two b)) → FailedIn old new (calls_to quotas h u n two)
-failed_step quotas h u b n one two old mid new q hm same held so_far words below fault =
-    failed_on quotas h u b n two old mid new below (so_far_is quotas h u b one two old mid so_far words)
-    (fault.0, ((subst (λ (l : List Call). fault.0 < length l) step fault.1.0), (fault.1.1 ∙ ap (λ (l : List Call). with_calls mid (cut l fault.0)) step)))
+pub failed_step : (quotas bases : List ℕ) (h : BlockMap) (u b n : ℕ) (one two : ℕ → List ℕ) (old mid new : Option CallList) (q bs : List ℕ) (hm : BlockMap)
+    → q ≡ quotas → bs ≡ bases → hm ≡ load_to quotas bases h u b → mid ≡ with_calls old (calls_to quotas bases h u b one) → ((c : ℕ) → c < b → two (base_of bases u + c) ≡ one (base_of bases u + c)) → b < n
+    → FailedIn mid new (calls_one q bs hm u b (two (base_of bs u + b))) → FailedIn old new (calls_to quotas bases h u n two)
+failed_step quotas bases h u b n one two old mid new q bs hm same based held so_far words below fault =
+    failed_on quotas bases h u b n two old mid new below (so_far_is quotas bases h u b one two old mid so_far words)
+    (subst (λ (l : List Call). FailedIn mid new l) step fault)
   where
-    step : calls_one q hm u b (two b) ≡ calls_one quotas (load_to quotas h u b) u b (two b)
-    step = λ j. calls_one (same j) (held j) u b (two b)
+    step : calls_one q bs hm u b (two (base_of bs u + b)) ≡ calls_one quotas bases (load_to quotas bases h u b) u b (two (base_of bases u + b))
+    step = λ j. calls_one (same j) (based j) (held j) u b (two (base_of (based j) u + b))
 
-taken_owners : (quotas : List ℕ) (h : BlockMap) (u b : ℕ) (o : Option ℕ) → (taken quotas h u b o).owners ≡ slice_set h.owners b u
-taken_owners quotas h u b None = refl
-taken_owners quotas h u b (Some r) = refl
+-- places of a user's own that go to the drum
 
-emptied_owners : (quotas : List ℕ) (h : BlockMap) (b c : ℕ) → c ≢ b → owner_of (emptied quotas h b).owners c ≡ owner_of h.owners c
-emptied_owners quotas h b c other = elim (cases_eq (owner_of h.owners b) 0) [
-  | inl none ↦ ap (λ (k : BlockMap). owner_of k.owners c) (emptied_none quotas h b none)
-  | inr some ↦ ap (λ (k : BlockMap). owner_of k.owners c) (emptied_some quotas h b some) ∙ get_or-set_other h.owners b c 0 0 other
-]
-
-emptied_length : (quotas : List ℕ) (h : BlockMap) (b : ℕ) → length (emptied quotas h b).owners ≡ length h.owners
-emptied_length quotas h b = elim (cases_eq (owner_of h.owners b) 0) [
-  | inl none ↦ ap (λ (k : BlockMap). length k.owners) (emptied_none quotas h b none)
-  | inr some ↦ ap (λ (k : BlockMap). length k.owners) (emptied_some quotas h b some) ∙ length-set h.owners b 0
-]
-
--- the block is the user's after that
-pub load_one_mine : (quotas : List ℕ) (h : BlockMap) (u b : ℕ) → b < length h.owners → owner_of (load_one quotas h u b).owners b ≡ u
-load_one_mine quotas h u b within = elim (cases_eq (owner_of h.owners b) u) [
-  | inl mine ↦ let e : load_one quotas h u b ≡ h = rw (eq_yes _ _ mine) refl in ap (λ (k : BlockMap). owner_of k.owners b) e ∙ mine
+pub put_calls_more : (quotas bases : List ℕ) (h : BlockMap) (u m n : ℕ) → m ≤ n → (rest : List Call) × (put_calls_to quotas bases h u n ≡ put_calls_to quotas bases h u m ++ rest)
+put_calls_more quotas bases h u m zero le =
+    let e : m ≡ 0 = omega arith in
+    ([], ap (λ (k : ℕ). put_calls_to quotas bases h u k) (sym e) ∙ sym (append-nil (put_calls_to quotas bases h u m)))
+put_calls_more quotas bases h u m (suc n) le = elim (cases_eq m (suc n)) [
+  | inl same ↦ ([], ap (λ (k : ℕ). put_calls_to quotas bases h u k) (sym same) ∙ sym (append-nil (put_calls_to quotas bases h u m)))
   | inr other ↦
-      let o = slot_of (emptied quotas h b).slots (key quotas u b) in
-      let e : load_one quotas h u b ≡ taken quotas (emptied quotas h b) u b o = rw (eq_no _ _ other) refl in
-      let inside : b < length (emptied quotas h b).owners = omega (arith, emptied_length quotas h b) in
-      ap (λ (k : BlockMap). owner_of k.owners b) e ∙ ap (λ (l : List ℕ). owner_of l b) (taken_owners quotas (emptied quotas h b) u b o) ∙ get_or-set_same (emptied quotas h b).owners b u 0 inside
+      let below : m ≤ n = omega arith in
+      let one = put_calls_more quotas bases h u m n below in
+      let last = put_calls_one (put_to quotas bases h u n) u n in
+      (one.0 ++ last, ap (λ (l : List Call). l ++ last) one.1 ∙ append_assoc (put_calls_to quotas bases h u m) one.0 last)
 ]
 
--- the other blocks keep their owners
-pub load_one_other : (quotas : List ℕ) (h : BlockMap) (u b c : ℕ) → c ≢ b → owner_of (load_one quotas h u b).owners c ≡ owner_of h.owners c
-load_one_other quotas h u b c away = elim (cases_eq (owner_of h.owners b) u) [
-  | inl mine ↦ let e : load_one quotas h u b ≡ h = rw (eq_yes _ _ mine) refl in ap (λ (k : BlockMap). owner_of k.owners c) e
+-- to put one failed
+pub put_failed : (h : BlockMap) (u q : ℕ) (old new : Option CallList) → owner_of h.owners q ≡ u
+    → new ≡ with_call old (record { is_write = true; at = first_free h.free; failed = true; words = [] }) → FailedIn old new (put_calls_one h u q)
+put_failed h u q old new mine is =
+    let e : put_calls_one h u q ≡ write_call (first_free h.free) false ∷ [] = rw (eq_yes _ _ mine) refl in
+    subst (λ (l : List Call). FailedIn old new l) (sym e) (0, (omega arith, is))
+
+-- one more place was put
+pub put_calls_step : (quotas bases : List ℕ) (h : BlockMap) (u q : ℕ) (old mid new : Option CallList) (hm : BlockMap)
+    → hm ≡ put_to quotas bases h u q → mid ≡ with_calls old (put_calls_to quotas bases h u q)
+    → new ≡ with_calls mid (put_calls_one hm u q) → new ≡ with_calls old (put_calls_to quotas bases h u (q + 1))
+put_calls_step quotas bases h u q old mid new hm held so_far is =
+    is
+    ∙ (λ j. with_calls (so_far j) (put_calls_one (held j) u q))
+    ∙ sym (with_calls-append old (put_calls_to quotas bases h u q) (put_calls_one (put_to quotas bases h u q) u q))
+    ∙ ap (λ (n : ℕ). with_calls old (put_calls_to quotas bases h u n)) (sym (add-one q))
+
+-- to put one more place failed
+pub put_failed_step : (quotas bases : List ℕ) (h : BlockMap) (u q n : ℕ) (old mid new : Option CallList) (hm : BlockMap)
+    → hm ≡ put_to quotas bases h u q → mid ≡ with_calls old (put_calls_to quotas bases h u q) → q < n
+    → FailedIn mid new (put_calls_one hm u q) → FailedIn old new (put_calls_to quotas bases h u n)
+put_failed_step quotas bases h u q n old mid new hm held so_far below fault =
+    let front = put_calls_to quotas bases h u q in
+    let step = put_calls_one (put_to quotas bases h u q) u q in
+    let more = put_calls_more quotas bases h u (suc q) n (omega arith) in
+    let here : FailedIn mid new step = subst (λ (k : BlockMap). FailedIn mid new (put_calls_one k u q)) held fault in
+    subst (λ (l : List Call). FailedIn old new l) (sym more.1) (failed_left (front ++ step) more.0 old new (failed_right front step old mid new so_far here))
+
+taken_owners : (quotas bases : List ℕ) (h : BlockMap) (u b : ℕ) (o : Option ℕ) → (taken quotas bases h u b o).owners ≡ slice_set h.owners (base_of bases u + b) u
+taken_owners quotas bases h u b None = refl
+taken_owners quotas bases h u b (Some r) = refl
+
+emptied_owners : (quotas bases : List ℕ) (h : BlockMap) (q r : ℕ) → r ≢ q → owner_of (emptied quotas bases h q).owners r ≡ owner_of h.owners r
+emptied_owners quotas bases h q r other = elim (cases_eq (owner_of h.owners q) 0) [
+  | inl none ↦ ap (λ (k : BlockMap). owner_of k.owners r) (emptied_none quotas bases h q none)
+  | inr some ↦ ap (λ (k : BlockMap). owner_of k.owners r) (emptied_some quotas bases h q some) ∙ get_or-set_other h.owners q r 0 0 other
+]
+
+emptied_length : (quotas bases : List ℕ) (h : BlockMap) (q : ℕ) → length (emptied quotas bases h q).owners ≡ length h.owners
+emptied_length quotas bases h q = elim (cases_eq (owner_of h.owners q) 0) [
+  | inl none ↦ ap (λ (k : BlockMap). length k.owners) (emptied_none quotas bases h q none)
+  | inr some ↦ ap (λ (k : BlockMap). length k.owners) (emptied_some quotas bases h q some) ∙ length-set h.owners q 0
+]
+
+-- the block is in core after that
+pub load_one_mine : (quotas bases : List ℕ) (h : BlockMap) (u b : ℕ) → base_of bases u + b < length h.owners → owner_of (load_one quotas bases h u b).owners (base_of bases u + b) ≡ u
+load_one_mine quotas bases h u b inside = elim (cases_eq (owner_of h.owners (base_of bases u + b)) u) [
+  | inl mine ↦ let e : load_one quotas bases h u b ≡ h = rw (eq_yes _ _ mine) refl in ap (λ (k : BlockMap). owner_of k.owners (base_of bases u + b)) e ∙ mine
   | inr other ↦
-      let o = slot_of (emptied quotas h b).slots (key quotas u b) in
-      let e : load_one quotas h u b ≡ taken quotas (emptied quotas h b) u b o = rw (eq_no _ _ other) refl in
-      ap (λ (k : BlockMap). owner_of k.owners c) e ∙ ap (λ (l : List ℕ). owner_of l c) (taken_owners quotas (emptied quotas h b) u b o)
-      ∙ get_or-set_other (emptied quotas h b).owners b c u 0 away ∙ emptied_owners quotas h b c away
+      let o = slot_of (emptied quotas bases h (base_of bases u + b)).slots (key quotas u b) in
+      let e : load_one quotas bases h u b ≡ taken quotas bases (emptied quotas bases h (base_of bases u + b)) u b o = rw (eq_no _ _ other) refl in
+      let here : base_of bases u + b < length (emptied quotas bases h (base_of bases u + b)).owners = omega (arith, emptied_length quotas bases h (base_of bases u + b)) in
+      ap (λ (k : BlockMap). owner_of k.owners (base_of bases u + b)) e ∙ ap (λ (l : List ℕ). owner_of l (base_of bases u + b)) (taken_owners quotas bases (emptied quotas bases h (base_of bases u + b)) u b o) ∙ get_or-set_same (emptied quotas bases h (base_of bases u + b)).owners (base_of bases u + b) u 0 here
+]
+
+-- the other places keep their owners
+pub load_one_other : (quotas bases : List ℕ) (h : BlockMap) (u b r : ℕ) → r ≢ base_of bases u + b → owner_of (load_one quotas bases h u b).owners r ≡ owner_of h.owners r
+load_one_other quotas bases h u b r away = elim (cases_eq (owner_of h.owners (base_of bases u + b)) u) [
+  | inl mine ↦ let e : load_one quotas bases h u b ≡ h = rw (eq_yes _ _ mine) refl in ap (λ (k : BlockMap). owner_of k.owners r) e
+  | inr other ↦
+      let o = slot_of (emptied quotas bases h (base_of bases u + b)).slots (key quotas u b) in
+      let e : load_one quotas bases h u b ≡ taken quotas bases (emptied quotas bases h (base_of bases u + b)) u b o = rw (eq_no _ _ other) refl in
+      ap (λ (k : BlockMap). owner_of k.owners r) e ∙ ap (λ (l : List ℕ). owner_of l r) (taken_owners quotas bases (emptied quotas bases h (base_of bases u + b)) u b o)
+      ∙ get_or-set_other (emptied quotas bases h (base_of bases u + b)).owners (base_of bases u + b) r u 0 away ∙ emptied_owners quotas bases h (base_of bases u + b) r away
 ]
 
 -- where there is room, the calls are told
@@ -221,3 +272,13 @@ cut_length (c ∷ cs) (suc k) = omega (arith, cut_length cs k)
 pub failed-room : (l : CallList) (new : Option CallList) (all : List Call) → length all ≤ l.room → FailedIn (Some l) new all
     → (k : ℕ) × ((k < length all) × (new ≡ Some (record { made = l.made ++ cut all k; room = l.room - length (cut all k) })))
 failed-room l new all room fault = (fault.0, (fault.1.0, fault.1.1 ∙ with_calls-room l (cut all fault.0) (omega (arith, cut_length all fault.0))))
+
+-- what an answer says
+
+pub given_ok : {T E : Type 0} (r : Result T E) (A : Type 0) → OnOk r A → IsOk r → A
+given_ok (Ok x) A a is = a
+given_ok (Err e) A a is = let never : false ≡ true = is in absurd (cc)
+
+pub on_err_from : {T E : Type 0} (r : Result T E) (A P : Type 0) → OnErr r A → (A → P) → OnErr r P
+on_err_from (Ok x) A P a f = tt
+on_err_from (Err e) A P a f = f a

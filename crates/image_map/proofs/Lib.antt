@@ -1,11 +1,12 @@
 pub mod AsWas
 pub mod Calls
 pub mod Counted
-pub mod Counts
 pub mod Images
+pub mod Laid
 pub mod Loaded
 pub mod Moves
 pub mod Ports
+pub mod Put
 pub mod Resize
 pub mod Residents
 pub mod Room

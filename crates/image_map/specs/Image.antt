@@ -20,7 +20,7 @@ module _ {D : Type 0} {g : Ghosts D} where
   abbrev pub state : Image D g → ImageState
   state it = record {
     failed = it.failed;
-    owners = it.tables.owners;
+    layout = it.tables.owners;
     slots = it.tables.kept.slots;
     sizes = it.tables.sizes.items;
     words = it.bank;

@@ -5,5 +5,5 @@ pub mod Loads
 pub mod Places
 pub mod Residents
 pub mod Room
-pub mod Sizes
 pub mod State
+pub mod Windows

@@ -1,12 +1,13 @@
--- claim: what a load does to owners, slots and free records, and which calls of the drum it makes.
-use Rattle.std.specs.Prelude.{◌≡◌, ℕ, zero, suc, ◌+◌, ◌<◌, Bool, true, false, nat_eq, if◌then◌else◌, List, [], ◌∷◌, ◌++◌, length, slice_set, Option, None, Some}
+-- claim: what a load does to bases, owners, slots and free records, and which calls of the drum it makes.
+use Rattle.std.specs.Prelude.{◌≡◌, ℕ, zero, suc, ◌+◌, ◌-◌, ◌<◌, Bool, true, false, nat_eq, if◌then◌else◌, List, [], ◌∷◌, ◌++◌, length, slice_set, Option, None, Some}
 use Rattle.medium.specs.Medium.{Call, CallList, with_call, read_call, write_call}
 use Rattle.drum_slots.specs.declared.slots.Slots.{Slots}
 use Rattle.drum_slots.specs.Keys.{key}
 use Rattle.drum_slots.specs.Slots.{slot_of, first_free}
-use Rattle.plan_model.specs.Loads.{owner_of}
+use Rattle.onion_swap.specs.Places.{owner_of, base_of}
+use Rattle.plan_model.specs.Loads.{core_places}
 
--- who owns which block, which record keeps which copy, and which records are free
+-- who owns which place, which record keeps which copy, and which records are free
 pub record BlockMap : Type 0 where
   pub owners : List ℕ
   pub slots : List (Option ℕ)
@@ -15,41 +16,58 @@ pub record BlockMap : Type 0 where
 abbrev pub block_map_of : List ℕ → Slots → BlockMap
 block_map_of owners s = record { owners = owners; slots = s.slots.items; free = s.free.items }
 
--- a block of user v goes to the least free record
-abbrev pub dumped : List ℕ → BlockMap → ℕ → ℕ → BlockMap
-dumped quotas h v b = record {
-  owners = slice_set h.owners b 0;
-  slots = slice_set h.slots (key quotas v b) (Some (first_free h.free));
+-- the block of user v at a place goes to the least free record
+abbrev pub dumped : (quotas bases : List ℕ) → BlockMap → ℕ → ℕ → BlockMap
+dumped quotas bases h v q = record {
+  owners = slice_set h.owners q 0;
+  slots = slice_set h.slots (key quotas v (q - base_of bases v)) (Some (first_free h.free));
   free = slice_set h.free (first_free h.free) false;
 }
 
--- user u takes a block; its copy, if it has one, is kept no more and its record is free
-abbrev pub taken : List ℕ → BlockMap → ℕ → ℕ → Option ℕ → BlockMap
-taken quotas h u b None = record { owners = slice_set h.owners b u; slots = h.slots; free = h.free }
-taken quotas h u b (Some r) = record {
-  owners = slice_set h.owners b u;
+-- the first part, where a user is to lie elsewhere: a place of its own goes to the drum
+abbrev pub put_one : (quotas bases : List ℕ) → BlockMap → ℕ → ℕ → BlockMap
+put_one quotas bases h u q = if nat_eq (owner_of h.owners q) u then dumped quotas bases h u q else h
+
+-- its places below q do, in rising order
+abbrev pub put_to : (quotas bases : List ℕ) → BlockMap → ℕ → ℕ → BlockMap
+put_to quotas bases h u zero = h
+put_to quotas bases h u (suc q) = put_one quotas bases (put_to quotas bases h u q) u q
+
+-- the calls for that
+abbrev pub put_calls_one : BlockMap → ℕ → ℕ → List Call
+put_calls_one h u q = if nat_eq (owner_of h.owners q) u then write_call (first_free h.free) false ∷ [] else []
+
+abbrev pub put_calls_to : (quotas bases : List ℕ) → BlockMap → ℕ → ℕ → List Call
+put_calls_to quotas bases h u zero = []
+put_calls_to quotas bases h u (suc q) = put_calls_to quotas bases h u q ++ put_calls_one (put_to quotas bases h u q) u q
+
+-- the second part: user u takes the place of its block; its copy, if it has one, is kept no more and its record is free
+abbrev pub taken : (quotas bases : List ℕ) → BlockMap → ℕ → ℕ → Option ℕ → BlockMap
+taken quotas bases h u b None = record { owners = slice_set h.owners (base_of bases u + b) u; slots = h.slots; free = h.free }
+taken quotas bases h u b (Some r) = record {
+  owners = slice_set h.owners (base_of bases u + b) u;
   slots = slice_set h.slots (key quotas u b) None;
   free = slice_set h.free r true;
 }
 
--- a block goes to the drum if it has an owner
-abbrev pub emptied : List ℕ → BlockMap → ℕ → BlockMap
-emptied quotas h b = if nat_eq (owner_of h.owners b) 0 then h else dumped quotas h (owner_of h.owners b) b
+-- what lies at a place goes to the drum if it has an owner
+abbrev pub emptied : (quotas bases : List ℕ) → BlockMap → ℕ → BlockMap
+emptied quotas bases h q = if nat_eq (owner_of h.owners q) 0 then h else dumped quotas bases h (owner_of h.owners q) q
 
--- one block is loaded, if it isn't the user's own
-abbrev pub load_one : List ℕ → BlockMap → ℕ → ℕ → BlockMap
-load_one quotas h u b =
-    if nat_eq (owner_of h.owners b) u then h
-    else taken quotas (emptied quotas h b) u b (slot_of (emptied quotas h b).slots (key quotas u b))
+-- one block is loaded, if it isn't in core
+abbrev pub load_one : (quotas bases : List ℕ) → BlockMap → ℕ → ℕ → BlockMap
+load_one quotas bases h u b =
+    if nat_eq (owner_of h.owners (base_of bases u + b)) u then h
+    else taken quotas bases (emptied quotas bases h (base_of bases u + b)) u b (slot_of (emptied quotas bases h (base_of bases u + b)).slots (key quotas u b))
 
 -- the blocks below n are loaded, in rising order
-abbrev pub load_to : List ℕ → BlockMap → ℕ → ℕ → BlockMap
-load_to quotas h u zero = h
-load_to quotas h u (suc b) = load_one quotas (load_to quotas h u b) u b
+abbrev pub load_to : (quotas bases : List ℕ) → BlockMap → ℕ → ℕ → BlockMap
+load_to quotas bases h u zero = h
+load_to quotas bases h u (suc b) = load_one quotas bases (load_to quotas bases h u b) u b
 
--- the calls for a block that goes to the drum, if it has an owner
+-- the calls for what lies at a place and goes to the drum, if it has an owner
 abbrev pub dump_calls : BlockMap → ℕ → List Call
-dump_calls h b = if nat_eq (owner_of h.owners b) 0 then [] else write_call (first_free h.free) false ∷ []
+dump_calls h q = if nat_eq (owner_of h.owners q) 0 then [] else write_call (first_free h.free) false ∷ []
 
 -- the calls for a block that comes from the drum, if it has a copy; the read gives these words
 abbrev pub fetch_calls : Option ℕ → List ℕ → List Call
@@ -57,15 +75,28 @@ fetch_calls None ws = []
 fetch_calls (Some r) ws = read_call r false ws ∷ []
 
 -- the calls for one block
-abbrev pub calls_one : List ℕ → BlockMap → ℕ → ℕ → List ℕ → List Call
-calls_one quotas h u b ws =
-    if nat_eq (owner_of h.owners b) u then []
-    else dump_calls h b ++ fetch_calls (slot_of (emptied quotas h b).slots (key quotas u b)) ws
+abbrev pub calls_one : (quotas bases : List ℕ) → BlockMap → ℕ → ℕ → List ℕ → List Call
+calls_one quotas bases h u b ws =
+    if nat_eq (owner_of h.owners (base_of bases u + b)) u then []
+    else dump_calls h (base_of bases u + b) ++ fetch_calls (slot_of (emptied quotas bases h (base_of bases u + b)).slots (key quotas u b)) ws
 
--- the calls for the blocks below n, in rising order; a read of a block gives the words that are told of it
-abbrev pub calls_to : List ℕ → BlockMap → ℕ → ℕ → (ℕ → List ℕ) → List Call
-calls_to quotas h u zero words = []
-calls_to quotas h u (suc b) words = calls_to quotas h u b words ++ calls_one quotas (load_to quotas h u b) u b (words b)
+-- the calls for the blocks below n, in rising order; a read of a block gives the words that are told of its place
+abbrev pub calls_to : (quotas bases : List ℕ) → BlockMap → ℕ → ℕ → (ℕ → List ℕ) → List Call
+calls_to quotas bases h u zero words = []
+calls_to quotas bases h u (suc b) words = calls_to quotas bases h u b words ++ calls_one quotas bases (load_to quotas bases h u b) u b (words (base_of bases u + b))
+
+-- both parts, of which the first is nothing where the user stays: its n blocks lie from a place on then
+abbrev pub map_before : (quotas bases : List ℕ) → BlockMap → ℕ → (stays : Bool) → BlockMap
+map_before quotas bases h u true = h
+map_before quotas bases h u false = put_to quotas bases h u core_places
+
+abbrev pub bases_before : List ℕ → ℕ → (stays : Bool) → ℕ → List ℕ
+bases_before bases u true base = bases
+bases_before bases u false base = slice_set bases u base
+
+abbrev pub calls_before : (quotas bases : List ℕ) → BlockMap → ℕ → (stays : Bool) → List Call
+calls_before quotas bases h u true = []
+calls_before quotas bases h u false = put_calls_to quotas bases h u core_places
 
 -- several calls more
 abbrev pub with_calls : Option CallList → List Call → Option CallList

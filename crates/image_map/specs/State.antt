@@ -1,5 +1,5 @@
 -- proof: what images show, and what each call does to it.
-use Rattle.std.specs.Prelude.{◌≡◌, ◌≢◌, ℕ, ◌≤◌, ◌+◌, ◌∷◌, replicate, None, Bool, true, false, List, length, slice_set, Option, Result, IfOk, OnErr}
+use Rattle.std.specs.Prelude.{◌≡◌, ◌≢◌, ◌⊎◌, ℕ, ◌≤◌, ◌<◌, ◌+◌, ◌∷◌, ◌++◌, replicate, None, Bool, true, false, List, length, slice_set, Option, Result, IfOk, OnErr}
 use Rattle.std.specs.Borrow.{GName}
 use Rattle.faults.specs.Faults.{Rose}
 use Rattle.medium.specs.Medium.{Call, CallList}
@@ -9,10 +9,11 @@ use Rattle.drum_slots.specs.Table.{records_of, quota_in, slots_of}
 use Rattle.drum_slots.specs.Slots.{slot_of}
 use Rattle.drum_slots.specs.declared.slots.Slots.{Slots}
 use Rattle.onion_swap.specs.declared.Plan.{Plan}
-use Rattle.plan_model.specs.Loads.{Places, count_below, is_dumped, is_read, is_fresh, loaded, given_up}
+use Rattle.onion_swap.specs.Places.{Layout, first_layout, base_of}
+use Rattle.plan_model.specs.Loads.{Places, stays, is_moved, base_for, dumps, reads, clears, loaded, given_up}
 use Rattle.image_map.specs.Images as images
 use Rattle.image_map.specs.Images.{image_in, resized, IsResident}
-use Rattle.image_map.specs.Loads.{BlockMap, block_map_of, load_to, calls_to, with_calls, count_writes, count_reads, FailedIn}
+use Rattle.image_map.specs.Loads.{BlockMap, block_map_of, load_to, calls_to, map_before, bases_before, calls_before, with_calls, count_writes, count_reads, FailedIn}
 use Rattle.image_map.specs.Places.{places_of}
 
 -- which drum it is, its records, its calls where told, and how many of them failed
@@ -24,10 +25,10 @@ pub record DrumState : Type 0 where
   pub calls : Option CallList
   pub faults : ℕ
 
--- whether a load has failed, who owns which block, which copies are kept, sizes, the words of core, and the drum
+-- whether a load has failed, who owns which place and where users' blocks lie, which copies are kept, sizes, the words of core, and the drum
 pub record ImageState : Type 0 where
   pub failed : Bool
-  pub owners : List ℕ
+  pub layout : Layout
   pub slots : Slots
   pub sizes : List ℕ
   pub words : List ℕ
@@ -35,7 +36,7 @@ pub record ImageState : Type 0 where
 
 -- a user's image, where the drum tells its records
 abbrev pub image : ImageState → ℕ → Option (List (List ℕ))
-image s user = image_in s.words s.drum.contents s.owners s.slots s.sizes user
+image s user = image_in s.words s.drum.contents s.layout s.slots s.sizes user
 
 abbrev pub size : ImageState → ℕ → ℕ
 size s user = images.size_of s.sizes user
@@ -44,14 +45,34 @@ abbrev pub quota : ImageState → ℕ → ℕ
 quota s user = quota_in s.slots user
 
 abbrev pub places_in : ImageState → Places
-places_in s = places_of s.owners s.slots
+places_in s = places_of s.layout s.slots
 
 abbrev pub block_map_in : ImageState → BlockMap
-block_map_in s = block_map_of s.owners s.slots
+block_map_in s = block_map_of s.layout.owners s.slots
+
+-- where a user's blocks lie, or would lie
+abbrev pub base : ImageState → ℕ → ℕ
+base s user = base_of s.layout.bases user
+
+-- whether they lie there in a load too, and where they lie behind it
+abbrev pub stays_in : ImageState → ℕ → Bool
+stays_in s user = stays (places_in s) user (size s user)
+
+abbrev pub new_base : ImageState → ℕ → ℕ
+new_base s user = base_for (places_in s) user (size s user)
+
+-- bases and block map as the second part of a load finds them
+abbrev pub bases_laid : ImageState → ℕ → List ℕ
+bases_laid s user = bases_before s.layout.bases user (stays_in s user) (new_base s user)
+
+abbrev pub map_laid : ImageState → ℕ → BlockMap
+map_laid s user = map_before s.slots.quotas.items s.layout.bases (block_map_in s) user (stays_in s user)
 
 -- the calls of a load; a read gives what stands in core behind it
 abbrev pub calls_of : ImageState → ImageState → ℕ → List Call
-calls_of old new user = calls_to old.slots.quotas.items (block_map_in old) user (size old user) (block_at new.words)
+calls_of old new user =
+    calls_before old.slots.quotas.items old.layout.bases (block_map_in old) user (stays_in old user)
+    ++ calls_to old.slots.quotas.items (bases_laid old user) (map_laid old user) user (size old user) (block_at new.words)
 
 -- no load has failed, the words of core are words, and the drum serves the slots
 pub record IsUsable (s : ImageState) : Type 0 where
@@ -62,7 +83,7 @@ pub record IsUsable (s : ImageState) : Type 0 where
 -- images of which no user has any block
 abbrev pub first_state : DrumState → Slots → List ℕ → List ℕ → ImageState
 first_state drum slots words sizes =
-    record { failed = false; owners = replicate 128 0; slots = slots; sizes = sizes; words = words; drum = drum }
+    record { failed = false; layout = first_layout; slots = slots; sizes = sizes; words = words; drum = drum }
 
 -- images over this drum at their beginning
 pub record IsFirst (drum : DrumState) (quotas : List ℕ) (s : ImageState) : Type 0 where
@@ -102,21 +123,24 @@ pub record LoadKeeps (user : ℕ) (old new : ImageState) : Type 0 where
   pub quotas : new.slots.quotas ≡ old.slots.quotas
   pub sizes : new.sizes ≡ old.sizes
   pub words : AreWords new.words
-  pub past : (b : ℕ) → size old user ≤ b → block_at new.words b ≡ block_at old.words b
+  pub outside : (q : ℕ) → (q < new_base old user) ⊎ (new_base old user + size old user ≤ q) → block_at new.words q ≡ block_at old.words q
   pub faults : old.drum.faults ≤ new.drum.faults
-  pub writes : count_writes (calls_of old new user) ≡ count_below (size old user) (is_dumped (places_in old) user)
-  pub reads : count_reads (calls_of old new user) ≡ count_below (size old user) (is_read (places_in old) user)
+  pub writes_are : count_writes (calls_of old new user) ≡ dumps (places_in old) user (size old user)
+  pub reads_are : count_reads (calls_of old new user) ≡ reads (places_in old) user (size old user)
 
 -- a load that is done: all images stay, the user is resident, and the calls were made
 pub record Loaded (user : ℕ) (plan : Plan) (old new : ImageState) : Type 0 where
   pub going : new.failed ≡ false
   pub images : (u : ℕ) → 1 ≤ u → image new u ≡ image old u
-  pub resident : IsResident new.owners (size old user) user
+  pub resident : IsResident new.layout (size old user) user
   pub places : places_in new ≡ loaded (places_in old) user (size old user)
-  pub block_map : block_map_in new ≡ load_to old.slots.quotas.items (block_map_in old) user (size old user)
-  pub dumped : plan.dumped ≡ count_below (size old user) (is_dumped (places_in old) user)
-  pub read : plan.read ≡ count_below (size old user) (is_read (places_in old) user)
-  pub fresh : plan.fresh ≡ count_below (size old user) (is_fresh (places_in old) user)
+  pub bases : new.layout.bases ≡ bases_laid old user
+  pub block_map : block_map_in new ≡ load_to old.slots.quotas.items (bases_laid old user) (map_laid old user) user (size old user)
+  pub base_is : plan.base ≡ new_base old user
+  pub moved : plan.moved ≡ is_moved (places_in old) user (size old user)
+  pub dumped : plan.dumped ≡ dumps (places_in old) user (size old user)
+  pub read : plan.read ≡ reads (places_in old) user (size old user)
+  pub fresh : plan.fresh ≡ clears (places_in old) user (size old user)
   pub calls : new.drum.calls ≡ with_calls old.drum.calls (calls_of old new user)
 
 -- a load that the drum didn't do: some of its calls were made, the last one failed, and images are lost

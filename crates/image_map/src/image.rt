@@ -1,5 +1,5 @@
 //! What each user has in core and on the drum.
-ghost use Rattle.std.specs.Prelude.{◌≡◌, ◌≢◌, ◌<◌, ◌≤◌, ◌+◌, ◌↔◌, ℕ, [], ◌∷◌, length, sum, true, false, None, Some, slice_set, replicate, is_err, IfOk, OnOk, OnErr, IsSome, IsTrue};
+ghost use Rattle.std.specs.Prelude.{◌≡◌, ◌≢◌, ◌⊎◌, ◌<◌, ◌≤◌, ◌+◌, ◌++◌, ◌↔◌, ℕ, [], ◌∷◌, length, sum, true, false, None, Some, slice_set, replicate, is_err, IfOk, OnOk, OnErr, IsSome, IsTrue};
 ghost use Rattle.std.specs.List.{All};
 ghost use Rattle.faults.specs.Faults.{Rose};
 ghost use Rattle.medium.specs.Medium.{read_call, write_call, with_call};
@@ -8,9 +8,10 @@ ghost use Rattle.drum_slots.specs.Kept.{Serves};
 ghost use Rattle.drum_slots.specs.Keys.{quota_of};
 ghost use Rattle.drum_slots.specs.Slots.{slot_of};
 ghost use Rattle.drum_slots.specs.Table.{slots_of, records_of, next_of, quota_in, record_of};
-ghost use Rattle.plan_model.specs.Loads.{owner_of, count_below, is_dumped, is_read, is_fresh, is_loaded, loaded, given_up};
+ghost use Rattle.onion_swap.specs.Places.{owner_of, base_of};
+ghost use Rattle.plan_model.specs.Loads.{core_places, stays, is_moved, base_for, dumps, reads, clears, is_loaded, loaded, given_up};
 ghost use Rattle.image_map.specs.Images.{size_of, image_in, resized, IsResident, IsImage};
-ghost use Rattle.image_map.specs.Loads.{block_map_of, dumped, taken, load_one, load_to, calls_one, calls_to, with_calls, count_writes, count_reads, FailedIn};
+ghost use Rattle.image_map.specs.Loads.{block_map_of, dumped, put_one, put_to, put_calls_one, put_calls_to, taken, load_one, load_to, calls_one, calls_to, map_before, bases_before, calls_before, with_calls, count_writes, count_reads, FailedIn};
 ghost use Rattle.image_map.specs.Places.{places_of};
 
 use crate::port::Port;
@@ -23,6 +24,8 @@ use medium::Medium;
 use onion_swap::{Owners, Plan};
 use std::alloc::Global;
 
+const CORE_PLACES: u8 = 128;
+
 /// Size 0 for number 0, which is nobody's, and for so many users.
 pub fn no_sizes(alloc: Global, users: usize) -> Result<Vec<u8>, NoMemory>
     requires { users ≤ 30 }
@@ -34,7 +37,7 @@ pub fn no_sizes(alloc: Global, users: usize) -> Result<Vec<u8>, NoMemory>
 /// The images of up to 30 users over a core and a drum that is handed in.
 ///
 /// A user's image is a list of blocks of 256 words, as many as its size, which is at most its quota.
-/// Each block lies in core, at the place of its number, where the user owns it; else in a record of
+/// Each block lies in core, at the place base + its number, where the user owns that; else in a record of
 /// the drum; and else it is plus zeros. Where the drum tells its records, clauses name the image by
 /// `image_in`. After a drum fault nothing but `failed`, `size`, `resident` and `back` may be asked.
 #[derive(Drop)]
@@ -51,11 +54,11 @@ struct Tables<'a, D: Medium> {
     owners: Owners,
     // By user number, so that of number 0, which is nobody's, is 0.
     sizes: Vec<u8>,
-    ghost sound: { IsImage owners kept.slots.slots.items kept.slots.quotas.items sizes.items },
+    ghost sound: { IsImage owners.bases owners.owners kept.slots.slots.items kept.slots.quotas.items sizes.items },
 }
 
 impl<'a, D: Medium> Image<'a, D> {
-    ghost use Rattle.image_map.specs.State.{size, quota, places_in, first_state, IsFirst};
+    ghost use Rattle.image_map.specs.State.{size, base, quota, places_in, first_state, IsFirst};
     ghost use Rattle.image_map.specs.Image.{state, seen, drum_of};
 
     /// Images of users 1, 2, 3 and on with these quotas, in blocks, over the first `records` records
@@ -142,15 +145,27 @@ impl<'a, D: Medium> Image<'a, D> {
         self.tables.sizes[user.number() as usize]
     }
 
+    /// Where a user's blocks lie in core. Of one that is resident all do, so that it ends within core.
+    pub fn base(&self, user: UserNo) -> u8
+        requires { user < length (state self.now).sizes }
+        ensures value { result ≡ base (state self.now) user }
+        ensures inside { is_loaded (places_in (state self.now)) user (size (state self.now) user) ≡ true
+            → result + size (state self.now) user ≤ 128 }
+    {
+        // So it is known that the number is not 0.
+        let _number = user.number();
+        self.tables.owners.place(user, 0)
+    }
+
     /// Whether all of a user's blocks are in core.
     pub fn resident(&self, user: UserNo) -> bool
         requires { user < length (state self.now).sizes }
         ensures owns { IsTrue result
-            ↔ IsResident (state self.now).owners (size (state self.now) user) user }
+            ↔ IsResident (state self.now).layout (size (state self.now) user) user }
         ensures value { result ≡ is_loaded (places_in (state self.now)) user (size (state self.now) user) }
     {
         'looking: for b in 0..self.tables.sizes[user.number() as usize] {
-            if self.tables.owners.owner(b) != user.number() {
+            if !self.tables.owners.has(user, b) {
                 return false;
             }
         }
@@ -161,7 +176,7 @@ impl<'a, D: Medium> Image<'a, D> {
 impl<'a, D: Medium> Image<'a, D> {
     ghost use Rattle.std.specs.Borrow.{sem, Lends};
     ghost use mir.Syntax.{named};
-    ghost use Rattle.image_map.specs.State.{size};
+    ghost use Rattle.image_map.specs.State.{size, base};
     ghost use Rattle.image_map.specs.Image.{state, with_words};
     ghost use Rattle.core_bank.specs.contracts.Bank.{the_row as bank_row};
     ghost use Rattle.image_map.specs.contracts.image.Image.{the_row as image_row};
@@ -182,16 +197,18 @@ impl<'a, D: Medium> Image<'a, D> {
     /// that matters hand `bank_mut` to a function that makes the port with `Port::over`.
     pub fn port(&mut self, user: UserNo) -> Port<'_>
         requires user { user < length (state self.old).sizes }
-        requires resident { IsResident (state self.old).owners (size (state self.old) user) user }
+        requires resident { IsResident (state self.old).layout (size (state self.old) user) user }
         requires words { AreWords (state self.old).words }
         ensures* lends { sem 𝓛 (Lends
             (image_row (record { mir = named 1; lft = [] }) D.row D.Medium) bank_row
             self.entry result.bank (with_words self.old)) }
         ensures now { result.bank.now ≡ (state self.old).words }
+        ensures base { result.base ≡ base (state self.old) user }
         ensures blocks { result.blocks ≡ size (state self.old) user }
     {
         let blocks = self.size(user);
-        Port::over(&mut self.bank, blocks)
+        let base = self.base(user);
+        Port::over(&mut self.bank, base, blocks)
     }
 }
 
@@ -199,11 +216,11 @@ impl<'a, D: Medium> Image<'a, D> {
     ghost use Rattle.image_map.specs.State.{quota, IsUsable, Resizes, Replaces, Loads};
     ghost use Rattle.image_map.specs.Image.{state, drum_of};
 
-    /// Writes a block to the drum, which its owner has no more in core then.
-    fn dump_block(&mut self, owner: UserNo, block: u8) -> Result<(), DrumFault>
+    /// Writes what lies at a place to the drum. The place has no owner then.
+    fn dump_block(&mut self, owner: UserNo, place: u8) -> Result<(), DrumFault>
         requires some { 1 ≤ owner }
-        requires block { block < 128 }
-        requires owned { owner_of self.old.tables.owners block ≡ owner }
+        requires place { place < 128 }
+        requires owned { owner_of self.old.tables.owners.owners place ≡ owner }
         requires words { AreWords self.old.bank }
         requires serves { Serves (D.contents self.old.tables.kept.drum.now)
             (D.record_count self.old.tables.kept.drum.now)
@@ -217,10 +234,11 @@ impl<'a, D: Medium> Image<'a, D> {
         ensures sizes { self.new.tables.sizes ≡ self.old.tables.sizes }
         ensures usable { self.new.failed ≡ self.old.failed }
         ensures bank { self.new.bank ≡ self.old.bank }
+        ensures bases { self.new.tables.owners.bases ≡ self.old.tables.owners.bases }
 
-        ensures block_map { OnOk result (block_map_of self.new.tables.owners self.new.tables.kept.slots
-            ≡ dumped self.old.tables.kept.slots.quotas.items
-            (block_map_of self.old.tables.owners self.old.tables.kept.slots) owner block) }
+        ensures block_map { OnOk result (block_map_of self.new.tables.owners.owners self.new.tables.kept.slots
+            ≡ dumped self.old.tables.kept.slots.quotas.items self.old.tables.owners.bases
+            (block_map_of self.old.tables.owners.owners self.old.tables.kept.slots) owner place) }
         ensures images { OnOk result ((u : ℕ) → 1 ≤ u
             → image_in self.new.bank (D.contents self.new.tables.kept.drum.now) self.new.tables.owners
             self.new.tables.kept.slots self.new.tables.sizes.items u
@@ -236,15 +254,18 @@ impl<'a, D: Medium> Image<'a, D> {
             (Rose (D.faults self.old.tables.kept.drum.now) (D.faults self.new.tables.kept.drum.now)) }
     {
         let tables = &mut self.tables;
-        tables.kept.put_block(owner, block, self.bank.block(block))?;
-        tables.owners.set(block, 0);
+        let block = tables.owners.block(owner, place);
+        tables.kept.put_block(owner, block, self.bank.block(place))?;
+        tables.owners.empty(place);
         Ok(())
     }
 
     /// Reads the copy of a user's block into core.
     fn fetch_block(&mut self, user: UserNo, block: u8) -> Result<(), DrumFault>
         requires inside { block < size_of self.old.tables.sizes.items user }
-        requires owned { owner_of self.old.tables.owners block ≡ 0 }
+        requires room { base_of self.old.tables.owners.bases user + block < 128 }
+        requires owned { owner_of self.old.tables.owners.owners
+            (base_of self.old.tables.owners.bases user + block) ≡ 0 }
         requires kept { IsSome (record_of self.old.tables.kept.slots user block) }
         requires words { AreWords self.old.bank }
         requires serves { Serves (D.contents self.old.tables.kept.drum.now)
@@ -259,13 +280,14 @@ impl<'a, D: Medium> Image<'a, D> {
         ensures sizes { self.new.tables.sizes ≡ self.old.tables.sizes }
         ensures usable { self.new.failed ≡ self.old.failed }
         ensures words { AreWords self.new.bank }
-        ensures others { (b : ℕ) → b ≢ block
-            → block_at self.new.bank b ≡ block_at self.old.bank b }
+        ensures bases { self.new.tables.owners.bases ≡ self.old.tables.owners.bases }
+        ensures others { (q : ℕ) → q ≢ base_of self.old.tables.owners.bases user + block
+            → block_at self.new.bank q ≡ block_at self.old.bank q }
 
         ensures block_map { (at : ℕ) → record_of self.old.tables.kept.slots user block ≡ Some at
-            → OnOk result (block_map_of self.new.tables.owners self.new.tables.kept.slots
-            ≡ taken self.old.tables.kept.slots.quotas.items
-            (block_map_of self.old.tables.owners self.old.tables.kept.slots) user block (Some at)) }
+            → OnOk result (block_map_of self.new.tables.owners.owners self.new.tables.kept.slots
+            ≡ taken self.old.tables.kept.slots.quotas.items self.old.tables.owners.bases
+            (block_map_of self.old.tables.owners.owners self.old.tables.kept.slots) user block (Some at)) }
         ensures images { OnOk result ((u : ℕ) → 1 ≤ u
             → image_in self.new.bank (D.contents self.new.tables.kept.drum.now) self.new.tables.owners
             self.new.tables.kept.slots self.new.tables.sizes.items u
@@ -276,44 +298,194 @@ impl<'a, D: Medium> Image<'a, D> {
         ensures calls { (at : ℕ) → record_of self.old.tables.kept.slots user block ≡ Some at
             → D.calls self.new.tables.kept.drum.now
             ≡ with_call (D.calls self.old.tables.kept.drum.now)
-            (read_call at (is_err result) (block_at self.new.bank block)) }
+            (read_call at (is_err result)
+            (block_at self.new.bank (base_of self.old.tables.owners.bases user + block))) }
         ensures faults_grow { D.faults self.old.tables.kept.drum.now ≤ D.faults self.new.tables.kept.drum.now }
         ensures cause { OnErr result
             (Rose (D.faults self.old.tables.kept.drum.now) (D.faults self.new.tables.kept.drum.now)) }
     {
+        // So it is known that the number is not 0.
+        let _number = user.number();
         let tables = &mut self.tables;
-        read_block(&mut tables.kept, self.bank.words_mut(), user, block)?;
-        tables.owners.set(block, user.number());
+        let place = tables.owners.place(user, block);
+        read_block(&mut tables.kept, self.bank.words_mut(), user, block, place)?;
+        tables.owners.set(user, block);
         Ok(())
     }
 
     /// Brings a user's block of which there is no copy into core, as plus zeros.
     fn clear(&mut self, user: UserNo, block: u8)
         requires inside { block < size_of self.old.tables.sizes.items user }
-        requires owned { owner_of self.old.tables.owners block ≡ 0 }
+        requires room { base_of self.old.tables.owners.bases user + block < 128 }
+        requires owned { owner_of self.old.tables.owners.owners
+            (base_of self.old.tables.owners.bases user + block) ≡ 0 }
         requires none { record_of self.old.tables.kept.slots user block ≡ None }
         requires words { AreWords self.old.bank }
         ensures table { self.new.tables.kept ≡ self.old.tables.kept }
         ensures sizes { self.new.tables.sizes ≡ self.old.tables.sizes }
         ensures usable { self.new.failed ≡ self.old.failed }
         ensures words { AreWords self.new.bank }
-        ensures others { (b : ℕ) → b ≢ block
-            → block_at self.new.bank b ≡ block_at self.old.bank b }
-        ensures owners { self.new.tables.owners ≡ slice_set self.old.tables.owners block user }
+        ensures bases { self.new.tables.owners.bases ≡ self.old.tables.owners.bases }
+        ensures others { (q : ℕ) → q ≢ base_of self.old.tables.owners.bases user + block
+            → block_at self.new.bank q ≡ block_at self.old.bank q }
+        ensures owners { self.new.tables.owners.owners ≡ slice_set self.old.tables.owners.owners
+            (base_of self.old.tables.owners.bases user + block) user }
         ensures images { (u : ℕ) → 1 ≤ u
             → image_in self.new.bank (D.contents self.new.tables.kept.drum.now) self.new.tables.owners
             self.new.tables.kept.slots self.new.tables.sizes.items u
             ≡ image_in self.old.bank (D.contents self.old.tables.kept.drum.now) self.old.tables.owners
             self.old.tables.kept.slots self.old.tables.sizes.items u }
     {
-        self.bank.clear_block(block);
+        // So it is known that the number is not 0.
+        let _number = user.number();
+        let place = self.tables.owners.place(user, block);
+        self.bank.clear_block(place);
         let tables = &mut self.tables;
-        tables.owners.set(block, user.number());
+        tables.owners.set(user, block);
+    }
+
+    /// Writes what lies at a place to the drum, where the user owns it.
+    fn put_place(&mut self, user: UserNo, place: u8) -> Result<(), DrumFault>
+        requires place { place < 128 }
+        requires words { AreWords self.old.bank }
+        requires serves { Serves (D.contents self.old.tables.kept.drum.now)
+            (D.record_count self.old.tables.kept.drum.now)
+            (D.words_each self.old.tables.kept.drum.now) (records_of self.old.tables.kept.slots) }
+
+        ensures same { self.new.tables.kept.drum.ghost_name ≡ self.old.tables.kept.drum.ghost_name }
+        ensures serves { Serves (D.contents self.new.tables.kept.drum.now)
+            (D.record_count self.new.tables.kept.drum.now)
+            (D.words_each self.new.tables.kept.drum.now) (records_of self.new.tables.kept.slots) }
+        ensures quotas { self.new.tables.kept.slots.quotas ≡ self.old.tables.kept.slots.quotas }
+        ensures sizes { self.new.tables.sizes ≡ self.old.tables.sizes }
+        ensures usable { self.new.failed ≡ self.old.failed }
+        ensures bank { self.new.bank ≡ self.old.bank }
+        ensures bases { self.new.tables.owners.bases ≡ self.old.tables.owners.bases }
+
+        ensures block_map { OnOk result (block_map_of self.new.tables.owners.owners self.new.tables.kept.slots
+            ≡ put_one self.old.tables.kept.slots.quotas.items self.old.tables.owners.bases
+            (block_map_of self.old.tables.owners.owners self.old.tables.kept.slots) user place) }
+        ensures images { OnOk result ((u : ℕ) → 1 ≤ u
+            → image_in self.new.bank (D.contents self.new.tables.kept.drum.now) self.new.tables.owners
+            self.new.tables.kept.slots self.new.tables.sizes.items u
+            ≡ image_in self.old.bank (D.contents self.old.tables.kept.drum.now) self.old.tables.owners
+            self.old.tables.kept.slots self.old.tables.sizes.items u) }
+        ensures calls { OnOk result (D.calls self.new.tables.kept.drum.now
+            ≡ with_calls (D.calls self.old.tables.kept.drum.now)
+            (put_calls_one (block_map_of self.old.tables.owners.owners self.old.tables.kept.slots) user place)) }
+        ensures failed { OnErr result (FailedIn (D.calls self.old.tables.kept.drum.now)
+            (D.calls self.new.tables.kept.drum.now)
+            (put_calls_one (block_map_of self.old.tables.owners.owners self.old.tables.kept.slots) user place)) }
+        ensures faults_grow { D.faults self.old.tables.kept.drum.now ≤ D.faults self.new.tables.kept.drum.now }
+        ensures cause { OnErr result
+            (Rose (D.faults self.old.tables.kept.drum.now) (D.faults self.new.tables.kept.drum.now)) }
+    {
+        if self.tables.owners.owner(place) == user.number() {
+            self.dump_block(user, place)?;
+        }
+        Ok(())
+    }
+
+    /// Writes all that a user has in core to the drum, in rising order.
+    fn put_out(&mut self, user: UserNo) -> Result<(), DrumFault>
+        requires words { AreWords self.old.bank }
+        requires serves { Serves (D.contents self.old.tables.kept.drum.now)
+            (D.record_count self.old.tables.kept.drum.now)
+            (D.words_each self.old.tables.kept.drum.now) (records_of self.old.tables.kept.slots) }
+
+        ensures same { self.new.tables.kept.drum.ghost_name ≡ self.old.tables.kept.drum.ghost_name }
+        ensures serves { Serves (D.contents self.new.tables.kept.drum.now)
+            (D.record_count self.new.tables.kept.drum.now)
+            (D.words_each self.new.tables.kept.drum.now) (records_of self.new.tables.kept.slots) }
+        ensures quotas { self.new.tables.kept.slots.quotas ≡ self.old.tables.kept.slots.quotas }
+        ensures sizes { self.new.tables.sizes ≡ self.old.tables.sizes }
+        ensures usable { self.new.failed ≡ self.old.failed }
+        ensures bank { self.new.bank ≡ self.old.bank }
+        ensures bases { self.new.tables.owners.bases ≡ self.old.tables.owners.bases }
+
+        ensures block_map { OnOk result (block_map_of self.new.tables.owners.owners self.new.tables.kept.slots
+            ≡ put_to self.old.tables.kept.slots.quotas.items self.old.tables.owners.bases
+            (block_map_of self.old.tables.owners.owners self.old.tables.kept.slots) user core_places) }
+        ensures none { OnOk result ((q : ℕ) → owner_of self.new.tables.owners.owners q ≢ user) }
+        ensures images { OnOk result ((u : ℕ) → 1 ≤ u
+            → image_in self.new.bank (D.contents self.new.tables.kept.drum.now) self.new.tables.owners
+            self.new.tables.kept.slots self.new.tables.sizes.items u
+            ≡ image_in self.old.bank (D.contents self.old.tables.kept.drum.now) self.old.tables.owners
+            self.old.tables.kept.slots self.old.tables.sizes.items u) }
+        ensures calls { OnOk result (D.calls self.new.tables.kept.drum.now
+            ≡ with_calls (D.calls self.old.tables.kept.drum.now)
+            (put_calls_to self.old.tables.kept.slots.quotas.items self.old.tables.owners.bases
+            (block_map_of self.old.tables.owners.owners self.old.tables.kept.slots) user core_places)) }
+        ensures failed { OnErr result (FailedIn (D.calls self.old.tables.kept.drum.now)
+            (D.calls self.new.tables.kept.drum.now)
+            (put_calls_to self.old.tables.kept.slots.quotas.items self.old.tables.owners.bases
+            (block_map_of self.old.tables.owners.owners self.old.tables.kept.slots) user core_places)) }
+        ensures faults_grow { D.faults self.old.tables.kept.drum.now ≤ D.faults self.new.tables.kept.drum.now }
+        ensures cause { OnErr result
+            (Rose (D.faults self.old.tables.kept.drum.now) (D.faults self.new.tables.kept.drum.now)) }
+    {
+        // So it is known that the number is not 0.
+        let _number = user.number();
+        'putting: for place in 0..CORE_PLACES {
+            self.put_place(user, place)?;
+        }
+        Ok(())
+    }
+
+    /// The first part of a load: where a user doesn't stay, all that it has in core goes to the drum, and its blocks are
+    /// to lie from another place on.
+    fn lay(&mut self, user: UserNo, base: u8, stay: bool) -> Result<(), DrumFault>
+        requires user { user < length self.old.tables.sizes.items }
+        requires inside { base < 128 }
+        requires words { AreWords self.old.bank }
+        requires serves { Serves (D.contents self.old.tables.kept.drum.now)
+            (D.record_count self.old.tables.kept.drum.now)
+            (D.words_each self.old.tables.kept.drum.now) (records_of self.old.tables.kept.slots) }
+
+        ensures same { self.new.tables.kept.drum.ghost_name ≡ self.old.tables.kept.drum.ghost_name }
+        ensures serves { Serves (D.contents self.new.tables.kept.drum.now)
+            (D.record_count self.new.tables.kept.drum.now)
+            (D.words_each self.new.tables.kept.drum.now) (records_of self.new.tables.kept.slots) }
+        ensures quotas { self.new.tables.kept.slots.quotas ≡ self.old.tables.kept.slots.quotas }
+        ensures sizes { self.new.tables.sizes ≡ self.old.tables.sizes }
+        ensures usable { self.new.failed ≡ self.old.failed }
+        ensures bank { self.new.bank ≡ self.old.bank }
+
+        ensures bases { OnOk result (self.new.tables.owners.bases
+            ≡ bases_before self.old.tables.owners.bases user stay base) }
+        ensures block_map { OnOk result (block_map_of self.new.tables.owners.owners self.new.tables.kept.slots
+            ≡ map_before self.old.tables.kept.slots.quotas.items self.old.tables.owners.bases
+            (block_map_of self.old.tables.owners.owners self.old.tables.kept.slots) user stay) }
+        ensures images { OnOk result ((u : ℕ) → 1 ≤ u
+            → image_in self.new.bank (D.contents self.new.tables.kept.drum.now) self.new.tables.owners
+            self.new.tables.kept.slots self.new.tables.sizes.items u
+            ≡ image_in self.old.bank (D.contents self.old.tables.kept.drum.now) self.old.tables.owners
+            self.old.tables.kept.slots self.old.tables.sizes.items u) }
+        ensures calls { OnOk result (D.calls self.new.tables.kept.drum.now
+            ≡ with_calls (D.calls self.old.tables.kept.drum.now)
+            (calls_before self.old.tables.kept.slots.quotas.items self.old.tables.owners.bases
+            (block_map_of self.old.tables.owners.owners self.old.tables.kept.slots) user stay)) }
+        ensures failed { OnErr result (FailedIn (D.calls self.old.tables.kept.drum.now)
+            (D.calls self.new.tables.kept.drum.now)
+            (calls_before self.old.tables.kept.slots.quotas.items self.old.tables.owners.bases
+            (block_map_of self.old.tables.owners.owners self.old.tables.kept.slots) user stay)) }
+        ensures faults_grow { D.faults self.old.tables.kept.drum.now ≤ D.faults self.new.tables.kept.drum.now }
+        ensures cause { OnErr result
+            (Rose (D.faults self.old.tables.kept.drum.now) (D.faults self.new.tables.kept.drum.now)) }
+    {
+        if stay {
+            return Ok(());
+        }
+        self.put_out(user)?;
+        let tables = &mut self.tables;
+        tables.owners.settle(user, base);
+        Ok(())
     }
 
     /// Brings one block of a user into core.
     fn load_block(&mut self, user: UserNo, block: u8) -> Result<(), DrumFault>
         requires inside { block < size_of self.old.tables.sizes.items user }
+        requires room { base_of self.old.tables.owners.bases user + block < 128 }
         requires words { AreWords self.old.bank }
         requires serves { Serves (D.contents self.old.tables.kept.drum.now)
             (D.record_count self.old.tables.kept.drum.now)
@@ -327,12 +499,13 @@ impl<'a, D: Medium> Image<'a, D> {
         ensures sizes { self.new.tables.sizes ≡ self.old.tables.sizes }
         ensures usable { self.new.failed ≡ self.old.failed }
         ensures words { AreWords self.new.bank }
-        ensures others { (b : ℕ) → b ≢ block
-            → block_at self.new.bank b ≡ block_at self.old.bank b }
+        ensures bases { self.new.tables.owners.bases ≡ self.old.tables.owners.bases }
+        ensures others { (q : ℕ) → q ≢ base_of self.old.tables.owners.bases user + block
+            → block_at self.new.bank q ≡ block_at self.old.bank q }
 
-        ensures block_map { OnOk result (block_map_of self.new.tables.owners self.new.tables.kept.slots
-            ≡ load_one self.old.tables.kept.slots.quotas.items
-            (block_map_of self.old.tables.owners self.old.tables.kept.slots) user block) }
+        ensures block_map { OnOk result (block_map_of self.new.tables.owners.owners self.new.tables.kept.slots
+            ≡ load_one self.old.tables.kept.slots.quotas.items self.old.tables.owners.bases
+            (block_map_of self.old.tables.owners.owners self.old.tables.kept.slots) user block) }
         ensures images { OnOk result ((u : ℕ) → 1 ≤ u
             → image_in self.new.bank (D.contents self.new.tables.kept.drum.now) self.new.tables.owners
             self.new.tables.kept.slots self.new.tables.sizes.items u
@@ -340,23 +513,24 @@ impl<'a, D: Medium> Image<'a, D> {
             self.old.tables.kept.slots self.old.tables.sizes.items u) }
         ensures calls { OnOk result (D.calls self.new.tables.kept.drum.now
             ≡ with_calls (D.calls self.old.tables.kept.drum.now)
-            (calls_one self.old.tables.kept.slots.quotas.items
-            (block_map_of self.old.tables.owners self.old.tables.kept.slots) user block
-            (block_at self.new.bank block))) }
+            (calls_one self.old.tables.kept.slots.quotas.items self.old.tables.owners.bases
+            (block_map_of self.old.tables.owners.owners self.old.tables.kept.slots) user block
+            (block_at self.new.bank (base_of self.old.tables.owners.bases user + block)))) }
         ensures failed { OnErr result (FailedIn (D.calls self.old.tables.kept.drum.now)
-            (D.calls self.new.tables.kept.drum.now) (calls_one self.old.tables.kept.slots.quotas.items
-            (block_map_of self.old.tables.owners self.old.tables.kept.slots) user block
-            (block_at self.new.bank block))) }
+            (D.calls self.new.tables.kept.drum.now) (calls_one self.old.tables.kept.slots.quotas.items self.old.tables.owners.bases
+            (block_map_of self.old.tables.owners.owners self.old.tables.kept.slots) user block
+            (block_at self.new.bank (base_of self.old.tables.owners.bases user + block)))) }
         ensures faults_grow { D.faults self.old.tables.kept.drum.now ≤ D.faults self.new.tables.kept.drum.now }
         ensures cause { OnErr result
             (Rose (D.faults self.old.tables.kept.drum.now) (D.faults self.new.tables.kept.drum.now)) }
     {
-        let owner = self.tables.owners.owner(block);
+        let place = self.tables.owners.place(user, block);
+        let owner = self.tables.owners.owner(place);
         if owner == user.number() {
             return Ok(());
         }
         if owner != 0 {
-            self.dump_block(UserNo::of(owner), block)?;
+            self.dump_block(UserNo::of(owner), place)?;
         }
         if self.tables.kept.has(user, block) {
             self.fetch_block(user, block)?;
@@ -366,9 +540,10 @@ impl<'a, D: Medium> Image<'a, D> {
         Ok(())
     }
 
-    /// Brings a user's blocks below a number into core, in rising order.
+    /// The second part of a load: brings a user's blocks below a number into core, in rising order.
     fn load_blocks(&mut self, user: UserNo, blocks: u8) -> Result<(), DrumFault>
         requires inside { blocks ≤ size_of self.old.tables.sizes.items user }
+        requires room { base_of self.old.tables.owners.bases user + blocks ≤ 128 }
         requires words { AreWords self.old.bank }
         requires serves { Serves (D.contents self.old.tables.kept.drum.now)
             (D.record_count self.old.tables.kept.drum.now)
@@ -382,12 +557,14 @@ impl<'a, D: Medium> Image<'a, D> {
         ensures sizes { self.new.tables.sizes ≡ self.old.tables.sizes }
         ensures usable { self.new.failed ≡ self.old.failed }
         ensures words { AreWords self.new.bank }
-        ensures others { (b : ℕ) → blocks ≤ b
-            → block_at self.new.bank b ≡ block_at self.old.bank b }
+        ensures bases { self.new.tables.owners.bases ≡ self.old.tables.owners.bases }
+        ensures others { (q : ℕ) → (q < base_of self.old.tables.owners.bases user)
+            ⊎ (base_of self.old.tables.owners.bases user + blocks ≤ q)
+            → block_at self.new.bank q ≡ block_at self.old.bank q }
 
-        ensures block_map { OnOk result (block_map_of self.new.tables.owners self.new.tables.kept.slots
-            ≡ load_to self.old.tables.kept.slots.quotas.items
-            (block_map_of self.old.tables.owners self.old.tables.kept.slots) user blocks) }
+        ensures block_map { OnOk result (block_map_of self.new.tables.owners.owners self.new.tables.kept.slots
+            ≡ load_to self.old.tables.kept.slots.quotas.items self.old.tables.owners.bases
+            (block_map_of self.old.tables.owners.owners self.old.tables.kept.slots) user blocks) }
         ensures resident { OnOk result (IsResident self.new.tables.owners blocks user) }
         ensures images { OnOk result ((u : ℕ) → 1 ≤ u
             → image_in self.new.bank (D.contents self.new.tables.kept.drum.now) self.new.tables.owners
@@ -396,12 +573,12 @@ impl<'a, D: Medium> Image<'a, D> {
             self.old.tables.kept.slots self.old.tables.sizes.items u) }
         ensures calls { OnOk result (D.calls self.new.tables.kept.drum.now
             ≡ with_calls (D.calls self.old.tables.kept.drum.now)
-            (calls_to self.old.tables.kept.slots.quotas.items
-            (block_map_of self.old.tables.owners self.old.tables.kept.slots) user blocks
+            (calls_to self.old.tables.kept.slots.quotas.items self.old.tables.owners.bases
+            (block_map_of self.old.tables.owners.owners self.old.tables.kept.slots) user blocks
             (block_at self.new.bank))) }
         ensures failed { OnErr result (FailedIn (D.calls self.old.tables.kept.drum.now)
-            (D.calls self.new.tables.kept.drum.now) (calls_to self.old.tables.kept.slots.quotas.items
-            (block_map_of self.old.tables.owners self.old.tables.kept.slots) user blocks
+            (D.calls self.new.tables.kept.drum.now) (calls_to self.old.tables.kept.slots.quotas.items self.old.tables.owners.bases
+            (block_map_of self.old.tables.owners.owners self.old.tables.kept.slots) user blocks
             (block_at self.new.bank))) }
         ensures faults_grow { D.faults self.old.tables.kept.drum.now ≤ D.faults self.new.tables.kept.drum.now }
         ensures cause { OnErr result
@@ -413,16 +590,92 @@ impl<'a, D: Medium> Image<'a, D> {
         Ok(())
     }
 
+    /// Both parts of a load.
+    fn bring(&mut self, user: UserNo, blocks: u8, base: u8, stay: bool) -> Result<(), DrumFault>
+        requires user { user < length self.old.tables.sizes.items }
+        requires size { blocks ≤ size_of self.old.tables.sizes.items user }
+        requires inside { base < 128 }
+        requires room { base + blocks ≤ 128 }
+        requires stays { stay ≡ stays (places_of self.old.tables.owners self.old.tables.kept.slots) user blocks }
+        requires base { base
+            ≡ base_for (places_of self.old.tables.owners self.old.tables.kept.slots) user blocks }
+        requires words { AreWords self.old.bank }
+        requires serves { Serves (D.contents self.old.tables.kept.drum.now)
+            (D.record_count self.old.tables.kept.drum.now)
+            (D.words_each self.old.tables.kept.drum.now) (records_of self.old.tables.kept.slots) }
+
+        ensures same { self.new.tables.kept.drum.ghost_name ≡ self.old.tables.kept.drum.ghost_name }
+        ensures serves { Serves (D.contents self.new.tables.kept.drum.now)
+            (D.record_count self.new.tables.kept.drum.now)
+            (D.words_each self.new.tables.kept.drum.now) (records_of self.new.tables.kept.slots) }
+        ensures quotas { self.new.tables.kept.slots.quotas ≡ self.old.tables.kept.slots.quotas }
+        ensures sizes { self.new.tables.sizes ≡ self.old.tables.sizes }
+        ensures usable { self.new.failed ≡ self.old.failed }
+        ensures words { AreWords self.new.bank }
+        ensures others { (q : ℕ) → (q < base) ⊎ (base + blocks ≤ q)
+            → block_at self.new.bank q ≡ block_at self.old.bank q }
+
+        ensures bases { OnOk result (self.new.tables.owners.bases
+            ≡ bases_before self.old.tables.owners.bases user stay base) }
+        ensures block_map { OnOk result (block_map_of self.new.tables.owners.owners self.new.tables.kept.slots
+            ≡ load_to self.old.tables.kept.slots.quotas.items
+            (bases_before self.old.tables.owners.bases user stay base)
+            (map_before self.old.tables.kept.slots.quotas.items self.old.tables.owners.bases
+            (block_map_of self.old.tables.owners.owners self.old.tables.kept.slots) user stay) user blocks) }
+        ensures places { OnOk result (places_of self.new.tables.owners self.new.tables.kept.slots
+            ≡ loaded (places_of self.old.tables.owners self.old.tables.kept.slots) user blocks) }
+        ensures resident { OnOk result (IsResident self.new.tables.owners blocks user) }
+        ensures images { OnOk result ((u : ℕ) → 1 ≤ u
+            → image_in self.new.bank (D.contents self.new.tables.kept.drum.now) self.new.tables.owners
+            self.new.tables.kept.slots self.new.tables.sizes.items u
+            ≡ image_in self.old.bank (D.contents self.old.tables.kept.drum.now) self.old.tables.owners
+            self.old.tables.kept.slots self.old.tables.sizes.items u) }
+        ensures calls { OnOk result (D.calls self.new.tables.kept.drum.now
+            ≡ with_calls (D.calls self.old.tables.kept.drum.now)
+            (calls_before self.old.tables.kept.slots.quotas.items self.old.tables.owners.bases
+            (block_map_of self.old.tables.owners.owners self.old.tables.kept.slots) user stay
+            ++ calls_to self.old.tables.kept.slots.quotas.items
+            (bases_before self.old.tables.owners.bases user stay base)
+            (map_before self.old.tables.kept.slots.quotas.items self.old.tables.owners.bases
+            (block_map_of self.old.tables.owners.owners self.old.tables.kept.slots) user stay)
+            user blocks (block_at self.new.bank))) }
+        ensures failed { OnErr result (FailedIn (D.calls self.old.tables.kept.drum.now)
+            (D.calls self.new.tables.kept.drum.now)
+            (calls_before self.old.tables.kept.slots.quotas.items self.old.tables.owners.bases
+            (block_map_of self.old.tables.owners.owners self.old.tables.kept.slots) user stay
+            ++ calls_to self.old.tables.kept.slots.quotas.items
+            (bases_before self.old.tables.owners.bases user stay base)
+            (map_before self.old.tables.kept.slots.quotas.items self.old.tables.owners.bases
+            (block_map_of self.old.tables.owners.owners self.old.tables.kept.slots) user stay)
+            user blocks (block_at self.new.bank))) }
+        ensures faults_grow { D.faults self.old.tables.kept.drum.now ≤ D.faults self.new.tables.kept.drum.now }
+        ensures cause { OnErr result
+            (Rose (D.faults self.old.tables.kept.drum.now) (D.faults self.new.tables.kept.drum.now)) }
+    {
+        // So it is known that the number is not 0.
+        let _number = user.number();
+        self.lay(user, base, stay)?;
+        self.load_blocks(user, blocks)
+    }
+
     /// What a load of a user's blocks below a number moves.
     fn plan_of(&self, user: UserNo, blocks: u8) -> Plan
         requires { blocks ≤ size_of self.now.tables.sizes.items user }
-        ensures dumped { result.dumped ≡ count_below blocks
-            (is_dumped (places_of self.now.tables.owners self.now.tables.kept.slots) user) }
-        ensures read { result.read ≡ count_below blocks
-            (is_read (places_of self.now.tables.owners self.now.tables.kept.slots) user) }
-        ensures fresh { result.fresh ≡ count_below blocks
-            (is_fresh (places_of self.now.tables.owners self.now.tables.kept.slots) user) }
+        ensures base { result.base
+            ≡ base_for (places_of self.now.tables.owners self.now.tables.kept.slots) user blocks }
+        ensures inside { result.base < 128 }
+        ensures room { result.base + blocks ≤ 128 }
+        ensures moved { result.moved
+            ≡ is_moved (places_of self.now.tables.owners self.now.tables.kept.slots) user blocks }
+        ensures dumped { result.dumped
+            ≡ dumps (places_of self.now.tables.owners self.now.tables.kept.slots) user blocks }
+        ensures read { result.read
+            ≡ reads (places_of self.now.tables.owners self.now.tables.kept.slots) user blocks }
+        ensures fresh { result.fresh
+            ≡ clears (places_of self.now.tables.owners self.now.tables.kept.slots) user blocks }
     {
+        // So it is known that the number is not 0.
+        let _number = user.number();
         let mut kept = [false; 128];
         'keeping: for b in 0..blocks {
             kept[b as usize] = self.tables.kept.has(user, b);
@@ -432,9 +685,11 @@ impl<'a, D: Medium> Image<'a, D> {
 
     /// Brings all of a user's blocks into core, and says what that moved. Every user's image stays.
     ///
-    /// In rising order each block that is not the user's own is first written to the drum if another
-    /// user owns it, and then read from its record, which is free then, or made plus zeros. After a
-    /// drum fault the images are lost.
+    /// Where the user owns places, but its blocks don't fit into core from its base on, all that it has in core is written
+    /// to the drum first, in rising order. Where it owns none then, its base is the first place from which others own the
+    /// fewest places. Then in rising order each place of a block that isn't in core is written to the drum if another user
+    /// owns it, and the block is read from its record, which is free then, or made plus zeros. After a drum fault the images
+    /// are lost.
     pub fn load_user(&mut self, user: UserNo) -> Result<Plan, DrumFault>
         requires usable { IsUsable (state self.old) }
         requires user { user < length (state self.old).sizes }
@@ -442,7 +697,8 @@ impl<'a, D: Medium> Image<'a, D> {
     {
         let blocks = self.tables.sizes[user.number() as usize];
         let plan = self.plan_of(user, blocks);
-        match self.load_blocks(user, blocks) {
+        let stay = self.tables.owners.stays(user, blocks);
+        match self.bring(user, blocks, plan.base, stay) {
             Ok(()) => Ok(plan),
             Err(fault) => {
                 self.failed = true;

@@ -12,17 +12,18 @@ use medium::Medium;
 
 const BLOCK_WORDS: usize = 256;
 
-/// Reads the copy of a user's block into its place among the words of core, and keeps it no more.
+/// Reads the copy of a user's block into a place among the words of core, and keeps it no more.
 pub(crate) fn read_block<D: Medium>(
     table: &mut SlotTable<'_, D>,
     words: &mut [u64],
     user: UserNo,
     block: u8,
+    place: u8,
 ) -> Result<(), DrumFault>
     requires inside { block < quota_in table.old.slots user }
     requires kept { IsSome (record_of table.old.slots user block) }
     requires core { length words.old ≡ 32768 }
-    requires block { block < 128 }
+    requires place { place < 128 }
     requires words { AreWords words.old }
     requires serves { Serves (D.contents table.old.drum.now) (D.record_count table.old.drum.now)
         (D.words_each table.old.drum.now) (records_of table.old.slots) }
@@ -33,10 +34,10 @@ pub(crate) fn read_block<D: Medium>(
     ensures quotas { table.new.slots.quotas ≡ table.old.slots.quotas }
     ensures words { AreWords words.new }
     ensures len { length words.new ≡ length words.old }
-    ensures others { (b : ℕ) → b ≢ block → block_at words.new b ≡ block_at words.old b }
+    ensures others { (q : ℕ) → q ≢ place → block_at words.new q ≡ block_at words.old q }
 
     ensures given { OnOk result (HasCopy (copies_in (D.contents table.old.drum.now) table.old.slots)
-        (place_of table.old.slots user block) (block_at words.new block)) }
+        (place_of table.old.slots user block) (block_at words.new place)) }
     ensures ok { OnOk result (copies_in (D.contents table.new.drum.now) table.new.slots
         ≡ with_copy (copies_in (D.contents table.old.drum.now) table.old.slots)
         (place_of table.old.slots user block) None) }
@@ -48,11 +49,11 @@ pub(crate) fn read_block<D: Medium>(
     ensures calls { (at : ℕ) → record_of table.old.slots user block ≡ Some at
         → D.calls table.new.drum.now
         ≡ with_call (D.calls table.old.drum.now)
-        (read_call at (is_err result) (block_at words.new block)) }
+        (read_call at (is_err result) (block_at words.new place)) }
     ensures faults_grow { D.faults table.old.drum.now ≤ D.faults table.new.drum.now }
     ensures cause { OnErr result
         (Rose (D.faults table.old.drum.now) (D.faults table.new.drum.now)) }
 {
-    let at = BLOCK_WORDS * block as usize;
+    let at = BLOCK_WORDS * place as usize;
     table.get_block(user, block, &mut words[at..at + BLOCK_WORDS])
 }

@@ -1,1 +1,1 @@
-pub mod GivenUp
+pub mod Owned

@@ -1,4 +1,4 @@
-//! Who owns which block of core, and what a load of a user's blocks moves.
+//! Who owns which place of core, where each user's blocks lie, and what a load of them moves.
 #![tactic(auto)]
 
 mod owners;

@@ -1,7 +1,8 @@
 -- The worked rows by computing.
 use Rattle.std.proofs.Common.{refl}
 use Rattle.plan_model.specs.Levels.{greatest, level_of_words, chosen, waits, entered, dropped, ticked, sunk, charged, woken}
-use Rattle.plan_model.specs.Rows.{RowOfLevels, RowOfQueues, RowOfLoads}
+use Rattle.plan_model.specs.Loads.{core_places, base_for, based, loaded, dumps, reads, clears}
+use Rattle.plan_model.specs.Rows.{RowOfLevels, RowOfQueues, RowOfLoads, RowOfMoves}
 
 pub row_of_levels : RowOfLevels
 unfolding greatest level_of_words
@@ -12,4 +13,25 @@ unfolding greatest level_of_words chosen waits entered dropped ticked sunk charg
 row_of_queues = record { first = refl; second = refl; again = refl; sunk = refl; woken = refl }
 
 pub row_of_loads : RowOfLoads
-row_of_loads = record { first = (refl, refl, refl); second = (refl, refl, refl); third = (refl, refl, refl); again = (refl, refl, refl); back = refl; gone = refl; shrunk = (refl, refl, refl) }
+unfolding core_places base_for based loaded dumps reads clears
+row_of_loads =
+    record {
+      first = record { dumps_are = refl; reads_are = refl; clears_are = refl; at = refl; is_moved_is = refl };
+      second = record { dumps_are = refl; reads_are = refl; clears_are = refl; at = refl; is_moved_is = refl };
+      third = record { dumps_are = refl; reads_are = refl; clears_are = refl; at = refl; is_moved_is = refl };
+      left = (refl, refl, refl);
+      fourth = record { dumps_are = refl; reads_are = refl; clears_are = refl; at = refl; is_moved_is = refl };
+      back = refl;
+      gone = refl;
+      fifth = record { dumps_are = refl; reads_are = refl; clears_are = refl; at = refl; is_moved_is = refl };
+    }
+
+pub row_of_moves : RowOfMoves
+unfolding core_places base_for based loaded dumps reads clears
+row_of_moves =
+    record {
+      behind = record { dumps_are = refl; reads_are = refl; clears_are = refl; at = refl; is_moved_is = refl };
+      over = record { dumps_are = refl; reads_are = refl; clears_are = refl; at = refl; is_moved_is = refl };
+      moved = record { dumps_are = refl; reads_are = refl; clears_are = refl; at = refl; is_moved_is = refl };
+      left = (refl, refl);
+    }

@@ -1,3 +1,4 @@
+pub mod Bases
 pub mod Levels
 pub mod Loads
 pub mod Plan

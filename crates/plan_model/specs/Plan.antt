@@ -1,9 +1,9 @@
 -- claim: whom to serve, and what of each user is where.
-use Rattle.std.specs.Prelude.{ℕ, ◌+◌, ◌*◌, List, not, Bool}
+use Rattle.std.specs.Prelude.{ℕ, ◌+◌, ◌*◌, not, Bool}
 use Rattle.time_sharing.specs.Machine.{CutKind, Quit, Hang, Spent, End, Ending, Went, Stopped, Resized, Replaced, LoggedOut}
 use Rattle.time_sharing.specs.System.{Move}
 use Rattle.plan_model.specs.Levels.{Levels, empty_levels}
-use Rattle.plan_model.specs.Loads.{Places, no_places, loaded, given_up, is_loaded, is_dumped, is_read, is_fresh, count_below}
+use Rattle.plan_model.specs.Loads.{Places, no_places, loaded, given_up, is_loaded, dumps, reads, clears}
 
 pub record Plan : Type 0 where
   pub levels : Levels
@@ -23,12 +23,7 @@ with_load q u n = record q { places = loaded q.places u n }
 -- what that moves; each block that goes to the drum or comes from it costs ticks
 abbrev pub move_of : ℕ → Places → ℕ → ℕ → Move
 move_of swap places u n =
-    record {
-      ticks = swap * (count_below n (is_dumped places u) + count_below n (is_read places u));
-      dumped = count_below n (is_dumped places u);
-      read = count_below n (is_read places u);
-      fresh = count_below n (is_fresh places u);
-    }
+    record { ticks = swap * (dumps places u n + reads places u n); dumped = dumps places u n; read = reads places u n; fresh = clears places u n }
 
 -- a user that has n blocks behind a step gives up the others, and all where its program was replaced
 abbrev pub places_after : Ending → ℕ → ℕ → Places → Places

@@ -1,8 +1,8 @@
 -- claim: worked rows of levels, queues and loads.
-use Rattle.std.specs.Prelude.{◌≡◌, ℕ, zero, suc, ◌*◌, Option, Some, List, true, false}
+use Rattle.std.specs.Prelude.{◌≡◌, ℕ, zero, suc, ◌*◌, Option, Some, Bool, true, false}
 use Rattle.ctss_types.specs.declared.session.Waiting.{Waiting}
-use Rattle.plan_model.specs.Levels.{Levels, level_of_words, empty_levels, chosen, entered, charged, dropped, waits, woken}
-use Rattle.plan_model.specs.Loads.{Places, no_places, loaded, given_up, is_dumped, is_read, is_fresh, is_loaded, count_below}
+use Rattle.plan_model.specs.Levels.{Levels, level_of_words, empty_levels, chosen, entered, charged, dropped, woken}
+use Rattle.plan_model.specs.Loads.{Places, no_places, loaded, given_up, dumps, reads, clears, base_for, is_moved, is_in, is_loaded}
 
 -- the levels of programs of 1, 4, 28 and 128 blocks with 1024 words a level, and of 128 blocks with one
 pub record RowOfLevels : Type 0 where
@@ -28,19 +28,48 @@ pub record RowOfQueues : Type 0 where
   pub sunk : chosen (charged_times 800 1 (entered 28 1 (empty_levels 1024 100))) ≡ at_level 4 1 1600
   pub woken : chosen (woken 4 1 (entered 28 1 (empty_levels 1024 100))) ≡ at_level 3 1 800
 
--- how many blocks a load dumps, reads and clears
-abbrev pub Moves : Places → ℕ → ℕ → ℕ → ℕ → ℕ → Type 0
-Moves p u n dumped read fresh = (count_below n (is_dumped p u) ≡ dumped) × (count_below n (is_read p u) ≡ read) × (count_below n (is_fresh p u) ≡ fresh)
+-- how many blocks a load dumps, reads and clears, at which base, and whether the user's own are dumped before
+pub record IsLoad (p : Places) (u n dumped read fresh base : ℕ) (moved : Bool) : Type 0 where
+  pub dumps_are : dumps p u n ≡ dumped
+  pub reads_are : reads p u n ≡ read
+  pub clears_are : clears p u n ≡ fresh
+  pub at : base_for p u n ≡ base
+  pub is_moved_is : is_moved p u n ≡ moved
+
+abbrev pub one_load : Places
+one_load = loaded no_places 1 64
+
+abbrev pub two_loads : Places
+two_loads = loaded one_load 2 64
 
 abbrev pub three_loads : Places
-three_loads = loaded (loaded (loaded no_places 1 8) 2 3) 3 8
+three_loads = loaded two_loads 3 32
 
--- users of 8, 3 and 8 blocks are loaded in turn, then the first again; and one that has shrunk and grown in between
+abbrev pub four_loads : Places
+four_loads = loaded three_loads 1 64
+
+-- users of 64, 64 and 32 blocks are loaded in turn, then the first and the third again
 pub record RowOfLoads : Type 0 where
-  pub first : Moves no_places 1 8 0 0 8
-  pub second : Moves (loaded no_places 1 8) 2 3 3 0 3
-  pub third : Moves (loaded (loaded no_places 1 8) 2 3) 3 8 8 0 8
-  pub again : Moves three_loads 1 8 8 8 0
-  pub back : is_loaded (loaded three_loads 1 8) 1 8 ≡ true
-  pub gone : is_loaded (loaded (loaded no_places 1 8) 2 3) 1 8 ≡ false
-  pub shrunk : Moves (loaded (given_up (loaded no_places 1 4) 1 2) 2 4) 1 4 4 2 2
+  pub first : IsLoad no_places 1 64 0 0 64 0 false
+  pub second : IsLoad one_load 2 64 0 0 64 64 false
+  pub third : IsLoad two_loads 3 32 32 0 32 0 false
+  -- blocks 32 to 63 of user 1 are still in core, and no others
+  pub left : (is_in three_loads 1 31 ≡ false) × (is_in three_loads 1 32 ≡ true) × (is_in three_loads 1 63 ≡ true)
+  pub fourth : IsLoad three_loads 1 64 32 32 0 0 false
+  pub back : is_loaded four_loads 1 64 ≡ true
+  pub gone : is_loaded three_loads 1 64 ≡ false
+  pub fifth : IsLoad four_loads 3 32 32 32 0 0 false
+
+-- one shrinks and grows, with another behind what it gave up
+abbrev pub beside : Places
+beside = loaded (given_up (loaded no_places 1 4) 1 2) 2 4
+
+-- one of 40 blocks, and behind it one of 60 that grows to 100
+abbrev pub grown : Places
+grown = loaded (loaded no_places 1 40) 2 60
+
+pub record RowOfMoves : Type 0 where
+  pub behind : IsLoad (given_up (loaded no_places 1 4) 1 2) 2 4 0 0 4 2 false
+  pub over : IsLoad beside 1 4 2 0 2 0 false
+  pub moved : IsLoad grown 2 100 72 60 40 28 true
+  pub left : (is_in (loaded grown 2 100) 1 27 ≡ true) × (is_in (loaded grown 2 100) 1 28 ≡ false)

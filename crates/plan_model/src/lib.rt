@@ -1,10 +1,11 @@
 //! Whom to serve, and what has to be moved for it.
 //!
-//! The definitions stand in `specs/`: `Levels` (levels and queues), `Loads` (owners of core, kept copies, loads), `Rows`
-//! (worked rows). The functions here do nothing: each carries a row.
+//! The definitions stand in `specs/`: `Levels` (levels and queues), `Loads` (owners and bases of core, kept copies, loads), `Bases`
+//! (where a load puts a user), `Rows` (worked rows). The functions here do nothing: each carries a law or a row.
 #![tactic(auto)]
 
-ghost use Rattle.plan_model.specs.Rows.{RowOfLevels, RowOfQueues, RowOfLoads};
+ghost use Rattle.plan_model.specs.Bases.{BaseIsLeast};
+ghost use Rattle.plan_model.specs.Rows.{RowOfLevels, RowOfQueues, RowOfLoads, RowOfMoves};
 
 /// Levels of sizes.
 #[tactic(auto, using(crate::proofs::RowsComputed::row_of_levels))]
@@ -22,4 +23,16 @@ pub fn row_of_queues()
 #[tactic(auto, using(crate::proofs::RowsComputed::row_of_loads))]
 pub fn row_of_loads()
     ensures { RowOfLoads }
+{}
+
+/// Loads at other places.
+#[tactic(auto, using(crate::proofs::RowsComputed::row_of_moves))]
+pub fn row_of_moves()
+    ensures { RowOfMoves }
+{}
+
+/// Where a load puts a user that can't stay.
+#[tactic(auto, using(crate::proofs::Least::base_is_least))]
+pub fn base_is_least()
+    ensures { BaseIsLeast }
 {}

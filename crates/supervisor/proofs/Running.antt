@@ -10,7 +10,7 @@ use Rattle.user_model.specs.Inner.{Stored}
 use Rattle.system_model.specs.Run.{Run, next, run_to, AfterSteps}
 use Rattle.system_model.specs.Joined.{joined, with_stores, at_places}
 use Rattle.system_model.specs.Sound.{Sound, IsUser}
-use Rattle.plan_model.specs.Loads.{Places, count_below, is_dumped, is_read}
+use Rattle.plan_model.specs.Loads.{Places, dumps, reads}
 use Rattle.medium.specs.Medium.{CallList}
 use Rattle.plan_model.specs.Levels.{chosen, user_of}
 use Rattle.ctss_types.specs.declared.session.Waiting.{Waiting}
@@ -84,7 +84,7 @@ due_user r due sound = is_user (chosen r.system.plan.levels) refl
 -- a load makes as many calls with whatever words
 calls_joined : (f : ℕ → Stored) (u : ℕ) (r : Run) → IsUser u r → calls_to_load u (joined f r) ≡ calls_to_load u r
 unfolding joined
-calls_joined f u r who = ap (λ (n : ℕ). count_below n (is_dumped r.system.plan.places u) + count_below n (is_read r.system.plan.places u)) (blocks_same f u r who)
+calls_joined f u r who = ap (λ (n : ℕ). dumps r.system.plan.places u n + reads r.system.plan.places u n) (blocks_same f u r who)
 
 -- a part of a run, behind which at most an operation on the common files was made
 pub part_but_commons : (limit : ℕ) (start old new : Run) (first had has : Held) → had.tells ≡ first.tells → HasRunSteps limit start old first had → Stays old new had has → HasRunPart limit start new first has

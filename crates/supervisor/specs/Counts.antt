@@ -3,7 +3,7 @@ use Rattle.std.specs.Prelude.{◌≡◌, ℕ, ◌+◌, ◌<◌, List, ◌++◌, 
 use Rattle.time_sharing.specs.System.{Entry}
 use Rattle.medium.specs.Medium.{Call, CallList}
 use Rattle.image_map.specs.Loads.{with_calls, cut, count_writes, count_reads}
-use Rattle.plan_model.specs.Loads.{count_below, is_dumped, is_read}
+use Rattle.plan_model.specs.Loads.{dumps, reads}
 use Rattle.user_model.specs.Inner.{blocks_of}
 use Rattle.system_model.specs.Run.{Run}
 use Rattle.system_model.specs.Cases.{user_at}
@@ -21,7 +21,7 @@ pub record IsCounted (had has : List Entry) (was now : Option CallList) : Type 0
 abbrev pub calls_to_load : ℕ → Run → ℕ
 calls_to_load u r =
     let n = blocks_of (user_at u r.system.users).inner in
-    count_below n (is_dumped r.system.plan.places u) + count_below n (is_read r.system.plan.places u)
+    dumps r.system.plan.places u n + reads r.system.plan.places u n
 
 -- so it was, and then a load of so many calls was cut off: some of them were made, from the first on, and the last one that was
 -- made failed

@@ -8,7 +8,7 @@ use Rattle.user_model.specs.Session.{user_rows, nobody}
 use Rattle.user_model.specs.Inner.{Stored, blocks_of}
 use Rattle.user_model.specs.User.{User, typed, opened, cut, step, ending, asks_clock, asks_common, in_store, hung}
 use Rattle.plan_model.specs.Levels.{Levels, charged, dropped, woken, has_time, chosen, user_of}
-use Rattle.plan_model.specs.Loads.{loaded, count_below, is_dumped, is_read, is_fresh}
+use Rattle.plan_model.specs.Loads.{loaded, dumps, reads, clears}
 use Rattle.plan_model.specs.Plan.{must_load, with_load, move_of, places_after, places_cut}
 use Rattle.system_model.specs.Round.{round, asked, check, line_blocks}
 use Rattle.time_sharing.specs.Machine.{Machine}
@@ -570,9 +570,9 @@ stepped_is v p t asked notes r who =
 
 -- a load's own changes, and then the places of its blocks
 pub brought_is : (u dumped read fresh : ℕ) (r : Run) →
-    dumped ≡ count_below (blocks_of (user_at u r.system.users).inner) (is_dumped r.system.plan.places u) →
-    read ≡ count_below (blocks_of (user_at u r.system.users).inner) (is_read r.system.plan.places u) →
-    fresh ≡ count_below (blocks_of (user_at u r.system.users).inner) (is_fresh r.system.plan.places u) →
+    dumped ≡ dumps r.system.plan.places u (blocks_of (user_at u r.system.users).inner) →
+    read ≡ reads r.system.plan.places u (blocks_of (user_at u r.system.users).inner) →
+    fresh ≡ clears r.system.plan.places u (blocks_of (user_at u r.system.users).inner) →
     at_places (loaded r.system.plan.places u (blocks_of (user_at u r.system.users).inner)) (moved u dumped read fresh r) ≡ brought u r
 unfolding brought moved
 brought_is u dumped read fresh r a b c = λ j. at_places (loaded r.system.plan.places u (blocks_of (user_at u r.system.users).inner)) (noted (a j) (b j) (c j))

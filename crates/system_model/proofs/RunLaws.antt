@@ -9,23 +9,14 @@ use Rattle.time_sharing.proofs.RepeatLaws as laws
 use Rattle.time_sharing.proofs.Ending as ending
 use Rattle.user_model.specs.Session.{user_rows}
 use Rattle.user_model.specs.Inner.{blocks_of}
-use Rattle.plan_model.specs.Loads.{count_below}
+use Rattle.plan_model.proofs.LoadLaws.{loaded_is}
 use Rattle.plan_model.specs.Plan.{Plan, must_load, with_load}
 use Rattle.system_model.specs.Round.{round}
 use Rattle.system_model.specs.Run.{Run, State, next, run_to, measure, AfterSteps}
 
 -- a load is done once
-own_front : (n b u : ℕ) (xs : List ℕ) → b < n → slice_index_or (replicate n u ++ xs) b 0 ≡ u
-own_front zero b u xs h = absurd (omega arith)
-own_front (suc n) zero u xs h = refl
-own_front (suc n) (suc b) u xs h = own_front n b u xs (omega arith)
-
-none_below : (n : ℕ) (test : ℕ → Bool) → ((b : ℕ) → b < n → test b ≡ false) → count_below n test ≡ 0
-none_below zero test h = refl
-none_below (suc n) test h = rw (h n (omega arith), none_below n test (λ b k. h b (omega arith))) refl
-
 load_is_done : (q : Plan) (u n : ℕ) → must_load (with_load q u n) u n ≡ false
-load_is_done q u n = ap (λ (k : ℕ). not (nat_eq k 0)) (none_below n _ (λ b h. ap (λ (v : ℕ). not (nat_eq v u)) (own_front n b u (drop n q.places.owners) h) ∙ ap not (eq-eqb u u refl)))
+load_is_done q u n = ap not (loaded_is q.places u n)
 
 pub ends : (swap common : ℕ) (accounts : List Account) → whole.Ends (round swap common accounts)
 ends swap common accounts = record { loaded = λ q u p now. load_is_done q u (blocks_of p.inner); same_choice = λ q u p now. refl }

@@ -4,10 +4,11 @@ use Rattle.std.specs.List.{All, flat_map}
 use Rattle.std.proofs.Common.{◌≡◌, ℕ, zero, suc, ◌+◌, ◌*◌, ◌<◌, ◌≤◌, List, [], ◌∷◌, ◌++◌, length, take, drop, refl, sym, ◌∙◌, ap, arith, length-append, length-drop}
 use Rattle.std.proofs.Math.Seq.{take-add, take-append-add}
 use Rattle.std.proofs.lemmas.Grind.{flat_map-append}
-use Rattle.std.proofs.lemmas.List.{append-nil, length-take-le, length_push, take_all, replicate-append-replicate, length-replicate}
+use Rattle.std.proofs.lemmas.List.{append-nil, drop-drop, length-take-le, length_push, take_all, replicate-append-replicate, length-replicate}
 use Rattle.std.proofs.lemmas.List.Elements.{All-nil, All-push, All-head, All-tail, All-append, All-take, All-replicate}
 use Rattle.core_bank.specs.Bank.{block_at, blank}
 use Rattle.image_map.specs.Blocks.{first}
+use Rattle.image_map.specs.Windows.{window}
 use Rattle.user_model.specs.Inner.{recut, zeros}
 
 -- the words of these blocks
@@ -18,18 +19,21 @@ joined blocks = flat_map (λ b. b) blocks
 abbrev pub IsBlock : List ℕ → Type 0
 IsBlock b = length b ≡ 256
 
--- the first blocks of a core
+-- blocks of a core, from a place on
 
-pub joined_first : (n : ℕ) (bank : List ℕ) → joined (first n (block_at bank)) ≡ take (256 * n) bank
-joined_first zero bank = refl
-joined_first (suc n) bank =
-    let size : 256 * n + 256 - 256 * n ≡ 256 = omega arith in
+pub joined_first : (base n : ℕ) (bank : List ℕ) → joined (first n (λ b. block_at bank (base + b))) ≡ window bank base n
+joined_first base zero bank = refl
+joined_first base (suc n) bank =
+    let size : 256 * (base + n) + 256 - 256 * (base + n) ≡ 256 = omega arith in
+    let at : 256 * (base + n) ≡ 256 * base + 256 * n = omega arith in
     let next : 256 * suc n ≡ 256 * n + 256 = omega arith in
-    flat_map-append (λ (b : List ℕ). b) (first n (block_at bank)) (block_at bank n ∷ [])
-    ∙ (λ j. joined_first n bank j ++ append-nil (block_at bank n) j)
-    ∙ ap (λ (m : ℕ). take (256 * n) bank ++ take m (drop (256 * n) bank)) size
-    ∙ sym (take-add (256 * n) 256 bank)
-    ∙ ap (λ (m : ℕ). take m bank) (sym next)
+    let rest : List ℕ = drop (256 * base) bank in
+    flat_map-append (λ (b : List ℕ). b) (first n (λ b. block_at bank (base + b))) (block_at bank (base + n) ∷ [])
+    ∙ (λ j. joined_first base n bank j ++ append-nil (block_at bank (base + n)) j)
+    ∙ ap (λ (m : ℕ). window bank base n ++ take m (drop (256 * (base + n)) bank)) size
+    ∙ ap (λ (l : List ℕ). window bank base n ++ take 256 l) (ap (λ (m : ℕ). drop m bank) at ∙ sym (drop-drop (256 * n) (256 * base) bank))
+    ∙ sym (take-add (256 * n) 256 rest)
+    ∙ ap (λ (m : ℕ). take m rest) (sym next)
 
 pub length-first : (n : ℕ) (f : ℕ → List ℕ) → length (first n f) ≡ n
 length-first zero f = refl
@@ -41,10 +45,10 @@ block_whole bank n len below =
     let rest : length (drop (256 * n) bank) ≡ length bank - 256 * n = length-drop (256 * n) bank in
     ap (λ (m : ℕ). length (take m (drop (256 * n) bank))) size ∙ length-take-le 256 (drop (256 * n) bank) (omega arith)
 
-pub first_whole : (n : ℕ) (bank : List ℕ) → length bank ≡ 32768 → n ≤ 128 → All IsBlock (first n (block_at bank))
-first_whole zero bank len most = All-nil IsBlock
-first_whole (suc n) bank len most =
-    All-push IsBlock (first n (block_at bank)) (block_at bank n) (first_whole n bank len (omega arith)) (block_whole bank n len (omega arith))
+pub first_whole : (base n : ℕ) (bank : List ℕ) → length bank ≡ 32768 → base + n ≤ 128 → All IsBlock (first n (λ b. block_at bank (base + b)))
+first_whole base zero bank len most = All-nil IsBlock
+first_whole base (suc n) bank len most =
+    All-push IsBlock (first n (λ b. block_at bank (base + b))) (block_at bank (base + n)) (first_whole base n bank len (omega arith)) (block_whole bank (base + n) len (omega arith))
 
 -- whole blocks
 

@@ -3,7 +3,7 @@ use Rattle.std.specs.Prelude.{◌≡◌, ◌≢◌, ℕ, ◌≤◌, ◌+◌, ◌
 use Rattle.faults.specs.Faults.{Rose}
 use Rattle.medium.specs.Medium.{CallList}
 use Rattle.onion_swap.specs.declared.Plan.{Plan}
-use Rattle.plan_model.specs.Loads.{Places, loaded, given_up, count_below, is_dumped, is_read, is_fresh}
+use Rattle.plan_model.specs.Loads.{Places, loaded, given_up, dumps, reads, clears}
 use Rattle.image_map.specs.Images.{size_of}
 use Rattle.user_model.specs.Inner.{Stored, recut, zeros}
 use Rattle.user_model.specs.User.{hung}
@@ -70,29 +70,19 @@ back_of c d =
 abbrev pub size : BackState → ℕ → ℕ
 size s user = size_of s.held.sizes user
 
--- how many blocks a load of a user dumps, reads and makes fresh
-abbrev pub to_dump : BackState → ℕ → ℕ
-to_dump s user = count_below (size s user) (is_dumped s.held.places user)
-
-abbrev pub to_read : BackState → ℕ → ℕ
-to_read s user = count_below (size s user) (is_read s.held.places user)
-
-abbrev pub to_clear : BackState → ℕ → ℕ
-to_clear s user = count_below (size s user) (is_fresh s.held.places user)
-
 -- a load that is done
 pub record Loaded (user : ℕ) (plan : Plan) (old new : BackState) : Type 0 where
   pub stores : (u : ℕ) → new.held.stores u ≡ old.held.stores u
   pub tells : new.held.tells ≡ old.held.tells
   pub places : new.held.places ≡ loaded old.held.places user (size old user)
-  pub dumped : plan.dumped ≡ to_dump old user
-  pub read : plan.read ≡ to_read old user
-  pub fresh : plan.fresh ≡ to_clear old user
+  pub dumped : plan.dumped ≡ dumps old.held.places user (size old user)
+  pub read : plan.read ≡ reads old.held.places user (size old user)
+  pub fresh : plan.fresh ≡ clears old.held.places user (size old user)
   pub calls : IsMade old.calls new.calls plan.dumped plan.read
 
 -- a load that the drum didn't do
 pub record LoadFails (user : ℕ) (old new : BackState) : Type 0 where
-  pub calls : IsCutOff old.calls new.calls (to_dump old user + to_read old user)
+  pub calls : IsCutOff old.calls new.calls (dumps old.held.places user (size old user) + reads old.held.places user (size old user))
   pub cause : Rose old.faults new.faults
 
 -- how many blocks and tracks users and the common files may have stays, and how many users have directories

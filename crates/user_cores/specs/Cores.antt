@@ -3,7 +3,7 @@ use Rattle.std.specs.Prelude.{◌≡◌, ◌≢◌, ℕ, ◌≤◌, ◌+◌, ◌
 use Rattle.faults.specs.Faults.{Rose}
 use Rattle.medium.specs.Medium.{CallList}
 use Rattle.onion_swap.specs.declared.Plan.{Plan}
-use Rattle.plan_model.specs.Loads.{loaded, given_up, count_below, is_dumped, is_read, is_fresh}
+use Rattle.plan_model.specs.Loads.{loaded, given_up, dumps, reads, clears}
 use Rattle.image_map.specs.Images.{size_of}
 use Rattle.user_model.specs.Inner.{recut, zeros}
 use Rattle.user_cores.specs.Memory.{Memory}
@@ -20,29 +20,19 @@ pub record CoresState : Type 0 where
 abbrev pub size : CoresState → ℕ → ℕ
 size s user = size_of s.memory.sizes user
 
--- how many blocks a load of a user dumps, reads and makes fresh
-abbrev pub to_dump : CoresState → ℕ → ℕ
-to_dump s user = count_below (size s user) (is_dumped s.memory.places user)
-
-abbrev pub to_read : CoresState → ℕ → ℕ
-to_read s user = count_below (size s user) (is_read s.memory.places user)
-
-abbrev pub to_clear : CoresState → ℕ → ℕ
-to_clear s user = count_below (size s user) (is_fresh s.memory.places user)
-
 -- a load that is done
 pub record Loaded (user : ℕ) (plan : Plan) (old new : CoresState) : Type 0 where
   pub words : (u : ℕ) → 1 ≤ u → new.memory.words u ≡ old.memory.words u
   pub tells : new.memory.tells ≡ old.memory.tells
   pub places : new.memory.places ≡ loaded old.memory.places user (size old user)
-  pub dumped : plan.dumped ≡ to_dump old user
-  pub read : plan.read ≡ to_read old user
-  pub fresh : plan.fresh ≡ to_clear old user
+  pub dumped : plan.dumped ≡ dumps old.memory.places user (size old user)
+  pub read : plan.read ≡ reads old.memory.places user (size old user)
+  pub fresh : plan.fresh ≡ clears old.memory.places user (size old user)
   pub calls : IsMade old.calls new.calls plan.dumped plan.read
 
 -- a load that the drum didn't do
 pub record LoadFails (user : ℕ) (old new : CoresState) : Type 0 where
-  pub calls : IsCutOff old.calls new.calls (to_dump old user + to_read old user)
+  pub calls : IsCutOff old.calls new.calls (dumps old.memory.places user (size old user) + reads old.memory.places user (size old user))
   pub cause : Rose old.faults new.faults
 
 -- a load of a user

@@ -1,7 +1,8 @@
 -- proof: cores that are swapped with a drum: what stays true of them, and what each user has there.
-use Rattle.std.specs.Prelude.{ℕ, ◌≤◌, ◌*◌, List, take}
+use Rattle.std.specs.Prelude.{ℕ, ◌≤◌, List}
 use Rattle.std.specs.Option.{is_some}
-use Rattle.image_map.specs.State.{ImageState, IsUsable, image, size, places_in}
+use Rattle.image_map.specs.State.{ImageState, IsUsable, image, size, base, places_in}
+use Rattle.image_map.specs.Windows.{window}
 use Rattle.user_cores.specs.Cores.{CoresState}
 use Rattle.user_cores.specs.Memory.{Memory, words_of, AreWhole}
 
@@ -20,9 +21,9 @@ memory_in s = record {
   quotas = s.slots.quotas.items;
 }
 
--- the first blocks of core, as many as the user has
+-- the blocks of core from the user's base on, as many as it has
 abbrev pub window_in : ImageState → ℕ → List ℕ
-window_in s u = take (256 * size s u) s.words
+window_in s u = window s.words (base s u) (size s u)
 
 abbrev pub cores_in : ImageState → CoresState
 cores_in s = record { memory = memory_in s; window = window_in s; calls = s.drum.calls; faults = s.drum.faults }

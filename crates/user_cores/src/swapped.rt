@@ -52,7 +52,8 @@ impl<D: Medium> Cores for Image<'_, D> {
         now: u64,
     ) -> Result<Turn, StepFault> {
         let blocks = self.size(user);
-        turn_in(self.bank_mut(), blocks, user, session, files, now)
+        let base = self.base(user);
+        turn_in(self.bank_mut(), base, blocks, user, session, files, now)
     }
 
     #[tactic(auto, using(crate::proofs::Images::whole_turned, crate::proofs::Images::words_resident, crate::proofs::Images::words_stay))]
@@ -65,12 +66,23 @@ impl<D: Medium> Cores for Image<'_, D> {
         now: u64,
     ) -> Result<Step, StepFault> {
         let blocks = self.size(user);
-        reply_in(self.bank_mut(), blocks, user, session, files, reply, now)
+        let base = self.base(user);
+        reply_in(
+            self.bank_mut(),
+            base,
+            blocks,
+            user,
+            session,
+            files,
+            reply,
+            now,
+        )
     }
 
     #[tactic(auto, using(crate::proofs::Images::whole_turned, crate::proofs::Images::words_resident, crate::proofs::Images::words_stay))]
     fn advance(&mut self, user: UserNo, session: &mut Session, most: u64) -> u64 {
         let blocks = self.size(user);
-        advance_in(self.bank_mut(), blocks, session, most)
+        let base = self.base(user);
+        advance_in(self.bank_mut(), base, blocks, session, most)
     }
 }

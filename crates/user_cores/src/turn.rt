@@ -1,6 +1,7 @@
-//! A step of a session over the first blocks of a bank.
+//! A step of a session over some blocks of a bank.
 ghost use Rattle.std.specs.Prelude.{◌≡◌, ◌<◌, ◌≤◌, ◌+◌, ◌-◌, ◌*◌, ◌^◌, length, take, drop, IfOk, OnErr, IsErrOf};
 ghost use Rattle.core_bank.specs.Bank.{AreWords};
+ghost use Rattle.image_map.specs.Windows.{window};
 ghost use Rattle.user_model.specs.Inner.{blocks_of};
 ghost use Rattle.user_model.specs.Runs.{HaveGone};
 ghost use Rattle.ctss_types.specs.declared.file.CommonOp.{CommonOp};
@@ -15,16 +16,17 @@ use directories::Directories;
 use image_map::Port;
 use user_session::{Session, Step, Turn};
 
-/// A step of a session over its directory, whose program's words are the first blocks of a bank. The words behind them stay.
+/// A step of a session over its directory, whose program's words are so many blocks of a bank from a place on. The words before and behind them stay.
 pub fn turn_in<P: Directories>(
     bank: &mut Bank,
+    base: u8,
     blocks: u8,
     user: UserNo,
     session: &mut Session,
     files: &mut P,
     now: u64,
 ) -> Result<Turn, StepFault>
-    requires most { blocks ≤ 128 }
+    requires most { base + blocks ≤ 128 }
     requires words { AreWords bank.old }
     requires size { blocks ≡ blocks_of session.old.inner }
     requires fits { session.old.own < 2 ^ 64 - 1 }
@@ -35,25 +37,27 @@ pub fn turn_in<P: Directories>(
     ensures words { AreWords bank.new }
     ensures len { length bank.new ≡ 32768 }
     ensures turn { IfOk result (λ turn. Over (P.state files.old).tells
-        (stored (take (256 * blocks) bank.old) ((P.state files.old).own user))
-        (stored (take (256 * blocks) bank.new) ((P.state files.new).own user))
+        (stored (window bank.old base blocks) ((P.state files.old).own user))
+        (stored (window bank.new base blocks) ((P.state files.new).own user))
         (IsTurn turn now session.old session.new)) }
     ensures account { session.new.inner.account ≡ session.old.inner.account }
     ensures err { OnErr result (session.new ≡ session.old) }
-    ensures err_words { OnErr result (take (256 * blocks) bank.new ≡ take (256 * blocks) bank.old) }
-    ensures rest { drop (256 * blocks) bank.new ≡ drop (256 * blocks) bank.old }
+    ensures err_words { OnErr result (window bank.new base blocks ≡ window bank.old base blocks) }
+    ensures front { take (256 * base) bank.new ≡ take (256 * base) bank.old }
+    ensures rest { drop (256 * (base + blocks)) bank.new ≡ drop (256 * (base + blocks)) bank.old }
     ensures open { ¬ IsErrOf result StepFault.Disk → P.Usable files.new }
     ensures same { P.Keeps files.old files.new }
     ensures serves { Serves user result (P.state files.old) (P.state files.new) }
 {
-    let mut port = Port::over(bank, blocks);
+    let mut port = Port::over(bank, base, blocks);
     files.turn(user, session, &mut port, now)
 }
 
-/// A step of a session that made a common operation goes on with its reply, over its directory and the first blocks of a bank. The
-/// words behind them stay.
+/// A step of a session that made a common operation goes on with its reply, over its directory and so many blocks of a bank from a
+/// place on. The words before and behind them stay.
 pub fn reply_in<P: Directories>(
     bank: &mut Bank,
+    base: u8,
     blocks: u8,
     user: UserNo,
     session: &mut Session,
@@ -61,11 +65,11 @@ pub fn reply_in<P: Directories>(
     reply: &Reply,
     now: u64,
 ) -> Result<Step, StepFault>
-    requires most { blocks ≤ 128 }
+    requires most { base + blocks ≤ 128 }
     requires words { AreWords bank.old }
     requires size { blocks ≡ blocks_of session.old.inner }
     requires asks { (op : CommonOp) × IsToMake (P.state files.old).tells
-        (stored (take (256 * blocks) bank.old) ((P.state files.old).own user)) op session.old }
+        (stored (window bank.old base blocks) ((P.state files.old).own user)) op session.old }
     requires reply_fits { ReplyFits reply.now }
     requires fits { session.old.own < 2 ^ 64 - 1 }
     requires open { P.Usable files.old }
@@ -74,36 +78,38 @@ pub fn reply_in<P: Directories>(
     ensures words { AreWords bank.new }
     ensures len { length bank.new ≡ 32768 }
     ensures step { (op : CommonOp) → IsToMake (P.state files.old).tells
-        (stored (take (256 * blocks) bank.old) ((P.state files.old).own user)) op session.old
+        (stored (window bank.old base blocks) ((P.state files.old).own user)) op session.old
         → IfOk result (λ s. Over (P.state files.old).tells
-        (stored (take (256 * blocks) bank.old) ((P.state files.old).own user))
-        (stored (take (256 * blocks) bank.new) ((P.state files.new).own user))
+        (stored (window bank.old base blocks) ((P.state files.old).own user))
+        (stored (window bank.new base blocks) ((P.state files.new).own user))
         (IsReplied s op reply.now now session.old session.new)) }
     ensures account { session.new.inner.account ≡ session.old.inner.account }
     ensures err { OnErr result (session.new ≡ session.old) }
-    ensures err_words { OnErr result (take (256 * blocks) bank.new ≡ take (256 * blocks) bank.old) }
-    ensures rest { drop (256 * blocks) bank.new ≡ drop (256 * blocks) bank.old }
+    ensures err_words { OnErr result (window bank.new base blocks ≡ window bank.old base blocks) }
+    ensures front { take (256 * base) bank.new ≡ take (256 * base) bank.old }
+    ensures rest { drop (256 * (base + blocks)) bank.new ≡ drop (256 * (base + blocks)) bank.old }
     ensures open { ¬ IsErrOf result StepFault.Disk → P.Usable files.new }
     ensures same { P.Keeps files.old files.new }
     ensures serves { Serves user result (P.state files.old) (P.state files.new) }
 {
-    let mut port = Port::over(bank, blocks);
+    let mut port = Port::over(bank, base, blocks);
     files.take_reply(user, session, &mut port, reply, now)
 }
 
-/// Instructions of a session whose program's words are the first blocks of a bank: as many as go on, at most so many. The
-/// words behind them stay.
-pub fn advance_in(bank: &mut Bank, blocks: u8, session: &mut Session, most: u64) -> u64
-    requires blocks { blocks ≤ 128 }
+/// Instructions of a session whose program's words are so many blocks of a bank from a place on: as many as go on, at most
+/// so many. The words before and behind them stay.
+pub fn advance_in(bank: &mut Bank, base: u8, blocks: u8, session: &mut Session, most: u64) -> u64
+    requires most { base + blocks ≤ 128 }
     requires words { AreWords bank.old }
     requires fits { session.old.own + most < 2 ^ 64 }
     ensures words { AreWords bank.new }
     ensures len { length bank.new ≡ 32768 }
     ensures most { result ≤ most }
-    ensures gone { HaveGone result session.old session.new (take (256 * blocks) bank.old) (take (256 * blocks)
-        bank.new) }
-    ensures rest { drop (256 * blocks) bank.new ≡ drop (256 * blocks) bank.old }
+    ensures gone { HaveGone result session.old session.new (window bank.old base blocks)
+        (window bank.new base blocks) }
+    ensures front { take (256 * base) bank.new ≡ take (256 * base) bank.old }
+    ensures rest { drop (256 * (base + blocks)) bank.new ≡ drop (256 * (base + blocks)) bank.old }
 {
-    let mut window = Port::over(bank, blocks);
-    session.advance(&mut window, most)
+    let mut port = Port::over(bank, base, blocks);
+    session.advance(&mut port, most)
 }

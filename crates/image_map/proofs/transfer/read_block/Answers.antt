@@ -6,4 +6,4 @@ use Rattle.image_map.proofs.transfer.read_block.Goals as goal
 pub returns-clause-others : goal.returns-clause-others
 returns-clause-others g c = λ b other.
     let size : length c.get_block.new.into ≡ 256 = grind (arith, common_steps) in
-    put_there _ _ c.args.block b c.requires.core c.requires.block size other
+    put_there _ _ c.args.place b c.requires.core c.requires.place size other

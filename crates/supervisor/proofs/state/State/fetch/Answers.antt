@@ -1,7 +1,7 @@
 use Rattle.std.proofs.Common.{◌≡◌, ◌+◌, ℕ, rules, not, List, sym, ap, subst, ◌∙◌}
 use Rattle.user_model.specs.Inner.{blocks_of}
 use Rattle.user_model.specs.User.{User}
-use Rattle.plan_model.specs.Loads.{is_loaded, loaded, count_below, is_dumped, is_read, is_fresh}
+use Rattle.plan_model.specs.Loads.{is_loaded, loaded, dumps, reads, clears}
 use Rattle.image_map.specs.Images.{size_of}
 use Rattle.system_model.specs.Run.{Run}
 use Rattle.system_model.specs.Cases.{user_at, brought}
@@ -26,12 +26,12 @@ returns-in-Ok-clause-ended g c =
     let users : List User = c.args.self.now.sessions.items in
     let u : ℕ = c.args.v.user in
     let size : size_of had.sizes u ≡ blocks_of (user_at u users).inner = c.requires.held.tied.has u c.requires.user.some c.requires.user.within in
-    let dumped : c.in-Ok.plan.dumped ≡ count_below (blocks_of (user_at u users).inner) (is_dumped had.places u) =
-    c.in-Ok.ensures.loads.done.dumped ∙ (λ j. count_below (size j) (is_dumped had.places u)) in
-    let read : c.in-Ok.plan.read ≡ count_below (blocks_of (user_at u users).inner) (is_read had.places u) =
-    c.in-Ok.ensures.loads.done.read ∙ (λ j. count_below (size j) (is_read had.places u)) in
-    let fresh : c.in-Ok.plan.fresh ≡ count_below (blocks_of (user_at u users).inner) (is_fresh had.places u) =
-    c.in-Ok.ensures.loads.done.fresh ∙ (λ j. count_below (size j) (is_fresh had.places u)) in
+    let dumped : c.in-Ok.plan.dumped ≡ dumps had.places u (blocks_of (user_at u users).inner) =
+    c.in-Ok.ensures.loads.done.dumped ∙ (λ j. dumps had.places u (size j)) in
+    let read : c.in-Ok.plan.read ≡ reads had.places u (blocks_of (user_at u users).inner) =
+    c.in-Ok.ensures.loads.done.read ∙ (λ j. reads had.places u (size j)) in
+    let fresh : c.in-Ok.plan.fresh ≡ clears had.places u (blocks_of (user_at u users).inner) =
+    c.in-Ok.ensures.loads.done.fresh ∙ (λ j. clears had.places u (size j)) in
     let places : has.places ≡ loaded had.places u (blocks_of (user_at u users).inner) =
     c.in-Ok.ensures.loads.done.places ∙ (λ j. loaded had.places u (size j)) in
     let is : seen has.places c.bring.new.self ≡ brought u old =
@@ -59,7 +59,7 @@ returns-in-Err-clause-ended g c =
       search rules,
       search rules,
       subst (λ (most : ℕ). IsCutOff (g.C.Backing.state c.args.cores.now).calls (g.C.Backing.state c.load.new.self).calls most)
-          (λ j. count_below (size j) (is_dumped had.places u) + count_below (size j) (is_read had.places u))
+          (λ j. dumps had.places u (size j) + reads had.places u (size j))
           c.in-Err.ensures.loads.fails.calls,
     )
 

@@ -6,7 +6,7 @@ use Rattle.std.proofs.lemmas.Option.{slice_get-get_or}
 use Rattle.std.proofs.lemmas.List.{append-nil, map-set, length-map, get_or-set_same, get_or-set_other}
 use Rattle.std.proofs.Math.ListN.{get_or-map}
 use Rattle.time_sharing.specs.Machine.{Line, Item, CutKind, Quit, Hang, Spent, End, Ending, Went, Stopped, Resized, Replaced, LoggedOut, CommonOp, Reply}
-use Rattle.time_sharing.specs.System.{Timed, Service, Console, Off, On, Password, Session, Entry, Taken, Login, Refused, Idle, Swap, Serve, Clock, Common, EventKind, LineTaken, Cause, Stop, Preempt, kind_of, cause_of, service_after, service_entry, clock_entry, common_entry, consoles_after, without, out_of, at}
+use Rattle.time_sharing.specs.System.{Timed, Service, Console, Off, On, Password, Session, Entry, Taken, Login, Refused, Idle, Swap, Rise, Serve, Clock, Common, EventKind, LineTaken, Cause, Stop, Preempt, kind_of, cause_of, service_after, service_entry, clock_entry, common_entry, consoles_after, without, out_of, at}
 use Rattle.time_sharing.specs.Texts.{refusals}
 use Rattle.user_model.specs.User.{User, typed, opened, cut, can_step, step, ending, asks_clock, asks_common}
 use Rattle.user_model.specs.Session.{nobody}
@@ -14,8 +14,8 @@ use Rattle.user_model.specs.Inner.{blocks_of}
 use Rattle.plan_model.specs.Levels.{chosen, user_of, level_in, has_time}
 use Rattle.plan_model.specs.Plan.{must_load}
 use Rattle.ctss_types.specs.declared.session.Waiting.{Waiting}
-use Rattle.system_model.specs.Run.{Run, next, taken, otherwise, attended, by_due, due_of}
-use Rattle.system_model.specs.Cases.{reply_for, user_at, with_user, idle_notes, stop_notes, heard, line_taken, quit_taken, hang_taken, spent_taken, cut_taken, login_taken, dial_taken, idled, served, brought, stepped, waited}
+use Rattle.system_model.specs.Run.{Run, next, taken, otherwise, attended, rise, rising, by_rising, by_due, due_of}
+use Rattle.system_model.specs.Cases.{reply_for, user_at, with_user, idle_notes, stop_notes, heard, line_taken, quit_taken, hang_taken, spent_taken, cut_taken, login_taken, dial_taken, idled, broken_off, brought, stepped, waited}
 use Rattle.system_model.specs.Sound.{Sound, IsUser, HasSeat}
 use Rattle.system_model.proofs.EventLaws.{by_event}
 use Rattle.system_model.proofs.SoundLaws.{same_or_not, first_chosen}
@@ -80,6 +80,7 @@ refusals-append c (Taken tick console kind user own ∷ xs) ys = refusals-append
 refusals-append c (Login tick console user ∷ xs) ys = refusals-append c xs ys
 refusals-append c (Idle from until ∷ xs) ys = refusals-append c xs ys
 refusals-append c (Swap tick user dumped read fresh ∷ xs) ys = refusals-append c xs ys
+refusals-append c (Rise tick user level ∷ xs) ys = refusals-append c xs ys
 refusals-append c (Serve tick user level ran cause ∷ xs) ys = refusals-append c xs ys
 refusals-append c (Clock answer user ∷ xs) ys = refusals-append c xs ys
 refusals-append c (Common user op reply ∷ xs) ys = refusals-append c xs ys
@@ -92,6 +93,7 @@ refused-append (Taken tick console kind user own ∷ xs) y ys = refused-append x
 refused-append (Login tick console user ∷ xs) y ys = refused-append xs y ys
 refused-append (Idle from until ∷ xs) y ys = refused-append xs y ys
 refused-append (Swap tick user dumped read fresh ∷ xs) y ys = refused-append xs y ys
+refused-append (Rise tick user level ∷ xs) y ys = refused-append xs y ys
 refused-append (Serve tick user level ran cause ∷ xs) y ys = refused-append xs y ys
 refused-append (Clock answer user ∷ xs) y ys = refused-append xs y ys
 refused-append (Common user op reply ∷ xs) y ys = refused-append xs y ys
@@ -104,6 +106,7 @@ refused_last (Taken tick console kind user own ∷ []) = refl
 refused_last (Login tick console user ∷ []) = refl
 refused_last (Idle from until ∷ []) = refl
 refused_last (Swap tick user dumped read fresh ∷ []) = refl
+refused_last (Rise tick user level ∷ []) = refl
 refused_last (Serve tick user level ran cause ∷ []) = refl
 refused_last (Clock answer user ∷ []) = refl
 refused_last (Common user op reply ∷ []) = refl
@@ -261,9 +264,13 @@ idled_rests : (limit : ℕ) (r : Run) → Rests r (idled limit r)
 unfolding idled
 idled_rests limit r = rests_same r (idled limit r) [] (extends_same (transcripts_of r.system.users)) (sym (append-nil r.system.entries)) (λ c. refl) refl
 
-served_rests : (cause : Cause) (v : Service) (r : Run) → Rests r (served cause v r)
-unfolding served
-served_rests cause v r = rests_same r (served cause v r) _ (extends_same (transcripts_of r.system.users)) refl (λ c. refl) refl
+broken_off_rests : (v : Service) (r : Run) → Rests r (broken_off v r)
+unfolding broken_off
+broken_off_rests v r = rests_same r (broken_off v r) _ (extends_same (transcripts_of r.system.users)) refl (λ c. refl) refl
+
+rise_rests : (u l : ℕ) (r : Run) → Rests r (rise u l r)
+unfolding rise
+rise_rests u l r = rests_same r (rise u l r) _ (extends_same (transcripts_of r.system.users)) refl (λ c. refl) refl
 
 brought_rests : (u : ℕ) (r : Run) → Rests r (brought u r)
 unfolding brought
@@ -349,12 +356,19 @@ otherwise_rests limit r sound = by_both (user_of (chosen r.system.plan.levels)) 
   where
     by_both : (o : Option ℕ) (v : Option Service) → user_of (chosen r.system.plan.levels) ≡ o → r.system.service ≡ v → Rests r (otherwise limit o v r)
     by_both None None a b = subst (Rests r) (sym (idles limit r)) (idled_rests limit r)
-    by_both None (Some v) a b = subst (Rests r) (sym (preempts_none limit v r)) (served_rests Preempt v r)
+    by_both None (Some v) a b = subst (Rests r) (sym (preempts_none limit v r)) (broken_off_rests v r)
     by_both (Some u) None a b = subst (Rests r) (sym (begins limit u r)) (attended_rests (record { tick = r.system.clock; user = u; level = level_in (chosen r.system.plan.levels); ran = 0 }) r (first_chosen r u sound a))
-    by_both (Some u) (Some v) a b = elim (same_or_not v.user u) [ inl e ↦ subst (Rests r) (sym (serves_on limit u v r e)) (attended_rests v r (sound.served v b)) | inr n ↦ subst (Rests r) (sym (preempts limit u v r n)) (served_rests Preempt v r) ]
+    by_both (Some u) (Some v) a b = elim (same_or_not v.user u) [ inl e ↦ subst (Rests r) (sym (serves_on limit u v r e)) (attended_rests v r (sound.served v b)) | inr n ↦ subst (Rests r) (sym (preempts limit u v r n)) (broken_off_rests v r) ]
+
+quiet_rests : (limit : ℕ) (r : Run) → Sound r → Rests r (by_due limit None r)
+quiet_rests limit r sound = by_who (rising r)
+  where
+    by_who : (o : Option (ℕ × ℕ)) → Rests r (by_rising limit o r)
+    by_who None = otherwise_rests limit r sound
+    by_who (Some x) = rise_rests x.0 x.1 r
 
 pub next_rests : (limit : ℕ) (r : Run) → due_of r.system.events r.system.clock ≡ None → Sound r → Rests r (next limit r)
-next_rests limit r quiet sound = subst (Rests r) (sym (next_due limit r ∙ ap (λ (o : Option Timed). by_due limit o r) quiet)) (otherwise_rests limit r sound)
+next_rests limit r quiet sound = subst (Rests r) (sym (next_due limit r ∙ ap (λ (o : Option Timed). by_due limit o r) quiet)) (quiet_rests limit r sound)
 
 -- the event that is due has a seat
 due_seat : (r : Run) (e : Timed) → due_of r.system.events r.system.clock ≡ Some e → Sound r → HasSeat e r

@@ -1,7 +1,7 @@
 -- claim: the consoles' texts along a run of all users.
 use Rattle.std.specs.Prelude.{◌≡◌, ℕ, Option, Some, None, List, [], ◌∷◌, map}
 use Rattle.time_sharing.specs.Rows.{machine}
-use Rattle.time_sharing.specs.System.{Entry, Taken, Login, Refused, Idle, Swap, Serve, Clock, Common}
+use Rattle.time_sharing.specs.System.{Entry, Taken, Login, Refused, Idle, Swap, Rise, Serve, Clock, Common}
 use Rattle.time_sharing.specs.Record as whole
 use Rattle.time_sharing.specs.Repeat.{repeat}
 use Rattle.time_sharing.specs.Texts.{Watched, texts_after, next_watched, watched_to}
@@ -44,6 +44,7 @@ refused_by (Taken tick console kind user own ∷ es) = refused_by es
 refused_by (Login tick console user ∷ es) = refused_by es
 refused_by (Idle from until ∷ es) = refused_by es
 refused_by (Swap tick user dumped read fresh ∷ es) = refused_by es
+refused_by (Rise tick user level ∷ es) = refused_by es
 refused_by (Serve tick user level ran cause ∷ es) = refused_by es
 refused_by (Clock answer user ∷ es) = refused_by es
 refused_by (Common user op reply ∷ es) = refused_by es
@@ -56,6 +57,7 @@ refusal_in (Some (Taken tick console kind user own)) = 0
 refusal_in (Some (Login tick console user)) = 0
 refusal_in (Some (Idle from until)) = 0
 refusal_in (Some (Swap tick user dumped read fresh)) = 0
+refusal_in (Some (Rise tick user level)) = 0
 refusal_in (Some (Serve tick user level ran cause)) = 0
 refusal_in (Some (Clock answer user)) = 0
 refusal_in (Some (Common user op reply)) = 0

@@ -95,7 +95,7 @@ impl EventKind {
 }
 
 /// An entry of the schedule. Ticks are those at which a thing began; `user` and `own` (own steps) are 0 where the
-/// console had no session; `ran` counts ticks.
+/// console had no session; `ran` counts ticks; `level` is the one that a user is served at, or that it has risen to.
 #[derive(Clone, Debug, PartialEq, Eq, Drop)]
 pub enum Entry {
     Taken {
@@ -125,6 +125,11 @@ pub enum Entry {
         dumped: u8,
         read: u8,
         fresh: u8,
+    },
+    Rise {
+        tick: u64,
+        user: u8,
+        level: u8,
     },
     Serve {
         tick: u64,

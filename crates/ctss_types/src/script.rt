@@ -2,7 +2,7 @@ use crate::{ConsoleNo, LineText, OwnedFiles, Sequence};
 use word36::Word;
 
 /// What the PARAM card says: words of a level, ticks of a quantum, ticks of a moved block, records of the drum,
-/// tracks of the disk, tracks of the common directory.
+/// tracks of the disk, tracks of the common directory, ticks after which a user that waits rises (0: never).
 #[derive(Clone, Copy, Debug, PartialEq, Eq)]
 pub struct Params {
     pub wq: u32,
@@ -11,6 +11,7 @@ pub struct Params {
     pub drum: u16,
     pub disk: u16,
     pub common: u16,
+    pub age: u64,
 }
 
 /// An account: name and password as words padded with blanks, quotas of blocks of core and of tracks.

@@ -39,9 +39,10 @@ pub struct Service {
     pub ran: u64,
 }
 
-/// A user in the queues, with the ticks that are left of its time.
+/// A user in the queues, with the ticks that are left of its time, and the tick since which it waits.
 #[derive(Clone, Copy, Debug, Default, PartialEq, Eq)]
 pub struct Waiting {
     pub user: u8,
     pub left: u64,
+    pub since: u64,
 }

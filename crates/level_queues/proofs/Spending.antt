@@ -28,10 +28,10 @@ times_at u [] i d h e = absurd (omega (arith, h))
 times_at u (x ∷ xs) zero d h e = let s : nat_eq x.user u ≡ true = grind (arith, nat_tests, e) in rw s (omega arith)
 times_at u (x ∷ xs) (suc i) d h e = let within : i < length xs = omega (arith, h) in let r = times_at u xs i d within e in omega (arith, r)
 
-less_is : (n u : ℕ) (x : Waiting) (l : ℕ) → x.user ≡ u → l ≡ x.left - n → record { user = x.user; left = l } ≡ less n u x
+less_is : (n u : ℕ) (x : Waiting) (l : ℕ) → x.user ≡ u → l ≡ x.left - n → record { user = x.user; left = l; since = x.since } ≡ less n u x
 less_is n u x l e k = by_test (nat_eq x.user u) (grind (arith, nat_tests, e))
   where
-    by_test : (b : Bool) → b ≡ true → record { user = x.user; left = l } ≡ cond b (record x { left = x.left - n }) x
+    by_test : (b : Bool) → b ≡ true → record { user = x.user; left = l; since = x.since } ≡ cond b (record x { left = x.left - n }) x
     by_test true h = ap (λ (m : ℕ). record x { left = m }) k
     by_test false h = cc
 
@@ -55,7 +55,7 @@ spent_at n u (x ∷ xs) (suc i) d h e once =
 
 -- the user stands here
 pub spent_here : (n u : ℕ) (xs ys : List Waiting) (i : ℕ) (d : Waiting) (l : ℕ) → ys ≡ xs → i < length ys → (get_or ys i d).user ≡ u → l ≡ (get_or ys i d).left - n → times u xs ≤ 1
-    → set ys i (record { user = (get_or ys i d).user; left = l }) ≡ map (less n u) xs
+    → set ys i (record { user = (get_or ys i d).user; left = l; since = (get_or ys i d).since }) ≡ map (less n u) xs
 spent_here n u xs ys i d l same within e k once =
     ap (set ys i) (less_is n u (get_or ys i d) l e k) ∙ spent_at n u ys i d within e (subst (λ (zs : List Waiting). times u zs ≤ 1) (sym same) once) ∙ ap (map (less n u)) same
 

@@ -4,5 +4,5 @@
 mod queues;
 mod row;
 
-pub use queues::{Charge, Chosen, Queues};
+pub use queues::{Charge, Chosen, Queues, Risen};
 pub use row::level_of;

@@ -1,12 +1,12 @@
-ghost use Rattle.std.specs.Prelude.{◌≡◌, ◌<◌, ◌≤◌, ◌+◌, ◌*◌, ◌/◌, ◌^◌, ◌++◌, ◌∷◌, [], ℕ, false, map, length, IfSome, set, get_or};
+ghost use Rattle.std.specs.Prelude.{◌≡◌, ◌<◌, ◌≤◌, ◌+◌, ◌*◌, ◌/◌, ◌^◌, ◌++◌, ◌∷◌, [], ℕ, false, map, length, IfSome, IsSome, set, get_or, drop};
 ghost use Rattle.std.specs.List.{list_any};
 ghost use Rattle.plan_model.specs.Spent.{less};
-ghost use Rattle.level_queues.specs.Sound.{times, count, AreEmpty};
-ghost use Rattle.plan_model.specs.Levels.{is_user, is_in, without_user, first_of, head_of, greatest, level_of_words};
+ghost use Rattle.level_queues.specs.Sound.{times, count, AreEmpty, RowIsLater, AreLater};
+ghost use Rattle.plan_model.specs.Levels.{is_user, is_in, without_user, first_of, head_of, greatest, level_of_words, from_now, is_served, has_waited, first_that, first_with};
 ghost use Rattle.arrayvec.specs.ArrayVec.{array_vec_len};
 
 use arrayvec::ArrayVec;
-use ctss_types::Waiting;
+use ctss_types::{UserNo, Waiting};
 use std::marker::Model;
 
 /// A level's users, the next one first. 30 is the most that there are.
@@ -68,6 +68,34 @@ impl Row {
         spend_each(self.items.as_mut_slice(), user, ticks)
     }
 
+    /// A user waits from now on, if it stands in the row.
+    pub(crate) fn wait_from(&mut self, user: u8, now: u64)
+        ensures { self.new ≡ map (from_now user now) self.old }
+    {
+        wait_from_each(self.items.as_mut_slice(), user, now);
+    }
+
+    /// The first user that has waited for so many ticks and isn't served.
+    pub(crate) fn first_waiting(
+        &self,
+        age: u64,
+        served: &Option<UserNo>,
+        now: u64,
+    ) -> Option<Waiting>
+        requires { 0 < age }
+        ensures { result ≡ first_that (has_waited age served.now now) self.now }
+    {
+        first_waiting_of(self.items.as_slice(), age, served, now)
+    }
+
+    /// A tick, at most `soon`, before which no user of the row but one has waited for so many ticks.
+    pub(crate) fn earliest(&self, age: u64, besides: &Option<UserNo>, soon: u64) -> u64
+        ensures under { result ≤ soon }
+        ensures later { RowIsLater age result besides.now self.now }
+    {
+        earliest_of(self.items.as_slice(), age, besides, soon)
+    }
+
     /// The next user.
     pub(crate) fn head(&self) -> Option<Waiting>
         ensures { result ≡ head_of self.now }
@@ -89,6 +117,150 @@ fn spend_each(items: &mut [Waiting], user: u8, ticks: u64) -> bool
         }
     }
     false
+}
+
+/// A user waits from now on.
+fn waiting_from(waiting: Waiting, user: u8, now: u64) -> Waiting
+    ensures { result ≡ from_now user now waiting }
+{
+    if waiting.user == user {
+        Waiting {
+            user: waiting.user,
+            left: waiting.left,
+            since: now,
+        }
+    } else {
+        waiting
+    }
+}
+
+/// A user waits from now on, if it is among these.
+fn wait_from_each(items: &mut [Waiting], user: u8, now: u64)
+    ensures { items.new ≡ map (from_now user now) items.old }
+{
+    for item in items.iter_mut() {
+        *item = waiting_from(*item, user, now);
+    }
+}
+
+/// Whether it is this user's service that is open.
+fn is_served(served: &Option<UserNo>, user: u8) -> bool
+    ensures { result ≡ is_served served.now user }
+{
+    match served {
+        None => false,
+        Some(v) => v.number() == user,
+    }
+}
+
+/// Whether a user has waited for so many ticks and isn't served.
+#[tactic(auto, using(crate::proofs::Rising::waited_so_long))]
+fn has_waited(waiting: &Waiting, age: u64, served: &Option<UserNo>, now: u64) -> bool
+    requires { 0 < age }
+    ensures { result ≡ has_waited age served.now now waiting.now }
+{
+    !is_served(served, waiting.user) && now.saturating_sub(waiting.since) >= age
+}
+
+/// The first that has waited for so many ticks and isn't served.
+fn first_waiting_of(
+    items: &[Waiting],
+    age: u64,
+    served: &Option<UserNo>,
+    now: u64,
+) -> Option<Waiting>
+    requires { 0 < age }
+    ensures { result ≡ first_that (has_waited age served.now now) items.now }
+{
+    match items {
+        [] => None,
+        [waiting, rest @ ..] => {
+            if has_waited(waiting, age, served, now) {
+                Some(*waiting)
+            } else {
+                first_waiting_of(rest, age, served, now)
+            }
+        }
+    }
+}
+
+/// The tick at which a user has waited for so many ticks, but at most `soon`; where it is the one that doesn't count, `soon`.
+fn sooner(waiting: &Waiting, age: u64, besides: &Option<UserNo>, soon: u64) -> u64
+    ensures under { result ≤ soon }
+    ensures later { is_served besides.now waiting.now.user ≡ false → result ≤ waiting.now.since + age }
+{
+    if is_served(besides, waiting.user) {
+        soon
+    } else {
+        soon.min(waiting.since.saturating_add(age))
+    }
+}
+
+/// A tick, at most `soon`, before which none of these users but one has waited for so many ticks.
+fn earliest_of(items: &[Waiting], age: u64, besides: &Option<UserNo>, soon: u64) -> u64
+    ensures under { result ≤ soon }
+    ensures later { RowIsLater age result besides.now items.now }
+{
+    match items {
+        [] => soon,
+        [waiting, rest @ ..] => earliest_of(
+            rest,
+            age,
+            besides,
+            sooner(waiting, age, besides, soon),
+        ),
+    }
+}
+
+/// A tick, at most `soon`, before which no user of these rows but one has waited for so many ticks.
+fn earliest_in(rows: &[Row], age: u64, besides: &Option<UserNo>, soon: u64) -> u64
+    ensures under { result ≤ soon }
+    ensures later { AreLater age result besides.now rows.now }
+{
+    match rows {
+        [] => soon,
+        [row, rest @ ..] => earliest_in(rest, age, besides, row.earliest(age, besides, soon)),
+    }
+}
+
+/// The same of all levels above the first of these.
+pub(crate) fn earliest_above(rows: &[Row], age: u64, besides: &Option<UserNo>, soon: u64) -> u64
+    ensures { AreLater age result besides.now (drop 1 rows.now) }
+{
+    match rows {
+        [] => soon,
+        [_, rest @ ..] => earliest_in(rest, age, besides, soon),
+    }
+}
+
+/// The first user above level 0 that has waited for so many ticks and isn't served, with its level.
+pub(crate) fn first_waiting_in(
+    rows: &[Row],
+    age: u64,
+    served: &Option<UserNo>,
+    now: u64,
+) -> Option<(u8, Waiting)>
+    requires few { length rows.now ≤ 9 }
+    requires some { 0 < age }
+    ensures value { result ≡ first_with (has_waited age served.now now) 1 (drop 1 rows.now) }
+    ensures small { IfSome result (λ x. (1 ≤ x.0) × (x.0 ≤ 8)) }
+{
+    for level in 1..rows.len() {
+        if let Some(waiting) = rows[level].first_waiting(age, served, now) {
+            return Some((level as u8, waiting));
+        }
+    }
+    None
+}
+
+/// A user waits from now on, in whichever row it stands.
+#[tactic(auto, using(crate::proofs::Counts::over_more))]
+pub(crate) fn wait_from_in_all(rows: &mut [Row], user: u8, now: u64)
+    ensures { rows.new ≡ map (map (from_now user now)) rows.old }
+{
+    for row in rows.iter_mut() {
+        row.wait_from(user, now);
+    }
 }
 
 /// So many ticks of a user's quantum go by, in whichever row it stands. The first `low` rows have no users.

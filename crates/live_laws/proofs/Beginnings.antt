@@ -128,11 +128,15 @@ module _ {S P F : Type 0} (m : Machine S) (w : World S P F) (adds : OnlyAdds m) 
   otherwise_adds limit (Some v) (Some x) s =
       elim (nat_eq x.user v) as (λ b. Adds s (if b then system.attended m w x s else system.preempt m w x s)) [ true ↦ attended_adds x s | false ↦ ((_, refl), say_same s.users) ]
 
+  quiet_adds : (limit : ℕ) (rising : Option (ℕ × ℕ)) (s : SystemState S P F) → Adds s (system.quiet_by m w limit rising s)
+  quiet_adds limit None s = otherwise_adds limit (w.choose s.plan) s.service s
+  quiet_adds limit (Some x) s = ((_, refl), say_same s.users)
+
   next_adds : (limit : ℕ) (events : List Timed) (s : SystemState S P F) → Adds s (system.next_by m w limit events s)
-  next_adds limit [] s = otherwise_adds limit (w.choose s.plan) s.service s
+  next_adds limit [] s = quiet_adds limit _ s
   next_adds limit (e ∷ rest) s =
-      elim (nat_le e.tick s.clock) as (λ b. Adds s (if b then system.taken m w e rest s else system.otherwise m w limit (w.choose s.plan) s.service s))
-      [ true ↦ taken_adds e rest s | false ↦ otherwise_adds limit (w.choose s.plan) s.service s ]
+      elim (nat_le e.tick s.clock) as (λ b. Adds s (if b then system.taken m w e rest s else system.quiet m w limit s))
+      [ true ↦ taken_adds e rest s | false ↦ quiet_adds limit _ s ]
 
   steps_add : (limit n : ℕ) (s : SystemState S P F) → Adds s (whole.iterate m w limit n s)
   steps_add limit zero s = same s

@@ -84,7 +84,7 @@ module _ {S P F : Type 0} (m : Machine S) (w : World S P F) where
             | inr ne ↦
                 let t : SystemState S P F = with_events es (idled m w j s) in
                 let far = ticks s.events es late ne in
-                idles_to k t texts (omega (arith, far.0, far.1)) (not_due m w es k (s.events ++ es) t far.2 ∙ rw (choice, service) refl)
+                idles_to k t texts (omega (arith, far.0, far.1)) (not_due m w es k (s.events ++ es) t far.2 ∙ ap (λ x. system.quiet_by m w k x t) (ends.none_rises s.plan (system.served_of s.service) t.clock choice) ∙ rw (choice, service) refl)
           ]
         where
           ticks : (events es : List Timed) → AreLate j es → next_tick j events ≢ next_tick k (events ++ es) →

@@ -166,6 +166,7 @@ made_is_lawful n =
       level = omega arith;
       quantum = omega arith;
       disk = omega arith;
+      age = omega arith;
       fits = omega (arith, tracks_of_accounts (user_count n) 1);
       accounts = accounts_are_lawful (user_count n) 1 (omega arith);
       differ = names_differ (user_count n) few;

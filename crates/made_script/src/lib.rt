@@ -37,6 +37,7 @@ pub fn make_script(alloc: Global, n: u32) -> Result<Script, NoMemory>
             drum: 480,
             disk: 300,
             common: 10,
+            age: 0,
         },
         accounts,
         files,

@@ -1,5 +1,6 @@
 pub mod Counts
 pub mod Least
 pub mod LoadLaws
+pub mod RiseLaws
 pub mod RowsComputed
 pub mod SpentLaws

@@ -9,8 +9,8 @@ pub record Plan : Type 0 where
   pub levels : Levels
   pub places : Places
 
-abbrev pub first_plan : ℕ → ℕ → Plan
-first_plan wq quantum = record { levels = empty_levels wq quantum; places = no_places }
+abbrev pub first_plan : (wq quantum age : ℕ) → Plan
+first_plan wq quantum age = record { levels = empty_levels wq quantum age; places = no_places }
 
 -- whether some of a user's n blocks are not in core
 abbrev pub must_load : Plan → ℕ → ℕ → Bool

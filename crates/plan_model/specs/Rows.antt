@@ -1,7 +1,7 @@
 -- claim: worked rows of levels, queues and loads.
-use Rattle.std.specs.Prelude.{◌≡◌, ℕ, zero, suc, ◌*◌, Option, Some, Bool, true, false}
+use Rattle.std.specs.Prelude.{◌≡◌, ℕ, zero, suc, ◌*◌, Option, Some, None, List, Bool, true, false}
 use Rattle.ctss_types.specs.declared.session.Waiting.{Waiting}
-use Rattle.plan_model.specs.Levels.{Levels, level_of_words, empty_levels, chosen, entered, charged, dropped, woken}
+use Rattle.plan_model.specs.Levels.{Levels, level_of_words, empty_levels, chosen, entered, charged, dropped, waits, woken, preempted, riser, goes_up, risen, sum_of_levels}
 use Rattle.plan_model.specs.Loads.{Places, no_places, loaded, given_up, dumps, reads, clears, base_for, is_moved, is_in, is_loaded}
 
 -- the levels of programs of 1, 4, 28 and 128 blocks with 1024 words a level, and of 128 blocks with one
@@ -12,21 +12,45 @@ pub record RowOfLevels : Type 0 where
   pub all : level_of_words 1024 (128 * 256) ≡ 5
   pub most : level_of_words 1 (128 * 256) ≡ 8
 
-abbrev pub charged_times : ℕ → ℕ → Levels → Levels
-charged_times zero u q = q
-charged_times (suc n) u q = charged_times n u (charged u q)
+-- at this tick
+abbrev pub charged_times : ℕ → ℕ → (now : ℕ) → Levels → Levels
+charged_times zero u now q = q
+charged_times (suc n) u now q = charged_times n u now (charged u now q)
 
-abbrev pub at_level : ℕ → ℕ → ℕ → Option (ℕ × Waiting)
-at_level l u left = let w : Waiting = record { user = u; left = left } in Some (l, w)
+-- chosen at this level, with so much time left, and waiting since then
+abbrev pub at_level : ℕ → ℕ → ℕ → (since : ℕ) → Option (ℕ × Waiting)
+at_level l u left since = let w : Waiting = record { user = u; left = left; since = since } in Some (l, w)
+
+abbrev pub one_user : Levels
+one_user = entered 28 1 0 (empty_levels 1024 100 0)
 
 -- user 1 with 28 blocks is served for 150 ticks, then user 2 with 4 blocks comes and goes
 pub record RowOfQueues : Type 0 where
-  pub first : chosen (entered 28 1 (empty_levels 1024 100)) ≡ at_level 3 1 800
-  pub second : chosen (entered 4 2 (charged_times 150 1 (entered 28 1 (empty_levels 1024 100)))) ≡ at_level 1 2 200
-  pub again : chosen (dropped 2 (entered 4 2 (charged_times 150 1 (entered 28 1 (empty_levels 1024 100))))) ≡ at_level 3 1 650
+  pub first : chosen one_user ≡ at_level 3 1 800 0
+  pub second : chosen (entered 4 2 150 (charged_times 150 1 150 one_user)) ≡ at_level 1 2 200 150
+  pub again : chosen (dropped 2 (entered 4 2 150 (charged_times 150 1 150 one_user))) ≡ at_level 3 1 650 0
   -- at its last tick a user sinks, with the next level's full time
-  pub sunk : chosen (charged_times 800 1 (entered 28 1 (empty_levels 1024 100))) ≡ at_level 4 1 1600
-  pub woken : chosen (woken 4 1 (entered 28 1 (empty_levels 1024 100))) ≡ at_level 3 1 800
+  pub sunk : chosen (charged_times 800 1 800 one_user) ≡ at_level 4 1 1600 800
+  pub woken : chosen (woken 4 1 150 one_user) ≡ at_level 3 1 800 0
+  -- with age 0 nobody rises
+  pub never : riser None 1000000 one_user ≡ None
+
+-- user 1 with 28 blocks and user 2 with 4 come, where a user rises after 500 ticks
+abbrev pub two_users : Levels
+two_users = entered 4 2 0 (entered 28 1 0 (empty_levels 1024 100 500))
+
+pub record RowOfRises : Type 0 where
+  pub early : riser (Some 2) 499 two_users ≡ None
+  pub due : goes_up (riser (Some 2) 500 two_users) ≡ Some (1, 2)
+  pub once : riser (Some 2) 500 (risen 1 2 500 two_users) ≡ None
+  pub alone : chosen (dropped 2 (risen 1 2 500 two_users)) ≡ at_level 2 1 400 500
+  -- of two the one of the lower level rises first
+  pub lower : goes_up (riser None 500 two_users) ≡ Some (2, 0)
+  -- a preempted user waits anew
+  pub preempted : riser (Some 2) 500 (preempted 1 1 two_users) ≡ None
+  -- at level 0 nobody rises
+  pub least : riser None 5000 (dropped 1 (risen 2 0 500 two_users)) ≡ None
+  pub sums : (sum_of_levels two_users ≡ 4) × (sum_of_levels (risen 1 2 500 two_users) ≡ 3)
 
 -- how many blocks a load dumps, reads and clears, at which base, and whether the user's own are dumped before
 pub record IsLoad (p : Places) (u n dumped read fresh base : ℕ) (moved : Bool) : Type 0 where

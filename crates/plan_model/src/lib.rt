@@ -5,7 +5,7 @@
 #![tactic(auto)]
 
 ghost use Rattle.plan_model.specs.Bases.{BaseIsLeast};
-ghost use Rattle.plan_model.specs.Rows.{RowOfLevels, RowOfQueues, RowOfLoads, RowOfMoves};
+ghost use Rattle.plan_model.specs.Rows.{RowOfLevels, RowOfQueues, RowOfRises, RowOfLoads, RowOfMoves};
 
 /// Levels of sizes.
 #[tactic(auto, using(crate::proofs::RowsComputed::row_of_levels))]
@@ -17,6 +17,12 @@ pub fn row_of_levels()
 #[tactic(auto, using(crate::proofs::RowsComputed::row_of_queues))]
 pub fn row_of_queues()
     ensures { RowOfQueues }
+{}
+
+/// Two users, of which one rises.
+#[tactic(auto, using(crate::proofs::RowsComputed::row_of_rises))]
+pub fn row_of_rises()
+    ensures { RowOfRises }
 {}
 
 /// Loads of three users.

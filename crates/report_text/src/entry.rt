@@ -115,6 +115,11 @@ fn add_entry<K: Sink>(out: &mut TextWriter<'_, K>, entry: &Entry)
                 u64::from(*fresh),
             ],
         ),
+        Entry::Rise { tick, user, level } => add_line(
+            out,
+            b"RISE",
+            &[*tick, u64::from(*user), u64::from(*level)],
+        ),
         Entry::Serve {
             tick,
             user,

@@ -46,6 +46,7 @@ fn with_entry(sums: Sums, entry: &Entry) -> Sums
         | Entry::Login { .. }
         | Entry::Refused { .. }
         | Entry::Idle { .. }
+        | Entry::Rise { .. }
         | Entry::Clock { .. }
         | Entry::Common { .. } => sums,
     }

@@ -3,7 +3,7 @@ use Rattle.std.specs.Prelude.{ℕ, suc, ◌+◌, ◌-◌, List, [], ◌∷◌}
 use Rattle.ctss_types.specs.declared.history.Cause.{Cause}
 use Rattle.ctss_types.specs.declared.history.Cause.TheVariants as cause
 use Rattle.ctss_types.specs.declared.history.Entry.{Entry}
-use Rattle.ctss_types.specs.declared.history.Entry.TheVariants.{Taken, Login, Refused, Idle, Swap, Serve, Clock, Common}
+use Rattle.ctss_types.specs.declared.history.Entry.TheVariants.{Taken, Login, Refused, Idle, Swap, Rise, Serve, Clock, Common}
 
 -- how many loads there were
 abbrev pub swaps_in : List Entry → ℕ
@@ -14,6 +14,7 @@ swaps_in (Login tick console user ∷ es) = swaps_in es
 swaps_in (Refused tick console cause ∷ es) = swaps_in es
 swaps_in (Idle from until ∷ es) = swaps_in es
 swaps_in (Serve tick user level ran cause ∷ es) = swaps_in es
+swaps_in (Rise tick user level ∷ es) = swaps_in es
 swaps_in (Clock answer user ∷ es) = swaps_in es
 swaps_in (Common user op reply ∷ es) = swaps_in es
 
@@ -26,6 +27,7 @@ dumped_in (Login tick console user ∷ es) = dumped_in es
 dumped_in (Refused tick console cause ∷ es) = dumped_in es
 dumped_in (Idle from until ∷ es) = dumped_in es
 dumped_in (Serve tick user level ran cause ∷ es) = dumped_in es
+dumped_in (Rise tick user level ∷ es) = dumped_in es
 dumped_in (Clock answer user ∷ es) = dumped_in es
 dumped_in (Common user op reply ∷ es) = dumped_in es
 
@@ -38,6 +40,7 @@ read_in (Login tick console user ∷ es) = read_in es
 read_in (Refused tick console cause ∷ es) = read_in es
 read_in (Idle from until ∷ es) = read_in es
 read_in (Serve tick user level ran cause ∷ es) = read_in es
+read_in (Rise tick user level ∷ es) = read_in es
 read_in (Clock answer user ∷ es) = read_in es
 read_in (Common user op reply ∷ es) = read_in es
 
@@ -50,6 +53,7 @@ serves_in (Login tick console user ∷ es) = serves_in es
 serves_in (Refused tick console cause ∷ es) = serves_in es
 serves_in (Idle from until ∷ es) = serves_in es
 serves_in (Swap tick user dumped read fresh ∷ es) = serves_in es
+serves_in (Rise tick user level ∷ es) = serves_in es
 serves_in (Clock answer user ∷ es) = serves_in es
 serves_in (Common user op reply ∷ es) = serves_in es
 
@@ -71,5 +75,6 @@ steps_in (Login tick console user ∷ es) = steps_in es
 steps_in (Refused tick console cause ∷ es) = steps_in es
 steps_in (Idle from until ∷ es) = steps_in es
 steps_in (Swap tick user dumped read fresh ∷ es) = steps_in es
+steps_in (Rise tick user level ∷ es) = steps_in es
 steps_in (Clock answer user ∷ es) = steps_in es
 steps_in (Common user op reply ∷ es) = steps_in es

@@ -1,6 +1,8 @@
 -- Each form of a card as it is written, read back.
-use Rattle.std.proofs.Common.{◌≡◌, ℕ, zero, suc, ◌≤◌, Bool, true, false, cond, nat_eq, nat_le, List, [], ◌∷◌, ◌++◌, length, Option, Some, None, refl, ap, ◌∙◌, arith}
+use Rattle.std.proofs.Common.{◌≡◌, ℕ, zero, suc, ◌≤◌, Bool, true, false, cond, nat_eq, nat_le, List, [], ◌∷◌, ◌++◌, length, Option, Some, None, if◌then◌else◌, refl, sym, ap, ◌∙◌, arith}
 use Rattle.std.specs.Option.{option_map, option_and_then}
+use Rattle.std.specs.Fmt.{decimal}
+use Rattle.std.proofs.lemmas.List.{append-nil}
 use Rattle.std.specs.List.{All, list_all, flat_map}
 use Rattle.std.proofs.lemmas.Bool.Decides.{nat_tests}
 use Rattle.std.proofs.lemmas.List.Elements.{All-head, All-tail}
@@ -17,21 +19,43 @@ use Rattle.text_model.specs.declared.card.CardText.TheVariants as card_text
 use Rattle.text_model.specs.declared.card.CardEvent.{CardEvent}
 use Rattle.text_model.specs.declared.card.CardEvent.TheVariants.{Fits}
 use Rattle.text_model.specs.Parts.{number, name}
-use Rattle.text_model.specs.Canonical.{octal, event_text}
-use Rattle.text_model.specs.Fields.{octal_in, is_over, fitted, text_in}
-use Rattle.text_model.specs.Cards.{param_card_in, user_card_in, file_card_in, words_in, words_card_in, line_event, event_in, event_card_in, end_card_in}
+use Rattle.text_model.specs.Canonical.{octal, age_text, event_text}
+use Rattle.text_model.specs.Fields.{first_number, octal_in, is_over, fitted, text_in}
+use Rattle.text_model.specs.Cards.{age_in, param_card_in, user_card_in, file_card_in, words_in, words_card_in, line_event, event_in, event_card_in, end_card_in}
 use Rattle.text_model.specs.Lawful.{IsName, IsTyped, IsLawfulEvent}
-use Rattle.script_laws.proofs.Fields.{starts_blank, IsField, word_read, behind_read, IsNumber, first_number_read, last_number_read, first_name_read, IsWord, octal_field, octal_read}
+use Rattle.script_laws.proofs.Fields.{starts_blank, IsField, word_read, behind_read, IsNumber, number_field, first_number_read, last_number_read, first_name_read, IsWord, octal_field, octal_read}
 
 -- a field that is read, and what follows from what stands behind it
 and_then : {A B : Type 0} (f : A → Option B) (o : Option A) (x : A) (r : Option B) → o ≡ Some x → f x ≡ r → option_and_then f o ≡ r
 and_then f o x r h k = ap (option_and_then f) h ∙ k
 
+-- the age of PARAM, or nothing
+age_starts : (n : ℕ) → starts_blank (age_text n) ≡ true
+age_starts zero = refl
+age_starts (suc n) = refl
+
+positive : (k : ℕ) → 1 ≤ k → nat_eq k 0 ≡ false
+positive k h = grind (arith, nat_tests)
+
+-- a number is more than nothing
+number_stands : (n : ℕ) → IsNumber n → is_over (number n) ≡ false
+number_stands n small =
+    ap (λ (t : List ℕ). is_over (32 ∷ t)) (sym (append-nil (decimal n)))
+    ∙ ap (λ (t : List ℕ). nat_eq (length t) 0) (word_read (decimal n) [] (number_field n small) refl)
+    ∙ positive (length (decimal n)) (number_field n small).some
+
+age_read : (n : ℕ) → IsNumber n → age_in (age_text n) ≡ Some n
+age_read zero small = refl
+age_read (suc n) small =
+    ap (λ (b : Bool). cond b (Some 0) (option_and_then (λ (a, rest). if is_over rest then Some a else None) (first_number (number (suc n))))) (number_stands (suc n) small)
+    ∙ and_then _ _ (suc n, []) (Some (suc n)) (last_number_read (suc n) small) refl
+
 -- PARAM reads as it is written
-pub param_read : (c : ParamCard) → IsNumber c.wq → IsNumber c.quantum → IsNumber c.swap → IsNumber c.drum → IsNumber c.disk → IsNumber c.common
-    → param_card_in (number c.wq ++ (number c.quantum ++ (number c.swap ++ (number c.drum ++ (number c.disk ++ number c.common))))) ≡ Some c
-param_read c wq quantum swap drum disk common =
-    let e : List ℕ = number c.common in
+pub param_read : (c : ParamCard) → IsNumber c.wq → IsNumber c.quantum → IsNumber c.swap → IsNumber c.drum → IsNumber c.disk → IsNumber c.common → IsNumber c.age
+    → param_card_in (number c.wq ++ (number c.quantum ++ (number c.swap ++ (number c.drum ++ (number c.disk ++ (number c.common ++ age_text c.age)))))) ≡ Some c
+param_read c wq quantum swap drum disk common age =
+    let f : List ℕ = age_text c.age in
+    let e : List ℕ = number c.common ++ f in
     let d : List ℕ = number c.disk ++ e in
     let t : List ℕ = number c.drum ++ d in
     let b : List ℕ = number c.swap ++ t in
@@ -41,7 +65,7 @@ param_read c wq quantum swap drum disk common =
     (and_then _ _ (c.swap, t) (Some c) (first_number_read c.swap t swap refl)
     (and_then _ _ (c.drum, d) (Some c) (first_number_read c.drum d drum refl)
     (and_then _ _ (c.disk, e) (Some c) (first_number_read c.disk e disk refl)
-    (and_then _ _ (c.common, []) (Some c) (last_number_read c.common common) refl)))))
+    (and_then _ _ (c.common, f) (Some c) (first_number_read c.common f common (age_starts c.age)) (ap (option_map (λ (a : ℕ). let card : ParamCard = record c { age = a } in card)) (age_read c.age age)))))))
 
 -- USER reads as it is written
 pub user_read : (c : UserCard) → IsNumber c.number → IsName c.name → IsName c.password → IsNumber c.blocks → IsNumber c.tracks

@@ -268,6 +268,7 @@ limits_of s h =
       drum = h.range.drum;
       disk = h.disk;
       common = omega (arith, h.fits);
+      age = h.age;
     }
 
 -- of its accounts
@@ -326,7 +327,7 @@ cards_clean : (s : Script) → IsLawful s → list_all is_clean (cards_of s) ≡
 cards_clean s h =
     let limits : HasLimits s.params = limits_of s h in
     and_from _ (list_all is_clean (user_texts 1 s.accounts ++ files_texts s.files s.events s.end))
-    (param_clean s.params (omega (arith, limits.level)) (omega (arith, limits.slice)) (omega (arith, limits.swap)) (omega (arith, limits.drum)) (omega (arith, limits.disk)) (omega (arith, limits.disk, limits.common)))
+    (param_clean s.params (omega (arith, limits.level)) (omega (arith, limits.slice)) (omega (arith, limits.swap)) (omega (arith, limits.drum)) (omega (arith, limits.disk)) (omega (arith, limits.disk, limits.common)) (omega (arith, limits.age)))
     (all_clean_both (user_texts 1 s.accounts) (files_texts s.files s.events s.end) (users_clean 1 s.accounts (omega (arith, h.range.few)) (goods_of s h))
     (all_clean_both (flat_map file_texts s.files) (events_texts s.events s.end) (files_clean s.accounts s.files h.range.few (seats_of s h))
     (all_clean_both (map timed_text s.events) (end_text s.end ∷ []) (events_clean s.end s.events h.range.ticks (fine_of s h))

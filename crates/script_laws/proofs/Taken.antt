@@ -91,20 +91,21 @@ pub record HasLimits (p : Params) : Type 0 where
   pub drum : p.drum ≤ 3840
   pub disk : p.disk ≤ 10000
   pub common : p.common ≤ p.disk
+  pub age : p.age ≤ 1000000
 
 -- their test
-params_pass : (p : Params) → HasLimits p → are_params_in_limits (record { wq = p.wq; quantum = p.quantum; swap = p.swap; drum = p.drum; disk = p.disk; common = p.common }) ≡ true
+params_pass : (p : Params) → HasLimits p → are_params_in_limits (record { wq = p.wq; quantum = p.quantum; swap = p.swap; drum = p.drum; disk = p.disk; common = p.common; age = p.age }) ≡ true
 params_pass p h =
-    rw (within 1 32768 p.wq h.wq h.level, within 1 1000000 p.quantum h.quantum h.slice, at_most p.swap 1000000 h.swap, at_most p.drum 3840 h.drum, at_most p.disk 10000 h.disk, at_most p.common 10000 (omega (arith, h.common, h.disk)))
+    rw (within 1 32768 p.wq h.wq h.level, within 1 1000000 p.quantum h.quantum h.slice, at_most p.swap 1000000 h.swap, at_most p.drum 3840 h.drum, at_most p.disk 10000 h.disk, at_most p.common 10000 (omega (arith, h.common, h.disk)), at_most p.age 1000000 h.age)
     refl
 
 -- PARAM is taken first
 pub param_taken : (p : Params) → HasLimits p → entered empty_draft (param_text p) ≡ Ok (draft p [] 0 0 [] None [] 0)
 param_taken p h =
-    let c : ParamCard = record { wq = p.wq; quantum = p.quantum; swap = p.swap; drum = p.drum; disk = p.disk; common = p.common } in
+    let c : ParamCard = record { wq = p.wq; quantum = p.quantum; swap = p.swap; drum = p.drum; disk = p.disk; common = p.common; age = p.age } in
     let e : Draft = draft p [] 0 0 [] None [] 0 in
     taken (with_params empty_draft) _ c e
-    (param_read c (omega (arith, h.level)) (omega (arith, h.slice)) (omega (arith, h.swap)) (omega (arith, h.drum)) (omega (arith, h.disk)) (omega (arith, h.disk, h.common)))
+    (param_read c (omega (arith, h.level)) (omega (arith, h.slice)) (omega (arith, h.swap)) (omega (arith, h.drum)) (omega (arith, h.disk)) (omega (arith, h.disk, h.common)) (omega (arith, h.age)))
     (pass (are_params_in_limits c) OverLimit _ e (params_pass p h) (escape (nat_lt p.disk p.common) DiskSmall (Ok e) e (not_less p.disk p.common h.common) refl))
 
 -- USER

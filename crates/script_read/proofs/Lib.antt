@@ -1,3 +1,4 @@
+pub mod Ages
 pub mod CardWords
 pub mod FirstLine
 pub mod Tracks

@@ -53,6 +53,7 @@ fn are_params_in_limits(card: &ParamCard) -> bool
         && card.drum <= 3840
         && card.disk <= 10_000
         && card.common <= 10_000
+        && card.age <= 1_000_000
 }
 
 /// Takes the first card.
@@ -72,6 +73,7 @@ fn with_params(draft: &mut Draft, card: &ParamCard) -> Result<(), CardFault>
         drum: card.drum as u16,
         disk: card.disk as u16,
         common: card.common as u16,
+        age: u64::from(card.age),
     });
     Ok(())
 }

@@ -1,7 +1,7 @@
 //! The canonical text of a script.
 ghost use Rattle.std.specs.Prelude.{◌++◌, codes};
 ghost use Rattle.std.specs.List.{flat_map};
-ghost use Rattle.text_model.specs.Canonical.{param_card, user_card, user_cards, file_cards, event_text, event_card, end_card, script_text_of};
+ghost use Rattle.text_model.specs.Canonical.{age_text, param_card, user_card, user_cards, file_cards, event_text, event_card, end_card, script_text_of};
 ghost use Rattle.text_model.specs.Parts.{line, number, name};
 ghost use Rattle.text_writer.specs.Writing.{Adds};
 
@@ -10,6 +10,15 @@ use ctss_types::{Account, Event, OwnedFile, Params, Script, Timed, UserNo};
 use text_writer::{Text, TextWriter};
 use word_cards::add_word_cards;
 use word36::Word;
+
+/// Adds the age of the PARAM card, which 0 leaves out.
+fn add_age<K: Sink>(out: &mut TextWriter<'_, K>, age: u64)
+    ensures { Adds K.Sink (age_text age) out.old out.new }
+{
+    if age > 0 {
+        out.number(age);
+    }
+}
 
 /// Adds the PARAM card.
 fn add_params<K: Sink>(out: &mut TextWriter<'_, K>, params: Params)
@@ -22,6 +31,7 @@ fn add_params<K: Sink>(out: &mut TextWriter<'_, K>, params: Params)
     out.number(params.drum);
     out.number(params.disk);
     out.number(params.common);
+    add_age(out, params.age);
     out.end_line();
 }
 

@@ -42,6 +42,7 @@ live_is_lawful base turns events b few good rise =
       level = b.level;
       quantum = b.quantum;
       disk = b.disk;
+      age = b.age;
       fits = b.fits;
       accounts = b.accounts;
       differ = b.differ;

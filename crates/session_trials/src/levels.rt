@@ -1,5 +1,5 @@
 use ctss_types::UserNo;
-use level_queues::{Charge, Chosen, Queues, level_of};
+use level_queues::{Charge, Chosen, Queues, Risen, level_of};
 use std::process::Abort;
 
 // The levels of programs of so many blocks, at so many words a level.
@@ -20,6 +20,11 @@ enum Act {
     IsOut,
     Charge(Charge),
     DropOut,
+    Preempt,
+    /// Rises to a level while another user is served.
+    Rises(u8, u8),
+    /// Nobody rises while this user is served.
+    NoneRises,
     /// Is chosen, at a level and with so many ticks left.
     IsChosen(u8, u64),
     NoneIsChosen,
@@ -50,8 +55,21 @@ static IN_ORDER: [Row; 7] = [
     (1, 2, Act::IsChosen(1, 200)),
 ];
 
-/// Does it, and says whether it went as it must.
-fn goes(queues: &mut Queues, n: u8, act: Act) -> bool {
+// With 28 blocks user 1 enters level 3, with 4 blocks user 2 enters level 1; the ticks stand in front.
+static RISES: [(u64, Row); 9] = [
+    (0, (1, 1, Act::Enter(28))),
+    (0, (1, 2, Act::Enter(4))),
+    (499, (1, 2, Act::NoneRises)),
+    (500, (1, 1, Act::Rises(2, 2))),
+    (500, (1, 2, Act::NoneRises)),
+    (900, (1, 1, Act::Preempt)),
+    (1399, (1, 2, Act::NoneRises)),
+    (1399, (1, 2, Act::DropOut)),
+    (1399, (1, 1, Act::IsChosen(2, 400))),
+];
+
+/// Does it at a tick, and says whether it went as it must.
+fn goes(queues: &mut Queues, now: u64, n: u8, act: Act) -> bool {
     let Some(user) = UserNo::new(n) else {
         return false;
     };
@@ -60,30 +78,39 @@ fn goes(queues: &mut Queues, n: u8, act: Act) -> bool {
             if blocks > 128 || queues.holds(user) {
                 return false;
             }
-            queues.enter(user, blocks);
+            queues.enter(user, blocks, now);
             true
         }
         Act::IsHeld => queues.holds(user),
         Act::IsOut => !queues.holds(user),
         Act::Charge(want) => {
             let is_chosen = queues.choose().is_some_and(|next| next.user == user);
-            is_chosen && queues.charge(user) == want
+            is_chosen && queues.charge(user, now) == want
         }
         Act::DropOut => {
             queues.drop_user(user);
             true
         }
+        Act::Preempt => {
+            let is_held = queues.holds(user);
+            queues.preempt(user, now);
+            is_held
+        }
+        Act::Rises(level, served) => {
+            queues.rise(UserNo::new(served), now) == Some(Risen { user, level })
+        }
+        Act::NoneRises => queues.rise(Some(user), now).is_none(),
         Act::IsChosen(level, left) => queues.choose() == Some(Chosen { user, level, left }),
         Act::NoneIsChosen => queues.choose().is_none(),
     }
 }
 
-/// Does these in queues of 1024 words and 100 ticks.
+/// Does these in queues of 1024 words and 100 ticks, where nobody rises.
 fn all_go(rt: &impl Abort, rows: &[Row]) {
-    let mut queues = Queues::new(1024, 100);
+    let mut queues = Queues::new(1024, 100, 0);
     for (place, (times, n, act)) in rows.iter().enumerate() {
         for _ in 0..*times {
-            assert!(rt; goes(&mut queues, *n, *act), "row {place}");
+            assert!(rt; goes(&mut queues, 0, *n, *act), "row {place}");
         }
     }
 }
@@ -104,4 +131,12 @@ fn the_lowest_row_is_served_and_sinks(rt: HostRuntime) {
 #[test]
 fn a_row_is_served_in_order(rt: HostRuntime) {
     all_go(&rt, &IN_ORDER);
+}
+
+#[test]
+fn a_user_that_waits_rises(rt: HostRuntime) {
+    let mut queues = Queues::new(1024, 100, 500);
+    for (place, (now, (_, n, act))) in RISES.iter().enumerate() {
+        assert!(rt; goes(&mut queues, *now, *n, *act), "row {place}");
+    }
 }

@@ -2,6 +2,7 @@
 use Rattle.std.proofs.Common.{◌≡◌, ◌≢◌, ℕ, ◌-◌, ◌<◌, ◌≤◌, Bool, true, false, not, nat_eq, List, Option, Some, None, get_or, refl, sym, ◌∙◌, ap, subst, arith, ◌⊎◌, inl, inr}
 use Rattle.time_sharing.specs.Machine.{Ending, CommonOp, Reply}
 use Rattle.ctss_types.specs.declared.file.FileBody.{FileBody}
+use Rattle.std.specs.Option.{is_some}
 use Rattle.time_sharing.specs.System.{Timed, Service, Off, Preempt, common_entry}
 use Rattle.user_model.specs.Inner.{Stored, blocks_of}
 use Rattle.user_model.specs.User.{User, can_step, step, ending, asks_clock, asks_common, in_store, store_after, IsStep}
@@ -10,8 +11,8 @@ use Rattle.plan_model.specs.Loads.{is_loaded}
 use Rattle.image_map.specs.Images.{size_of}
 use Rattle.ctss_types.specs.declared.session.Waiting.{Waiting}
 use Rattle.plan_model.specs.Plan.{must_load}
-use Rattle.system_model.specs.Run.{Run, next, taken, otherwise, attended, by_due, due_of, measure}
-use Rattle.system_model.specs.Cases.{user_at, brought, waited, idled, served, reply_for, commons_for}
+use Rattle.system_model.specs.Run.{Run, next, taken, otherwise, attended, rising, rise_of, raised, by_rising, by_due, due_of, measure}
+use Rattle.system_model.specs.Cases.{user_at, brought, waited, idled, broken_off, reply_for, commons_for}
 use Rattle.system_model.specs.Joined.{joined, with_store, hung_up, cut_user, stepped_to}
 use Rattle.system_model.specs.Sound.{Sound, IsUser, HasSeat}
 use Rattle.system_model.proofs.CaseLaws.{next_due, attended_loads, attended_steps, attended_waits, idles, preempts_none, begins, goes_on, preempts}
@@ -199,15 +200,15 @@ pub go_idle : (limit : ℕ) (old new : Run) (had has : Held) → chosen old.syst
 go_idle limit old new had has c s d =
     by_both limit None None old new had has c s (does_as (idled limit) (otherwise limit None None) old new had has (λ w. sym (idles limit (joined w old))) d)
 
-pub go_end_none : (limit : ℕ) (v : Service) (old new : Run) (had has : Held) → chosen old.system.plan.levels ≡ None → old.system.service ≡ Some v → Does (served Preempt v) old new had has
+pub go_end_none : (limit : ℕ) (v : Service) (old new : Run) (had has : Held) → chosen old.system.plan.levels ≡ None → old.system.service ≡ Some v → Does (broken_off v) old new had has
     → Does (otherwise limit (user_of (chosen old.system.plan.levels)) old.system.service) old new had has
 go_end_none limit v old new had has c s d =
-    by_both limit None (Some v) old new had has c s (does_as (served Preempt v) (otherwise limit None (Some v)) old new had has (λ w. sym (preempts_none limit v (joined w old))) d)
+    by_both limit None (Some v) old new had has c s (does_as (broken_off v) (otherwise limit None (Some v)) old new had has (λ w. sym (preempts_none limit v (joined w old))) d)
 
-pub go_end : (limit m : ℕ) (x : Waiting) (v : Service) (old new : Run) (had has : Held) → chosen old.system.plan.levels ≡ Some (m, x) → old.system.service ≡ Some v → v.user ≢ x.user → Does (served Preempt v) old new had has
+pub go_end : (limit m : ℕ) (x : Waiting) (v : Service) (old new : Run) (had has : Held) → chosen old.system.plan.levels ≡ Some (m, x) → old.system.service ≡ Some v → v.user ≢ x.user → Does (broken_off v) old new had has
     → Does (otherwise limit (user_of (chosen old.system.plan.levels)) old.system.service) old new had has
 go_end limit m x v old new had has c s other d =
-    by_both limit (Some (m, x)) (Some v) old new had has c s (does_as (served Preempt v) (otherwise limit (Some x.user) (Some v)) old new had has (λ w. sym (preempts limit x.user v (joined w old) other)) d)
+    by_both limit (Some (m, x)) (Some v) old new had has c s (does_as (broken_off v) (otherwise limit (Some x.user) (Some v)) old new had has (λ w. sym (preempts limit x.user v (joined w old) other)) d)
 
 pub go_begin : (limit m : ℕ) (x : Waiting) (v : Service) (old new : Run) (had has : Held) → chosen old.system.plan.levels ≡ Some (m, x) → old.system.service ≡ None
     → v ≡ record { tick = old.system.clock; user = x.user; level = m; ran = 0 } → Does (attended v) old new had has
@@ -248,12 +249,22 @@ does_event limit e old new had has is d =
     does_as (taken e) (next limit) old new had has
     (λ w. sym (next_due limit (joined w old) ∙ ap (λ (o : Option Timed). by_due limit o (joined w old)) is)) d
 
-pub does_none : (limit : ℕ) (old new : Run) (had has : Held) → due_of old.system.events old.system.clock ≡ None
+pub does_none : (limit : ℕ) (old new : Run) (had has : Held) → due_of old.system.events old.system.clock ≡ None → rising old ≡ None
     → Does (otherwise limit (user_of (chosen old.system.plan.levels)) old.system.service) old new had has → Does (next limit) old new had has
 unfolding joined
-does_none limit old new had has is d =
+does_none limit old new had has is low d =
     does_as (otherwise limit (user_of (chosen old.system.plan.levels)) old.system.service) (next limit) old new had has
-    (λ w. sym (next_due limit (joined w old) ∙ ap (λ (o : Option Timed). by_due limit o (joined w old)) is)) d
+    (λ w. sym (next_due limit (joined w old) ∙ ap (λ (o : Option Timed). by_due limit o (joined w old)) is ∙ ap (λ (o : Option (ℕ × ℕ)). by_rising limit o (joined w old)) low)) d
+
+pub does_rise : (limit : ℕ) (old new : Run) (had has : Held) → due_of old.system.events old.system.clock ≡ None → is_some (rising old) ≡ true → Does raised old new had has → Does (next limit) old new had has
+unfolding joined
+does_rise limit old new had has is up d =
+    does_as raised (next limit) old new had has
+    (λ w. sym (next_due limit (joined w old) ∙ ap (λ (o : Option Timed). by_due limit o (joined w old)) is ∙ by_who (joined w old) (rising old) up)) d
+  where
+    by_who : (r : Run) (o : Option (ℕ × ℕ)) → is_some o ≡ true → by_rising limit o r ≡ rise_of o r
+    by_who r None h = cc
+    by_who r (Some x) h = refl
 
 pub does_sound : (limit : ℕ) (old new : Run) (had has : Held) → old.system.clock < limit → Sound old → Does (next limit) old new had has → Sound new
 unfolding joined

@@ -6,6 +6,7 @@ use Rattle.user_model.specs.Inner.{Stored, blocks_of}
 use Rattle.user_model.specs.User.{User}
 use Rattle.user_model.specs.Runs.{HaveGone}
 use Rattle.plan_model.specs.Levels.{chosen}
+use Rattle.plan_model.specs.Spent.{NobodyRises}
 use Rattle.plan_model.specs.Plan.{must_load}
 use Rattle.system_model.specs.Run.{Run, next, run_to, measure, AfterSteps, due_of}
 use Rattle.system_model.specs.Cases.{user_at}
@@ -41,19 +42,20 @@ stands_still limit old had = does_none_at_all limit old old had had refl (λ t u
 pub does_many : (limit n l : ℕ) (w : Waiting) (v : Service) (p : User) (old new : Run) (had has : Held) (window : Stored) (after : List ℕ) → IsUser v.user old → old.system.service ≡ Some v
     → chosen old.system.plan.levels ≡ Some (l, w) → w.user ≡ v.user → (0 < n → n < w.left)
     → old.system.clock + n ≤ limit → old.system.clock + n ≤ next_tick limit old.system.events
+    → (until : ℕ) → NobodyRises (Some v.user) until old.system.plan.levels → old.system.clock + n ≤ until
     → must_load old.system.plan v.user (blocks_of (user_at v.user old.system.users).inner) ≡ false
     → HaveGone n (user_at v.user old.system.users) p window.core after
     → new ≡ passed n v p old
     → (had.tells ≡ true → had.stores v.user ≡ window)
     → (had.tells ≡ true → has.stores v.user ≡ record window { core = after })
     → ((u : ℕ) → u ≢ v.user → has.stores u ≡ had.stores u) → has.tells ≡ had.tells → has.common ≡ had.common → DoesMany limit old new had has
-does_many limit n l w v p old new had has window after who serves first mine left up quiet loaded gone is was here others tells common =
+does_many limit n l w v p old new had has window after who serves first mine left up quiet until low early loaded gone is was here others tells common =
     record {
       steps = n;
       before = f;
       after = with_store v.user (record window { core = after }) f;
       passes = subst (λ (r : Run). Passes limit n (joined f old) (joined (with_store v.user (record window { core = after }) f) r)) (sym is)
-          (passes_joined limit n l w v f window after p old who serves first mine left up quiet loaded (with_own v.user window had.stores) gone);
+          (passes_joined limit n l w v f window after p old who serves first mine left up quiet until low early loaded (with_own v.user window had.stores) gone);
       was = λ told u. same_but v.user window had.stores had.stores (was told) (λ x n. refl) u;
       now = λ told u. same_but v.user (record window { core = after }) f has.stores (here told) (λ x n. others x n ∙ sym (with_other v.user x window had.stores n)) u;
       tells = tells;

@@ -129,6 +129,7 @@ stops_at_load limit start old new first had was mid now part early sound counted
       early = early;
       load = record {
         quiet = fails.next.quiet;
+        low = fails.next.low;
         due = record {
           user = due.user;
           chosen_is = due.chosen_is;

@@ -98,11 +98,15 @@ module _ {S P F : Type 0} (m : Machine S) (w : World S P F) where
   otherwise_keeps limit (Some v) (Some x) s =
       elim (nat_eq x.user v) as (λ b. Keeps s (if b then system.attended m w x s else system.preempt m w x s)) [ true ↦ attended_keeps x s | false ↦ refl ]
 
+  quiet_keeps : (limit : ℕ) (rising : Option (ℕ × ℕ)) (s : SystemState S P F) → Keeps s (system.quiet_by m w limit rising s)
+  quiet_keeps limit None s = otherwise_keeps limit (w.choose s.plan) s.service s
+  quiet_keeps limit (Some x) s = refl
+
   next_keeps : (limit : ℕ) (events : List Timed) (s : SystemState S P F) → Keeps s (system.next_by m w limit events s)
-  next_keeps limit [] s = otherwise_keeps limit (w.choose s.plan) s.service s
+  next_keeps limit [] s = quiet_keeps limit _ s
   next_keeps limit (e ∷ rest) s =
-      elim (nat_le e.tick s.clock) as (λ b. Keeps s (if b then system.taken m w e rest s else system.otherwise m w limit (w.choose s.plan) s.service s))
-      [ true ↦ taken_keeps e rest s | false ↦ otherwise_keeps limit (w.choose s.plan) s.service s ]
+      elim (nat_le e.tick s.clock) as (λ b. Keeps s (if b then system.taken m w e rest s else system.quiet m w limit s))
+      [ true ↦ taken_keeps e rest s | false ↦ quiet_keeps limit _ s ]
 
 pub next_seats : (limit : ℕ) (r : Run) → length (next limit r).system.consoles ≡ length r.system.consoles
 unfolding next

@@ -1,15 +1,18 @@
 -- Parts of what a step of the user that is served does.
-use Rattle.std.proofs.Common.{◌≡◌, ℕ, zero, ◌≤◌, ◌-◌, ◌*◌, Bool, true, List, [], ◌++◌, length, take, replicate, Option, refl, sym, ◌∙◌, ap, arith, subst}
+use Rattle.std.proofs.Common.{◌≡◌, ℕ, zero, ◌≤◌, ◌-◌, ◌*◌, Bool, true, false, List, [], ◌++◌, length, take, replicate, Option, Some, None, refl, sym, ◌∙◌, ap, arith, subst}
 use Rattle.std.proofs.lemmas.List.{append-nil}
 use Rattle.std.proofs.Math.Seq.{take-length}
 use Rattle.time_sharing.specs.Machine.{Ending, CommonOp, Reply, Went, Stopped, Resized, Replaced, LoggedOut}
-use Rattle.time_sharing.specs.System.{Service, Entry, Cause}
+use Rattle.std.specs.Option.{is_some}
+use Rattle.time_sharing.specs.System.{Service, Entry}
+use Rattle.ctss_types.specs.declared.session.Waiting.{Waiting}
+use Rattle.plan_model.specs.Levels.{goes_up}
 use Rattle.image_map.specs.Images.{size_of}
 use Rattle.user_model.specs.Inner.{Stored, blocks_of, recut}
 use Rattle.user_model.specs.User.{User, in_store, core_after, IsStep}
 use Rattle.user_model.proofs.WentLaws.{went_stays}
-use Rattle.system_model.specs.Run.{Run}
-use Rattle.system_model.specs.Cases.{waited, idled, served}
+use Rattle.system_model.specs.Run.{Run, rise, rising, rise_of, raised}
+use Rattle.system_model.specs.Cases.{waited, idled, broken_off}
 use Rattle.system_model.specs.Joined.{counted, moved}
 use Rattle.faults.specs.Faults.{Rose}
 use Rattle.ctss_types.specs.declared.file.FileBody.{FileBody}
@@ -96,9 +99,17 @@ pub idled_users : (limit : ℕ) (r : Run) → (idled limit r).system.users ≡ r
 unfolding idled
 idled_users limit r = refl
 
-pub served_users : (cause : Cause) (v : Service) (r : Run) → (served cause v r).system.users ≡ r.system.users
-unfolding served
-served_users cause v r = refl
+pub broken_off_users : (v : Service) (r : Run) → (broken_off v r).system.users ≡ r.system.users
+unfolding broken_off
+broken_off_users v r = refl
+
+pub raised_users : (r : Run) → (raised r).system.users ≡ r.system.users
+unfolding rise
+raised_users r = by_who (rising r)
+  where
+    by_who : (o : Option (ℕ × ℕ)) → (rise_of o r).system.users ≡ r.system.users
+    by_who None = refl
+    by_who (Some x) = refl
 
 -- other words for how a step ended
 pub ends_map : {T : Type 0} (r : Result T RunFault) (A B C D A' B' C' D' : Type 0) → (A → A') → (B → B') → (C → C') → (D → D') → Ends r A B C D → Ends r A' B' C' D'
@@ -129,3 +140,12 @@ fails_both Disk B C D B' C' D' P Q R unchanged drum disk h k = disk h k
 pub told_store : (tells : Bool) (fs : List FileBody) (s : Stored) → tells ≡ true → known tells fs ≡ s.files → stored s.core fs ≡ s
 unfolding known
 told_store tells fs s told h = let is : fs ≡ s.files = subst (λ (b : Bool). known b fs ≡ s.files) told h in λ j. record { core = s.core; files = is j }
+
+pub is_none : {X : Type 0} (o : Option X) → is_some o ≡ false → o ≡ None
+is_none None h = refl
+is_none (Some x) h = cc
+
+-- whoever rises does so to a level
+pub up_too : (o : Option (ℕ × Waiting)) → is_some (goes_up o) ≡ is_some o
+up_too None = refl
+up_too (Some x) = refl

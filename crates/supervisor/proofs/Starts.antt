@@ -22,7 +22,7 @@ made script =
       system = record {
         users = map (λ (a : Account). first_state a []) script.accounts;
         files = [];
-        plan = record { levels = empty_levels script.params.wq script.params.quantum; places = no_places };
+        plan = record { levels = empty_levels script.params.wq script.params.quantum script.params.age; places = no_places };
         consoles = replicate 32 Off;
         clock = 0;
         events = [];

@@ -96,14 +96,14 @@ abbrev pub CutsIf : {E : Type 0} → Result (Option ℕ) E → (Run → Run) →
 CutsIf result f old new = (places : Places) → IfOk result (λ cut. seen (left_places cut places) new ≡ f (seen places old))
 
 -- the queues after a service has ended, if it has: of a user with unread lines or none, and of so many blocks
-abbrev pub left_queues : Option Cause → ℕ → Bool → ℕ → Levels → Levels
-left_queues None u unread blocks q = q
-left_queues (Some Time) u unread blocks q = q
-left_queues (Some Wait) u unread blocks q = dropped u q
-left_queues (Some Stop) u unread blocks q = entered_again unread u (dropped u q)
-left_queues (Some Size) u unread blocks q = entered blocks u (dropped u q)
-left_queues (Some Preempt) u unread blocks q = q
-left_queues (Some AtEnd) u unread blocks q = q
+abbrev pub left_queues : Option Cause → ℕ → Bool → ℕ → (now : ℕ) → Levels → Levels
+left_queues None u unread blocks now q = q
+left_queues (Some Time) u unread blocks now q = q
+left_queues (Some Wait) u unread blocks now q = dropped u q
+left_queues (Some Stop) u unread blocks now q = entered_again unread u now (dropped u q)
+left_queues (Some Size) u unread blocks now q = entered blocks u now (dropped u q)
+left_queues (Some Preempt) u unread blocks now q = q
+left_queues (Some AtEnd) u unread blocks now q = q
 
 -- the record of a run that stopped, without files
 abbrev pub record_so_far : Run → Record

@@ -14,7 +14,7 @@ use Rattle.plan_model.specs.Plan.{must_load}
 use Rattle.user_cores.specs.Backing.{Held}
 use Rattle.user_cores.specs.Settles.{IsResized}
 use Rattle.user_cores.specs.Swaps.{IsCutOff}
-use Rattle.system_model.specs.Run.{Run, due_of, run_to, AfterSteps}
+use Rattle.system_model.specs.Run.{Run, due_of, rising, run_to, AfterSteps}
 use Rattle.system_model.specs.Cases.{user_at}
 use Rattle.system_model.specs.Joined.{joined, hung_up}
 use Rattle.system_model.specs.Sound.{Sound}
@@ -70,6 +70,7 @@ pub record LoadIsDue (r : Run) : Type 0 where
 -- the next step brings them in
 pub record LoadIsNext (r : Run) : Type 0 where
   pub quiet : due_of r.system.events r.system.clock ≡ None
+  pub low : rising r ≡ None
   pub due : LoadIsDue r
 
 -- such a load was cut off after some of its calls

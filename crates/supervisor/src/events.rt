@@ -21,12 +21,12 @@ use word36::Word;
 
 /// A user has something to do: as a program of so many blocks it enters, unless it stands in the queues.
 #[tactic(auto, unfolding(plan_model::specs::Levels::woken))]
-fn wake(queues: &mut Queues, user: UserNo, blocks: u8)
+fn wake(queues: &mut Queues, user: UserNo, blocks: u8, now: u64)
     requires { blocks ≤ 128 }
-    ensures { queues.new ≡ woken blocks user queues.old }
+    ensures { queues.new ≡ woken blocks user now queues.old }
 {
     if !queues.holds(user) {
-        queues.enter(user, blocks);
+        queues.enter(user, blocks, now);
     }
 }
 
@@ -175,7 +175,7 @@ impl State {
         let own = session.own();
         let blocks = blocks_for_line(session);
         let _ = session.line(text);
-        wake(&mut self.queues, user, blocks);
+        wake(&mut self.queues, user, blocks, self.clock);
         let _ = self.events.pop_front();
         note_some(&mut self.entries, idle_note(self.idling, self.clock));
         note(

@@ -1,10 +1,14 @@
 //! Whom the queues serve, and how a service ends.
-ghost use Rattle.std.specs.Prelude.{◌≡◌, ◌<◌, ◌≤◌, ◌+◌, ◌-◌, length, vec_len, vec_capacity, option_to_list, Some};
+ghost use Rattle.std.specs.Prelude.{◌≡◌, ◌<◌, ◌≤◌, ◌+◌, ◌-◌, suc, length, vec_len, vec_capacity, option_to_list, Some};
+ghost use Rattle.time_sharing.specs.System.{served_of};
 ghost use Rattle.plan_model.specs.Levels.{chosen, user_of};
-ghost use Rattle.system_model.specs.Cases.{idled, served, waited};
+ghost use Rattle.system_model.specs.Cases.{idled, broken_off, waited};
 ghost use Rattle.system_model.specs.Joined.{counted, moved};
+ghost use Rattle.system_model.specs.Run.{rising, raised};
 ghost use Rattle.system_model.specs.Runs.{elapsed};
-ghost use Rattle.supervisor.specs.Seen.{left_queues, Becomes, BecomesIf, StaysIf};
+ghost use Rattle.plan_model.specs.Loads.{no_places};
+ghost use Rattle.std.specs.Option.{is_some};
+ghost use Rattle.supervisor.specs.Seen.{left_queues, Becomes, BecomesIf, StaysIf, seen};
 
 use crate::state::State;
 use ctss_types::{Cause, Ending, Entry, NoMemory, Service, UserNo};
@@ -15,24 +19,40 @@ use user_session::Step;
 
 /// What a service's end does to the queues, of a user with unread lines or none.
 #[tactic(auto, using(level_queues::proofs::Counts::not_waits))]
-fn leave(queues: &mut Queues, cause: Option<Cause>, user: UserNo, unread: bool, blocks: u8)
+fn leave(
+    queues: &mut Queues,
+    cause: Option<Cause>,
+    user: UserNo,
+    unread: bool,
+    blocks: u8,
+    now: u64,
+)
     requires { blocks ≤ 128 }
-    ensures { queues.new ≡ left_queues cause user unread blocks queues.old }
+    ensures { queues.new ≡ left_queues cause user unread blocks now queues.old }
 {
     match cause {
         Some(Cause::Stop) => {
             queues.drop_user(user);
             if unread {
-                queues.enter(user, 4);
+                queues.enter(user, 4, now);
             }
         }
         Some(Cause::Size) => {
             queues.drop_user(user);
-            queues.enter(user, blocks);
+            queues.enter(user, blocks, now);
         }
         Some(Cause::Wait) => queues.drop_user(user),
-        Some(Cause::Time) | Some(Cause::Preempt) | Some(Cause::End) | None => {}
+        Some(Cause::Time) | Some(Cause::Preempt) | Some(Cause::End) => {}
+        None => queues.look_ahead(Some(user), now),
     }
+}
+
+/// The tick behind a step.
+fn tick_after(clock: u64) -> u64
+    requires { clock ≤ 100000000 }
+    ensures { result ≡ suc clock }
+{
+    clock + 1
 }
 
 impl State {
@@ -48,13 +68,14 @@ impl State {
         };
     }
 
-    /// A service ends with no step.
-    #[tactic(auto, unfolding(system_model::specs::Cases::served))]
-    pub(crate) fn end_service(&mut self, cause: Cause, v: Service) -> Result<(), NoMemory>
-        ensures ok { BecomesIf result (served cause v) self.old self.new }
+    /// A service ends with no step, since its user isn't the head of the lowest level.
+    #[tactic(auto, unfolding(system_model::specs::Cases::broken_off))]
+    pub(crate) fn break_off(&mut self, v: Service) -> Result<(), NoMemory>
+        ensures ok { BecomesIf result (broken_off v) self.old self.new }
         ensures err { StaysIf result self.old self.new }
     {
         self.entries.reserve(1)?;
+        self.queues.preempt(v.user, self.clock);
         note(
             &mut self.entries,
             Entry::Serve {
@@ -62,11 +83,54 @@ impl State {
                 user: v.user.number(),
                 level: v.level,
                 ran: v.ran,
-                cause,
+                cause: Cause::Preempt,
             },
         );
         self.service = None;
         Ok(())
+    }
+
+    /// The user whose service is open.
+    fn served(&self) -> Option<UserNo>
+        ensures { result ≡ served_of self.now.service }
+    {
+        match self.service {
+            None => None,
+            Some(v) => Some(v.user),
+        }
+    }
+
+    /// Whether a user has waited for so long that it rises.
+    #[tactic(auto, using(crate::proofs::Serving::up_too))]
+    pub(crate) fn rises(&self) -> bool
+        ensures { result ≡ is_some (rising (seen no_places self.now)) }
+    {
+        let served = self.served();
+        self.queues.rises(&served, self.clock)
+    }
+
+    /// The user that rises does.
+    #[tactic(auto, unfolding(system_model::specs::Run::rise))]
+    pub(crate) fn raise(&mut self) -> Result<(), NoMemory>
+        ensures ok { BecomesIf result raised self.old self.new }
+        ensures err { StaysIf result self.old self.new }
+    {
+        self.entries.reserve(1)?;
+        let served = self.served();
+        match self.queues.rise(served, self.clock) {
+            None => Ok(()),
+            Some(risen) => {
+                note(
+                    &mut self.entries,
+                    Entry::Rise {
+                        tick: self.clock,
+                        user: risen.user.number(),
+                        level: risen.level,
+                    },
+                );
+                Ok(())
+            }
+        }
     }
 
     /// A user's blocks were brought into core, which costs ticks for each block that was moved.
@@ -105,18 +169,19 @@ impl State {
         let session = &self.sessions[user.index()];
         let unread = session.has_line();
         let blocks = session.blocks();
-        let left = match self.queues.charge(user) {
+        let now = tick_after(self.clock);
+        let left = match self.queues.charge(user, now) {
             Charge::Goes => true,
             Charge::Spent => false,
         };
         let cause = cause_of(step.ending, left);
-        leave(&mut self.queues, cause, user, unread, blocks);
+        leave(&mut self.queues, cause, user, unread, blocks, now);
         if step.ending == Ending::LoggedOut {
             leave_consoles(&mut self.consoles, user);
         }
         note_clock(&mut self.entries, step.clock, self.clock, user);
         note_some(&mut self.entries, common);
-        self.clock += 1;
+        self.clock = now;
         self.service = note_step(&mut self.entries, v, cause);
     }
 
@@ -147,7 +212,8 @@ impl State {
         requires in_time { self.old.clock ≤ 100000000 }
         ensures { Becomes (waited v) self.old self.new }
     {
-        let _ = self.queues.charge(v.user);
+        let now = self.clock + 1;
+        let _ = self.queues.charge(v.user, now);
         self.queues.drop_user(v.user);
         note(
             &mut self.entries,
@@ -159,7 +225,7 @@ impl State {
                 cause: Cause::Wait,
             },
         );
-        self.clock += 1;
+        self.clock = now;
         self.service = None;
     }
 }

@@ -55,7 +55,7 @@ pub(crate) fn first_state(alloc: Global, script: &Script) -> Result<State, NoMem
         accounts: Accounts::new(alloc, accounts)?,
         common: script.params.common,
         sessions: sessions_of(alloc, accounts)?,
-        queues: Queues::new(script.params.wq, script.params.quantum),
+        queues: Queues::new(script.params.wq, script.params.quantum, script.params.age),
         consoles: consoles_of(alloc)?,
         clock: 0,
         events: VecDeque::new(alloc),

@@ -40,6 +40,7 @@ fn refusal_in(entry: &Entry) -> u8
         | Entry::Login { .. }
         | Entry::Idle { .. }
         | Entry::Swap { .. }
+        | Entry::Rise { .. }
         | Entry::Serve { .. }
         | Entry::Clock { .. }
         | Entry::Common { .. } => 0,

@@ -4,21 +4,20 @@ ghost use Rattle.std.specs.Option.{is_some};
 ghost use Rattle.drum_slots.specs.Keys.{quota_of};
 ghost use Rattle.user_session.specs.Stores.{IsToMake};
 ghost use Rattle.image_map.specs.Images.{size_of};
-ghost use Rattle.plan_model.specs.Levels.{chosen, user_of};
+ghost use Rattle.plan_model.specs.Levels.{chosen, user_of, IsChosen};
+ghost use Rattle.plan_model.specs.Spent.{NobodyRises};
 ghost use Rattle.plan_model.specs.Loads.{is_loaded};
-ghost use Rattle.system_model.specs.Run.{next, taken, otherwise, attended, due_of};
-ghost use Rattle.system_model.specs.Cases.{served, idled, user_at};
+ghost use Rattle.system_model.specs.Run.{next, taken, otherwise, attended, raised, due_of};
+ghost use Rattle.system_model.specs.Cases.{broken_off, idled, user_at};
 ghost use Rattle.system_model.specs.Sound.{HasSeat, IsUser};
 ghost use Rattle.time_sharing.specs.Machine.{Went};
-ghost use Rattle.time_sharing.specs.System.{Preempt, next_tick};
+ghost use Rattle.time_sharing.specs.System.{next_tick};
 ghost use Rattle.supervisor.specs.Seen.{number_of};
 ghost use Rattle.supervisor.specs.Steps.{IsLeft, Lasts};
 ghost use Rattle.supervisor.specs.Whole.{whole, run_of, Holds, HasBlocks, StepsBy, IsSame, StepsOn, AreTied, AreCounted, AreCountedBy, LoadIsCut, AbsentIsCut, ServedIsCut, NextIsCut, NeverCut, Steps};
 
 use crate::state::State;
-use ctss_types::{
-    Cause, CommonOp, Ending, Entry, NoMemory, RunFault, Service, StepFault, Timed, UserNo,
-};
+use ctss_types::{CommonOp, Ending, Entry, NoMemory, RunFault, Service, StepFault, Timed, UserNo};
 use level_queues::Chosen;
 use user_cores::{Backing, Made, settle};
 use user_session::Turn;
@@ -199,7 +198,7 @@ impl State {
     fn preempt<C: Backing>(&mut self, cores: &mut C, v: Service) -> Result<(), NoMemory>
         requires usable { C.Usable cores.old }
         requires held { Holds (whole self.old (C.state cores.old)) }
-        ensures ok { OnOk result (StepsBy (served Preempt v)
+        ensures ok { OnOk result (StepsBy (broken_off v)
             (whole self.old (C.state cores.old)) (whole self.new (C.state cores.new))) }
         ensures err { OnErr result (IsSame (whole self.old (C.state cores.old)) (whole self.new (C.state cores.new))) }
         ensures counted { AreCounted (whole self.old (C.state cores.old)) (whole self.new (C.state cores.new)) }
@@ -209,7 +208,7 @@ impl State {
         ensures faults { (C.state cores.new).faults ≡ (C.state cores.old).faults }
         ensures disk { (C.state cores.new).disk_faults ≡ (C.state cores.old).disk_faults }
     {
-        self.end_service(Cause::Preempt, v)?;
+        self.break_off(v)?;
         Ok(())
     }
 
@@ -303,7 +302,26 @@ impl State {
         }
     }
 
+    /// A user has waited for so long that it rises.
+    fn lift<C: Backing>(&mut self, cores: &mut C) -> Result<(), NoMemory>
+        requires usable { C.Usable cores.old }
+        requires held { Holds (whole self.old (C.state cores.old)) }
+        ensures ok { OnOk result (StepsBy raised
+            (whole self.old (C.state cores.old)) (whole self.new (C.state cores.new))) }
+        ensures err { OnErr result (IsSame (whole self.old (C.state cores.old)) (whole self.new (C.state cores.new))) }
+        ensures counted { AreCounted (whole self.old (C.state cores.old)) (whole self.new (C.state cores.new)) }
+        ensures tied { AreTied (whole self.new (C.state cores.new)) }
+        ensures usable { C.Usable cores.new }
+        ensures keeps { C.Keeps cores.old cores.new }
+        ensures faults { (C.state cores.new).faults ≡ (C.state cores.old).faults }
+        ensures disk { (C.state cores.new).disk_faults ≡ (C.state cores.old).disk_faults }
+    {
+        self.raise()?;
+        Ok(())
+    }
+
     /// One step, at which no event is due.
+    #[tactic(auto, using(crate::proofs::Doing::does_rise))]
     pub(crate) fn step_on<C: Backing>(&mut self, cores: &mut C, limit: u64) -> Result<(), RunFault>
         requires quiet { due_of self.old.events.items self.old.clock ≡ None }
         requires usable { C.Usable cores.old }
@@ -320,35 +338,55 @@ impl State {
         ensures faults_grow { (C.state cores.old).faults ≤ (C.state cores.new).faults }
         ensures disk { (C.state cores.old).disk_faults ≤ (C.state cores.new).disk_faults }
     {
+        if self.rises() {
+            if self.lift(cores).is_err() {
+                return Err(RunFault::NoMemory);
+            }
+            return Ok(());
+        }
         self.go_on(cores, limit)
     }
 
     /// So many ticks at most may go by until something else than the user of the service is to be looked at: an event, the
-    /// limit, or the end of the user's time, of which so many ticks are left.
-    fn spare(&self, left: u64, limit: u64) -> u64
+    /// limit, another user that rises, before this tick none does, or the end of the user's time, of which so many ticks are left.
+    fn spare(&self, left: u64, limit: u64, still: u64) -> u64
         ensures left { 0 < result → result < left }
         ensures limit { 0 < result → self.now.clock + result ≤ limit }
         ensures quiet { 0 < result → self.now.clock + result ≤ next_tick limit self.now.events.items }
+        ensures still { 0 < result → self.now.clock + result ≤ still }
     {
         let until = match self.events.front() {
             Some(e) => e.tick.min(limit),
             None => limit,
         };
-        until.saturating_sub(self.clock).min(left.saturating_sub(1))
+        until
+            .min(still)
+            .saturating_sub(self.clock)
+            .min(left.saturating_sub(1))
     }
 
     /// Instructions of the user of the service, one after another: as many as go on, at most so many.
-    fn work<C: Backing>(&mut self, cores: &mut C, v: Service, next: Chosen, most: u64, limit: u64)
+    fn work<C: Backing>(
+        &mut self,
+        cores: &mut C,
+        v: Service,
+        next: Chosen,
+        most: u64,
+        limit: u64,
+        still: u64,
+    )
         requires usable { C.Usable cores.old }
         requires held { Holds (whole self.old (C.state cores.old)) }
         requires user { IsUser v.user (run_of (whole self.old (C.state cores.old))) }
         requires loaded { HasBlocks v.user true (whole self.old (C.state cores.old)) }
         requires serves { self.old.service ≡ Some v }
-        requires first { chosen self.old.queues ≡ Some (next.level, record { user = next.user; left = next.left }) }
+        requires first { IsChosen next.user next.level next.left self.old.queues }
         requires mine { next.user ≡ v.user }
         requires left { most < next.left }
         requires up { self.old.clock + most ≤ limit }
         requires quiet { self.old.clock + most ≤ next_tick limit self.old.events.items }
+        requires low { NobodyRises (Some v.user) still self.old.queues }
+        requires still { self.old.clock + most ≤ still }
         requires limit { limit ≤ 100000000 }
         ensures many { StepsOn limit (whole self.old (C.state cores.old)) (whole self.new (C.state cores.new)) }
         ensures entries { self.new.entries.items ≡ self.old.entries.items }
@@ -372,7 +410,7 @@ impl State {
         requires held { Holds (whole self.old (C.state cores.old)) }
         requires user { IsUser v.user (run_of (whole self.old (C.state cores.old))) }
         requires serves { self.old.service ≡ Some v }
-        requires first { chosen self.old.queues ≡ Some (next.level, record { user = next.user; left = next.left }) }
+        requires first { IsChosen next.user next.level next.left self.old.queues }
         requires mine { next.user ≡ v.user }
         requires limit { limit ≤ 100000000 }
         ensures many { StepsOn limit (whole self.old (C.state cores.old)) (whole self.new (C.state cores.new)) }
@@ -387,11 +425,13 @@ impl State {
         if !cores.is_loaded(v.user) {
             return;
         }
-        let most = self.spare(next.left, limit);
+        let served = Some(v.user);
+        let still = self.queues.still_until(&served);
+        let most = self.spare(next.left, limit, still);
         if most == 0 {
             return;
         }
-        self.work(cores, v, next, most, limit);
+        self.work(cores, v, next, most, limit, still);
     }
 
     /// As many instructions of the user of the service as can be done before anything else is to be looked at, one after

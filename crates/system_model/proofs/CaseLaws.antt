@@ -11,8 +11,8 @@ use Rattle.plan_model.specs.Levels.{chosen, user_of, level_in, has_time, charged
 use Rattle.plan_model.specs.Plan.{Plan, must_load, places_cut, places_after}
 use Rattle.user_model.specs.Inner.{blocks_of}
 use Rattle.system_model.specs.Round.{round, line_blocks, asked, check}
-use Rattle.system_model.specs.Run.{Run, State, next, taken, at_console, awake, otherwise, attended, by_due, due_of, ended}
-use Rattle.system_model.specs.Cases.{brought, reply_for, levels_after, heard, line_taken, quit_taken, hang_taken, spent_taken, cut_taken, login_taken, dial_taken, idled, served, stepped, waited, user_at, with_user, closed, end_notes, idle_start, idle_notes, stop_notes, not_served}
+use Rattle.system_model.specs.Run.{Run, State, next, taken, at_console, awake, otherwise, attended, by_due, by_rising, rising, rise, due_of, ended}
+use Rattle.system_model.specs.Cases.{brought, reply_for, levels_after, heard, line_taken, quit_taken, hang_taken, spent_taken, cut_taken, login_taken, dial_taken, idled, broken_off, stepped, waited, user_at, with_user, closed, end_notes, idle_start, idle_notes, stop_notes, not_served}
 
 pub at_user : {X : Type 0} (d : X) (xs : List X) (u : ℕ) → 0 < u → at d xs u ≡ get_or xs (u - 1) d
 at_user d xs zero h = absurd (omega arith)
@@ -23,16 +23,20 @@ put_user xs zero x h = absurd (omega arith)
 put_user xs (suc n) x h = let e : suc n - 1 ≡ n = omega arith in ap (λ (k : ℕ). set xs k x) (sym e)
 
 pub next_due : (limit : ℕ) (r : Run) → next limit r ≡ by_due limit (due_of r.system.events r.system.clock) r
-unfolding next taken otherwise
+unfolding next taken otherwise rise
 next_due limit r = by_events r.system.events refl
   where
+    by_who : (o : Option (ℕ × ℕ)) → record r { system = theory.quiet_by (machine user_rows) (round r.swap r.common r.accounts) limit o r.system } ≡ by_rising limit o r
+    by_who None = refl
+    by_who (Some x) = refl
+
     by_test : (e : Timed) (rest : List Timed) → r.system.events ≡ e ∷ rest → (b : Bool)
-        → record r { system = cond b (theory.taken (machine user_rows) (round r.swap r.common r.accounts) e rest r.system) (theory.otherwise (machine user_rows) (round r.swap r.common r.accounts) limit (user_of (chosen r.system.plan.levels)) r.system.service r.system) } ≡ by_due limit (cond b (Some e) None) r
+        → record r { system = cond b (theory.taken (machine user_rows) (round r.swap r.common r.accounts) e rest r.system) (theory.quiet (machine user_rows) (round r.swap r.common r.accounts) limit r.system) } ≡ by_due limit (cond b (Some e) None) r
     by_test e rest is true = ap (λ (es : List Timed). record r { system = theory.taken (machine user_rows) (round r.swap r.common r.accounts) e (drop 1 es) r.system }) (sym is)
-    by_test e rest is false = refl
+    by_test e rest is false = by_who (rising r)
 
     by_events : (es : List Timed) → r.system.events ≡ es → record r { system = theory.next_by (machine user_rows) (round r.swap r.common r.accounts) limit es r.system } ≡ by_due limit (due_of es r.system.clock) r
-    by_events [] is = refl
+    by_events [] is = by_who (rising r)
     by_events (e ∷ rest) is = by_test e rest is (nat_le e.tick r.system.clock)
 
 abbrev M : Rattle.time_sharing.specs.Machine.Machine User
@@ -195,7 +199,7 @@ line_is c u l r h = by_idling r.system.idling refl
     told p = Taken r.system.clock c LineTaken u p.own
 
     planned : User → Plan
-    planned p = record r.system.plan { levels = woken (line_blocks p) u r.system.plan.levels }
+    planned p = record r.system.plan { levels = woken (line_blocks p) u r.system.clock r.system.plan.levels }
 
     by_idling : (i : Option ℕ) → r.system.idling ≡ i → record r { system = theory.line_at M (W r) c u l (theory.end_idling_of M (W r) i (record r.system { events = drop 1 r.system.events })) } ≡
         record r {
@@ -262,8 +266,8 @@ attended_steps v r h loaded can =
 
     -- what a cause does to the plan
     planned : (o : Option Cause) (q : User) (t : Ending) →
-        (W r).gave_up (theory.plan_after M (W r) (record r.system.plan { levels = charged v.user r.system.plan.levels }) v.user o q (suc r.system.clock)) v.user q t (suc r.system.clock)
-        ≡ record { levels = levels_after o v.user q (charged v.user r.system.plan.levels); places = places_after t v.user (blocks_of q.inner) r.system.plan.places }
+        (W r).gave_up (theory.plan_after M (W r) (record r.system.plan { levels = charged v.user (suc r.system.clock) r.system.plan.levels }) v.user o q (suc r.system.clock)) v.user q t (suc r.system.clock)
+        ≡ record { levels = levels_after o v.user q (suc r.system.clock) (charged v.user (suc r.system.clock) r.system.plan.levels); places = places_after t v.user (blocks_of q.inner) r.system.plan.places }
     planned None q t = refl
     planned (Some cause) q t = refl
 
@@ -400,8 +404,8 @@ idles limit r = by_idling r.system.idling
     by_idling None = refl
     by_idling (Some from) = refl
 
-pub preempts_none : (limit : ℕ) (v : Service) (r : Run) → otherwise limit None (Some v) r ≡ served Preempt v r
-unfolding otherwise served
+pub preempts_none : (limit : ℕ) (v : Service) (r : Run) → otherwise limit None (Some v) r ≡ broken_off v r
+unfolding otherwise broken_off
 preempts_none limit v r = refl
 
 pub begins : (limit u : ℕ) (r : Run) → otherwise limit (Some u) None r ≡ attended (record { tick = r.system.clock; user = u; level = level_in (chosen r.system.plan.levels); ran = 0 }) r
@@ -410,11 +414,11 @@ begins limit u r = refl
 
 pub goes_on : (limit u : ℕ) (v : Service) (r : Run) → v.user ≡ u → otherwise limit (Some u) (Some v) r ≡ attended v r
 unfolding otherwise attended
-goes_on limit u v r e = ap (λ (b : Bool). record r { system = cond b (theory.attended M (W r) v r.system) (theory.end_service M (W r) Preempt v r.system) }) (eq-eqb v.user u e)
+goes_on limit u v r e = ap (λ (b : Bool). record r { system = cond b (theory.attended M (W r) v r.system) (theory.preempt M (W r) v r.system) }) (eq-eqb v.user u e)
 
-pub preempts : (limit u : ℕ) (v : Service) (r : Run) → v.user ≢ u → otherwise limit (Some u) (Some v) r ≡ served Preempt v r
-unfolding otherwise served
-preempts limit u v r e = ap (λ (b : Bool). record r { system = cond b (theory.attended M (W r) v r.system) (theory.end_service M (W r) Preempt v r.system) }) (ne_eqb v.user u e)
+pub preempts : (limit u : ℕ) (v : Service) (r : Run) → v.user ≢ u → otherwise limit (Some u) (Some v) r ≡ broken_off v r
+unfolding otherwise broken_off
+preempts limit u v r e = ap (λ (b : Bool). record r { system = cond b (theory.attended M (W r) v r.system) (theory.preempt M (W r) v r.system) }) (ne_eqb v.user u e)
 
 pub ruleset off_laws = (off_dials, off_types, off_quits, off_hangs)
 

@@ -7,7 +7,7 @@ use Rattle.time_sharing.specs.System.{Timed, Service, Console, Off, On, Password
 use Rattle.user_model.specs.Session.{user_rows, nobody}
 use Rattle.user_model.specs.Inner.{Stored, blocks_of}
 use Rattle.user_model.specs.User.{User, typed, opened, cut, step, ending, asks_clock, asks_common, in_store, hung}
-use Rattle.plan_model.specs.Levels.{Levels, charged, dropped, woken, has_time, chosen, user_of}
+use Rattle.plan_model.specs.Levels.{Levels, charged, dropped, woken, has_time, chosen, user_of, sum_of_levels}
 use Rattle.plan_model.specs.Loads.{loaded, dumps, reads, clears}
 use Rattle.plan_model.specs.Plan.{must_load, with_load, move_of, places_after, places_cut}
 use Rattle.system_model.specs.Round.{round, asked, check, line_blocks}
@@ -17,8 +17,8 @@ use Rattle.time_sharing.specs.System.{World}
 use Rattle.ctss_types.specs.declared.file.FileBody.{FileBody}
 use Rattle.plan_model.specs.Plan.{Plan}
 use Rattle.time_sharing.specs.Record as whole
-use Rattle.system_model.specs.Run.{Run, taken, at_console, measure}
-use Rattle.system_model.specs.Cases.{brought, reply_for, commons_for, levels_after, heard, line_taken, quit_taken, hang_taken, spent_taken, login_taken, dial_taken, idled, served, stepped, waited, idle_notes, stop_notes, not_served, cut_taken, user_at, with_user}
+use Rattle.system_model.specs.Run.{Run, taken, at_console, rise, rising, rise_of, raised, measure}
+use Rattle.system_model.specs.Cases.{brought, reply_for, commons_for, levels_after, heard, line_taken, quit_taken, hang_taken, spent_taken, login_taken, dial_taken, idled, broken_off, stepped, waited, idle_notes, stop_notes, not_served, cut_taken, user_at, with_user}
 use Rattle.system_model.specs.Joined.{with_stores, joined, with_store, hung_up, cut_user, stepped_to, counted, moved, at_places}
 use Rattle.system_model.specs.Sound.{Sound, IsUser, HasSeat}
 use Rattle.system_model.proofs.SoundLaws.{Alike, user_too, seats_too, checked_is_user}
@@ -100,9 +100,17 @@ pub idled_joined : (f : ℕ → Stored) (limit : ℕ) (r : Run) → idled limit 
 unfolding idled joined
 idled_joined f limit r = refl
 
-pub served_joined : (f : ℕ → Stored) (cause : Cause) (v : Service) (r : Run) → served cause v (joined f r) ≡ joined f (served cause v r)
-unfolding served joined
-served_joined f cause v r = refl
+pub broken_off_joined : (f : ℕ → Stored) (v : Service) (r : Run) → broken_off v (joined f r) ≡ joined f (broken_off v r)
+unfolding broken_off joined
+broken_off_joined f v r = refl
+
+pub raised_joined : (f : ℕ → Stored) (r : Run) → raised (joined f r) ≡ joined f (raised r)
+unfolding rise joined
+raised_joined f r = by_who (rising r)
+  where
+    by_who : (o : Option (ℕ × ℕ)) → rise_of o (joined f r) ≡ joined f (rise_of o r)
+    by_who None = refl
+    by_who (Some x) = refl
 
 pub waited_joined : (f : ℕ → Stored) (v : Service) (r : Run) → waited v (joined f r) ≡ joined f (waited v r)
 unfolding waited joined
@@ -184,7 +192,7 @@ line_joined f c u l r who =
           system = record r.system {
             users = us;
             files = files;
-            plan = record r.system.plan { levels = woken (line_blocks p) u r.system.plan.levels };
+            plan = record r.system.plan { levels = woken (line_blocks p) u r.system.clock r.system.plan.levels };
             events = drop 1 r.system.events;
             idling = None;
             entries = r.system.entries ++ (idle_notes r.system.idling r.system.clock ++ Taken r.system.clock c LineTaken u p.own ∷ []);
@@ -324,7 +332,7 @@ stepped_joined f v store common p t asked made r who leaves_it ends asks makes f
     to : Option CommonOp → User → Ending → Bool → Run
     to made q t asked =
         let cause = cause_of t (has_time r.system.plan.levels) in
-        to_by (commons_for (joined f r) made) made cause (with_user v.user q (with_stores 1 f r.system.users)) (levels_after cause v.user q (charged v.user r.system.plan.levels)) (blocks_of q.inner) t asked
+        to_by (commons_for (joined f r) made) made cause (with_user v.user q (with_stores 1 f r.system.users)) (levels_after cause v.user q (suc r.system.clock) (charged v.user (suc r.system.clock) r.system.plan.levels)) (blocks_of q.inner) t asked
 
     made_to : Option CommonOp → User → Run
     made_to o q = to o (step r.system.clock (reply_for (joined f r) o) q) (ending r.system.clock (reply_for (joined f r) o) q) (asks_clock q)
@@ -333,24 +341,24 @@ stepped_joined f v store common p t asked made r who leaves_it ends asks makes f
     from_user q = made_to (asks_common q) q
 
     -- the queues don't look at the stores
-    levels_same : (o : Option Cause) (q : Levels) → levels_after o v.user (in_store store p) q ≡ levels_after o v.user p q
-    levels_same None q = refl
-    levels_same (Some Time) q = refl
-    levels_same (Some Wait) q = refl
-    levels_same (Some Stop) q = refl
-    levels_same (Some Size) q = refl
-    levels_same (Some Preempt) q = refl
-    levels_same (Some AtEnd) q = refl
+    levels_same : (o : Option Cause) (now : ℕ) (q : Levels) → levels_after o v.user (in_store store p) now q ≡ levels_after o v.user p now q
+    levels_same None now q = refl
+    levels_same (Some Time) now q = refl
+    levels_same (Some Wait) now q = refl
+    levels_same (Some Stop) now q = refl
+    levels_same (Some Size) now q = refl
+    levels_same (Some Preempt) now q = refl
+    levels_same (Some AtEnd) now q = refl
 
     same_levels : (o : Option Cause) →
-        to_by (commons_for (joined f r) made) made o (with_user v.user (in_store store p) (with_stores 1 f r.system.users)) (levels_after o v.user (in_store store p) (charged v.user r.system.plan.levels)) (blocks_of p.inner) t asked
-        ≡ to_by (commons_for (joined f r) made) made o (with_user v.user (in_store store p) (with_stores 1 f r.system.users)) (levels_after o v.user p (charged v.user r.system.plan.levels)) (blocks_of p.inner) t asked
-    same_levels o = ap (λ (q : Levels). to_by (commons_for (joined f r) made) made o (with_user v.user (in_store store p) (with_stores 1 f r.system.users)) q (blocks_of p.inner) t asked) (levels_same o (charged v.user r.system.plan.levels))
+        to_by (commons_for (joined f r) made) made o (with_user v.user (in_store store p) (with_stores 1 f r.system.users)) (levels_after o v.user (in_store store p) (suc r.system.clock) (charged v.user (suc r.system.clock) r.system.plan.levels)) (blocks_of p.inner) t asked
+        ≡ to_by (commons_for (joined f r) made) made o (with_user v.user (in_store store p) (with_stores 1 f r.system.users)) (levels_after o v.user p (suc r.system.clock) (charged v.user (suc r.system.clock) r.system.plan.levels)) (blocks_of p.inner) t asked
+    same_levels o = ap (λ (q : Levels). to_by (commons_for (joined f r) made) made o (with_user v.user (in_store store p) (with_stores 1 f r.system.users)) q (blocks_of p.inner) t asked) (levels_same o (suc r.system.clock) (charged v.user (suc r.system.clock) r.system.plan.levels))
 
     users_too : List FileBody → List User → Run
     users_too files us =
         let cause = cause_of t (has_time r.system.plan.levels) in
-        to_by files made cause us (levels_after cause v.user p (charged v.user r.system.plan.levels)) (blocks_of p.inner) t asked
+        to_by files made cause us (levels_after cause v.user p (suc r.system.clock) (charged v.user (suc r.system.clock) r.system.plan.levels)) (blocks_of p.inner) t asked
 
     -- the store of number 0 is no user's
     users_are : with_user v.user (in_store store p) (with_stores 1 f r.system.users) ≡ with_stores 1 after (with_user v.user p r.system.users)
@@ -537,7 +545,7 @@ at_blocks f ps (suc u) = blocks_at 1 f ps u
 pub measure_joined : (limit : ℕ) (f : ℕ → Stored) (r : Run) → measure limit (joined f r) ≡ measure limit r
 unfolding measure joined
 measure_joined limit f r =
-    ap (λ (n : ℕ). (limit - r.system.clock) * (4 * length r.system.events + 4) + (4 * length r.system.events + (2 * whole.is_open M (W r) r.system.service + n))) (by_choice (user_of (chosen r.system.plan.levels)))
+    ap (λ (n : ℕ). 68 * (limit - r.system.clock) + (68 * length r.system.events + (4 * sum_of_levels r.system.plan.levels + (2 * whole.is_open M (W r) r.system.service + n)))) (by_choice (user_of (chosen r.system.plan.levels)))
   where
     by_choice : (o : Option ℕ) → whole.as_number M (W r) (whole.must_load_of M (W r) o (record r.system { users = with_stores 1 f r.system.users; files = (f 0).files })) ≡ whole.as_number M (W r) (whole.must_load_of M (W r) o r.system)
     by_choice None = refl
@@ -558,7 +566,7 @@ stepped_is v p t asked notes r who =
           system = record r.system {
             users = with_user v.user p r.system.users;
             plan = record {
-              levels = levels_after cause v.user q (charged v.user r.system.plan.levels);
+              levels = levels_after cause v.user q (suc r.system.clock) (charged v.user (suc r.system.clock) r.system.plan.levels);
               places = places_after t v.user (blocks_of p.inner) r.system.plan.places;
             };
             consoles = consoles_after t v.user r.system.consoles;

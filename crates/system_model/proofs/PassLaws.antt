@@ -14,11 +14,11 @@ use Rattle.user_model.specs.Inner.{Stored, blocks_of}
 use Rattle.user_model.specs.User.{User, can_step, step, ending, asks_clock, asks_common, in_store}
 use Rattle.user_model.specs.Runs.{IsAtWork, gone, HaveGone}
 use Rattle.user_model.proofs.RunLaws.{work_on, work_can, work_ends, work_asks, work_makes, gone_more, gone_none}
-use Rattle.plan_model.specs.Levels.{chosen, has_time, charged}
-use Rattle.plan_model.specs.Spent.{spent}
+use Rattle.plan_model.specs.Levels.{Levels, chosen, has_time, charged, riser, goes_up}
+use Rattle.plan_model.specs.Spent.{spent, NobodyRises}
 use Rattle.plan_model.specs.Plan.{must_load, places_after}
-use Rattle.plan_model.proofs.SpentLaws.{still_chosen, still_time, charged_more, spent_none}
-use Rattle.system_model.specs.Run.{Run, next, due_of, by_due, otherwise, attended}
+use Rattle.plan_model.proofs.SpentLaws.{still_chosen, still_time, still_none, charged_more, spent_none}
+use Rattle.system_model.specs.Run.{Run, next, due_of, by_due, by_rising, otherwise, attended}
 use Rattle.system_model.specs.Cases.{user_at, with_user, levels_after, reply_for, commons_for, stepped}
 use Rattle.ctss_types.specs.declared.file.FileBody.{FileBody}
 use Rattle.system_model.specs.Joined.{joined, with_store}
@@ -37,11 +37,12 @@ passed_user n v p r who = get_or-set_same r.system.users (v.user - 1) p nobody (
 
 -- the next step attends to the user
 passed_attends : (limit n l : ℕ) (w : Waiting) (v : Service) (p : User) (r : Run) → due_of r.system.events (r.system.clock + n) ≡ None
-    → chosen r.system.plan.levels ≡ Some (l, w) → w.user ≡ v.user → next limit (passed n v p r) ≡ attended (later n v) (passed n v p r)
+    → riser (Some v.user) (r.system.clock + n) r.system.plan.levels ≡ None → chosen r.system.plan.levels ≡ Some (l, w) → w.user ≡ v.user → next limit (passed n v p r) ≡ attended (later n v) (passed n v p r)
 unfolding passed
-passed_attends limit n l w v p r quiet is mine =
+passed_attends limit n l w v p r quiet low is mine =
     next_due limit (passed n v p r)
     ∙ ap (λ (o : Option Timed). by_due limit o (passed n v p r)) quiet
+    ∙ ap (λ (o : Option (ℕ × Waiting)). by_rising limit (goes_up o) (passed n v p r)) (still_none n v.user (r.system.clock + n) (Some v.user) r.system.plan.levels low)
     ∙ ap (λ (o : Option ℕ). otherwise limit o (Some (later n v)) (passed n v p r)) (still_chosen n v.user l w r.system.plan.levels is mine)
     ∙ goes_on limit v.user (later n v) (passed n v p r) refl
 
@@ -56,7 +57,7 @@ stepped_as n v p x r made e time asked =
         users = with_user v.user q (with_user v.user p r.system.users);
         files = commons_for r made;
         plan = record {
-          levels = levels_after cause v.user q (charged v.user (spent n v.user r.system.plan.levels));
+          levels = levels_after cause v.user q (suc t) (charged v.user (suc t) (spent n v.user r.system.plan.levels));
           places = places_after e v.user (blocks_of q.inner) r.system.plan.places;
         };
         consoles = consoles_after e v.user r.system.consoles;
@@ -82,7 +83,7 @@ passed_steps n l w v p r who is mine left ends asks makes =
     ∙ (λ j. record r {
       system = record r.system {
         users = set-set r.system.users (v.user - 1) p (step t Done p) j;
-        plan = record r.system.plan { levels = charged_more n v.user r.system.plan.levels time j };
+        plan = record r.system.plan { levels = charged_more n v.user (suc t) r.system.plan.levels time j };
         clock = more j;
         service = Some (record v { ran = ran j });
         entries = append-nil r.system.entries j;
@@ -96,11 +97,11 @@ must_passed n v p r who loaded = ap (λ (x : User). must_load r.system.plan v.us
 
 -- one step more
 pub passed_next : (limit n l : ℕ) (w : Waiting) (v : Service) (p : User) (r : Run) → IsUser v.user r → due_of r.system.events (r.system.clock + n) ≡ None
-    → chosen r.system.plan.levels ≡ Some (l, w) → w.user ≡ v.user → suc n < w.left
+    → riser (Some v.user) (r.system.clock + n) r.system.plan.levels ≡ None → chosen r.system.plan.levels ≡ Some (l, w) → w.user ≡ v.user → suc n < w.left
     → must_load r.system.plan v.user (blocks_of p.inner) ≡ false → can_step p ≡ true → ending (r.system.clock + n) Done p ≡ Went → asks_clock p ≡ false → asks_common p ≡ None
     → next limit (passed n v p r) ≡ passed (suc n) v (step (r.system.clock + n) Done p) r
-passed_next limit n l w v p r who quiet is mine left loaded can ends asks makes =
-    passed_attends limit n l w v p r quiet is mine
+passed_next limit n l w v p r who quiet low is mine left loaded can ends asks makes =
+    passed_attends limit n l w v p r quiet low is mine
     ∙ attended_steps (later n v) (passed n v p r) who.some (must_passed n v p r who loaded) (ap can_step (passed_user n v p r who) ∙ can)
     ∙ passed_steps n l w v p r who is mine left ends asks makes
 
@@ -140,24 +141,29 @@ quiet_until (e ∷ es) limit now n j h below = by_test (nat_le e.tick (now + j))
     by_test true is = absurd (grind (arith, nat_tests, is, h, below))
     by_test false is = refl
 
+nobody_at : (served : Option ℕ) (until : ℕ) (q : Levels) → NobodyRises served until q → (t : ℕ) → t < until → riser served t q ≡ None
+unfolding NobodyRises
+nobody_at served until q low t early = low t early
+
 -- Many instructions of the user of the service, with the words that it has in core, are as many steps of the machine.
 pub passes : (limit n l : ℕ) (w : Waiting) (v : Service) (p : User) (c : Stored) (d : List ℕ) (s : Regs) (r : Run) → IsUser v.user r → r.system.service ≡ Some v
     → user_at v.user r.system.users ≡ in_store c p → chosen r.system.plan.levels ≡ Some (l, w) → w.user ≡ v.user → (0 < n → n < w.left)
-    → r.system.clock + n ≤ limit → r.system.clock + n ≤ next_tick limit r.system.events → must_load r.system.plan v.user (blocks_of p.inner) ≡ false
+    → r.system.clock + n ≤ limit → r.system.clock + n ≤ next_tick limit r.system.events
+    → (until : ℕ) → NobodyRises (Some v.user) until r.system.plan.levels → r.system.clock + n ≤ until → must_load r.system.plan v.user (blocks_of p.inner) ≡ false
     → (0 < n → IsAtWork p) → many n p.inner.regs c.core ≡ went s d → Passes limit n r (passed n v (in_store (record c { core = d }) (gone n s p)) r)
-passes limit zero l w v p c d s r who serves is first mine left up quiet loaded work been =
+passes limit zero l w v p c d s r who serves is first mine left up quiet until low early loaded work been =
     passed_none v (in_store (record c { core = d }) (gone 0 s p)) r serves (gone_none p c d s been ∙ sym is)
-passes limit (suc n) l w v p c d s r who serves is first mine left up quiet loaded work been =
+passes limit (suc n) l w v p c d s r who serves is first mine left up quiet until low early loaded work been =
     let b = many_less n p.inner.regs s c.core d been in
     let some : 0 < suc n = omega arith in
     let x : User = in_store (record c { core = b.words }) (gone n b.regs p) in
     let at : IsAtWork (gone n b.regs p) = work_on n b.regs p (work some) in (
       passed n v x r,
-      passes limit n l w v p c b.words b.regs r who serves is first mine (λ h. let k = left some in omega (arith, k)) (omega (arith, up)) (omega (arith, quiet)) loaded (λ h. work some) b.been,
+      passes limit n l w v p c b.words b.regs r who serves is first mine (λ h. let k = left some in omega (arith, k)) (omega (arith, up)) (omega (arith, quiet)) until low (omega (arith, early)) loaded (λ h. work some) b.been,
       subst (λ (k : ℕ). k < limit) (sym (passed_clock n v x r)) (omega (arith, up)),
       (λ j. due_of (passed_events n v x r j) (passed_clock n v x r j)) ∙ quiet_until r.system.events limit r.system.clock (suc n) n quiet (omega arith),
       sym (
-          passed_next limit n l w v x r who (quiet_until r.system.events limit r.system.clock (suc n) n quiet (omega arith)) first mine (left some) loaded
+          passed_next limit n l w v x r who (quiet_until r.system.events limit r.system.clock (suc n) n quiet (omega arith)) (nobody_at (Some v.user) until r.system.plan.levels low (r.system.clock + n) (omega (arith, early))) first mine (left some) loaded
           (work_can (gone n b.regs p) (record c { core = b.words }) d s at b.goes) (work_ends (r.system.clock + n) (gone n b.regs p) (record c { core = b.words }) d s at b.goes) (work_asks (gone n b.regs p) (record c { core = b.words }) d s at b.goes) (work_makes (gone n b.regs p) (record c { core = b.words }) d s at b.goes)
           ∙ ap (λ (y : User). passed (suc n) v y r) (gone_more n (r.system.clock + n) p (record c { core = b.words }) d b.regs s (work some) b.goes)
           ),
@@ -205,10 +211,11 @@ elapsed_entries n v r = refl
 -- many instructions of the user of a service, with its words in core before and after them
 pub passes_joined : (limit n l : ℕ) (w : Waiting) (v : Service) (f : ℕ → Stored) (c : Stored) (d : List ℕ) (p : User) (r : Run) → IsUser v.user r → r.system.service ≡ Some v
     → chosen r.system.plan.levels ≡ Some (l, w) → w.user ≡ v.user → (0 < n → n < w.left)
-    → r.system.clock + n ≤ limit → r.system.clock + n ≤ next_tick limit r.system.events → must_load r.system.plan v.user (blocks_of (user_at v.user r.system.users).inner) ≡ false
+    → r.system.clock + n ≤ limit → r.system.clock + n ≤ next_tick limit r.system.events
+    → (until : ℕ) → NobodyRises (Some v.user) until r.system.plan.levels → r.system.clock + n ≤ until → must_load r.system.plan v.user (blocks_of (user_at v.user r.system.users).inner) ≡ false
     → f v.user ≡ c → HaveGone n (user_at v.user r.system.users) p c.core d → Passes limit n (joined f r) (joined (with_store v.user (record c { core = d }) f) (passed n v p r))
 unfolding joined
-passes_joined limit n l w v f c d p r who serves first mine left up quiet loaded words done =
+passes_joined limit n l w v f c d p r who serves first mine left up quiet until low early loaded words done =
     subst (Passes limit n (joined f r)) (ap (λ (q : User). passed n v (in_store (record c { core = d }) q) (joined f r)) (sym done.left) ∙ sym (passed_joined n v f (record c { core = d }) p r who))
     (passes limit n l w v (user_at v.user r.system.users) c d p.inner.regs (joined f r) (is_user_too f v.user r who) serves
-    (serves_joined f v.user r who ∙ ap (λ (x : Stored). in_store x (user_at v.user r.system.users)) words) first mine left up quiet loaded done.work done.went)
+    (serves_joined f v.user r who ∙ ap (λ (x : Stored). in_store x (user_at v.user r.system.users)) words) first mine left up quiet until low early loaded done.work done.went)

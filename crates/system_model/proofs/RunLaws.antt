@@ -1,25 +1,50 @@
 use Rattle.std.specs.Prelude.{slice_index_or}
-use Rattle.std.proofs.Common.{Bool, false, not, nat_eq, zero, drop, replicate, eq-eqb, arith, ◌≡◌, ℕ, suc, ◌<◌, ◌≤◌, List, ◌++◌, ap, refl, sym, ◌∙◌, lt-ltb, le-ltb}
+use Rattle.std.proofs.Common.{◌+◌, Bool, false, not, nat_eq, zero, drop, replicate, eq-eqb, arith, ◌≡◌, ℕ, suc, ◌<◌, ◌≤◌, List, ◌++◌, ap, refl, sym, ◌∙◌, lt-ltb, le-ltb}
 use Rattle.ctss_types.specs.declared.script.Account.{Account}
 use Rattle.time_sharing.specs.Rows.{machine}
 use Rattle.time_sharing.specs.System as theory
-use Rattle.time_sharing.specs.System.{Timed, Service, Serve, AtEnd, Idle}
+use Rattle.time_sharing.specs.System.{Timed, Service, Serve, Idle, Cause, Time, Wait, Stop, Size, Preempt, AtEnd}
+use Rattle.time_sharing.specs.Rows.{some_line}
 use Rattle.time_sharing.specs.Record as whole
 use Rattle.time_sharing.proofs.RepeatLaws as laws
 use Rattle.time_sharing.proofs.Ending as ending
 use Rattle.user_model.specs.Session.{user_rows}
 use Rattle.user_model.specs.Inner.{blocks_of}
 use Rattle.plan_model.proofs.LoadLaws.{loaded_is}
+use Rattle.user_model.specs.User.{User}
+use Rattle.plan_model.specs.Levels.{Levels, dropped, sum_of_levels}
+use Rattle.plan_model.proofs.RiseLaws.{none-rises, sum-risen, sum-charged, sum-preempted, sum-dropped, sum-entered, sum-again, sum-woken}
 use Rattle.plan_model.specs.Plan.{Plan, must_load, with_load}
-use Rattle.system_model.specs.Round.{round}
+use Rattle.system_model.specs.Round.{round, leaves, line_blocks}
 use Rattle.system_model.specs.Run.{Run, State, next, run_to, measure, AfterSteps}
 
 -- a load is done once
 load_is_done : (q : Plan) (u n : ℕ) → must_load (with_load q u n) u n ≡ false
 load_is_done q u n = ap not (loaded_is q.places u n)
 
+sum-leaves : (q : Levels) (u : ℕ) (cause : Cause) (p : User) (now : ℕ) → sum_of_levels (leaves q u cause p now) ≤ sum_of_levels q + 8
+sum-leaves q u Time p now = omega arith
+sum-leaves q u Wait p now = omega (arith, sum-dropped u q)
+sum-leaves q u Stop p now = omega (arith, sum-again (some_line p.unread) u now (dropped u q), sum-dropped u q)
+sum-leaves q u Size p now = omega (arith, sum-entered (blocks_of p.inner) u now (dropped u q), sum-dropped u q)
+sum-leaves q u Preempt p now = omega arith
+sum-leaves q u AtEnd p now = omega arith
+
 pub ends : (swap common : ℕ) (accounts : List Account) → whole.Ends (round swap common accounts)
-ends swap common accounts = record { loaded = λ q u p now. load_is_done q u (blocks_of p.inner); same_choice = λ q u p now. refl }
+ends swap common accounts =
+    record {
+      loaded = λ q u p now. load_is_done q u (blocks_of p.inner);
+      same_choice = λ q u p now. refl;
+      none_rises = λ q served now none. none-rises served now q.levels none;
+      risen = λ q served now u l is. sum-risen served now u l q.levels is;
+      load = λ q u p now. omega arith;
+      charged = λ q u now. sum-charged u now q.levels;
+      preempted = λ q u now. sum-preempted u now q.levels;
+      leaves = λ q u cause p now. sum-leaves q.levels u cause p now;
+      gave_up = λ q u p ending now. omega arith;
+      line_came = λ q u was p now. sum-woken (line_blocks was) u now q.levels;
+      cut_came = λ q u kind p now. sum-dropped u q.levels;
+    }
 
 before : Run → ℕ → State → Rattle.std.specs.Prelude.Bool
 before r limit s = whole.clock_is_below (machine user_rows) (round r.swap r.common r.accounts) limit s

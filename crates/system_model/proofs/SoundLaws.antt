@@ -6,8 +6,8 @@ use Rattle.std.proofs.lemmas.List.Elements.{All-drop, All-weaker, All-push}
 use Rattle.std.proofs.lemmas.Bool.Decides.{nat_tests}
 use Rattle.ctss_types.specs.declared.session.Waiting.{Waiting}
 use Rattle.time_sharing.specs.System.{Timed, Service, Console, Off, On, Password, Session, out_of, without, next_tick, service_after, consoles_after, Entry, EventKind, Event, Dials, Types, Quits, Hangs, LineTaken, DialTaken, QuitTaken, HangTaken, max_lines, Cause, Time, Wait, Stop, Size, Preempt, AtEnd}
-use Rattle.plan_model.specs.Levels.{Levels, chosen, first_of, user_of, waits, is_in, is_user, dropped, without_user, woken, one_less, entered, level_of_words, charged, ticked, sunk, entered_again, level_in, has_time, command_blocks}
-use Rattle.system_model.specs.Run.{Run, next, taken, at_console, otherwise, attended, by_due, due_of, with_one_event}
+use Rattle.plan_model.specs.Levels.{Levels, chosen, first_of, user_of, waits, is_in, is_user, dropped, without_user, woken, one_less, entered, level_of_words, charged, ticked, sunk, entered_again, level_in, has_time, command_blocks, from_now, preempted, has_waited, first_that, at_or, first_with, riser, goes_up, risen}
+use Rattle.system_model.specs.Run.{Run, next, taken, at_console, otherwise, attended, rise, rising, by_rising, by_due, due_of, with_one_event}
 use Rattle.time_sharing.specs.Machine.{Line, Ending, LoggedOut, Went, Stopped, Resized, Replaced}
 use Rattle.time_sharing.specs.Rows.{some_line}
 use Rattle.user_model.specs.Inner.{blocks_of}
@@ -19,7 +19,7 @@ use Rattle.ctss_types.specs.Words.{words_of}
 use Rattle.ctss_types.specs.declared.script.Account.{Account}
 use Rattle.system_model.proofs.CaseLaws.{next_due, taken_at, off_dials, off_types, off_quits, off_hangs, on_dials, on_no_name, on_name, on_quits, on_hangs, asked_dials, wrong_word, already_on, logs_in, asked_quits, asked_hangs, in_dials, in_types, in_spends, in_quits, in_hangs, idles, preempts_none, begins, goes_on, preempts, attended_loads, attended_steps, attended_waits}
 use Rattle.plan_model.specs.Plan.{must_load}
-use Rattle.system_model.specs.Cases.{brought, reply_for, levels_after, user_at, heard, line_taken, quit_taken, hang_taken, spent_taken, login_taken, dial_taken, idled, served, stepped, waited, not_served}
+use Rattle.system_model.specs.Cases.{brought, reply_for, levels_after, user_at, heard, line_taken, quit_taken, hang_taken, spent_taken, login_taken, dial_taken, idled, broken_off, stepped, waited, not_served}
 use Rattle.system_model.specs.Sound.{Sound, IsUser, HasSeat}
 
 first_holds : (rows : List (List Waiting)) (l m : ℕ) (x : Waiting) → first_of l rows ≡ Some (m, x) → is_in x.user rows ≡ true
@@ -116,13 +116,13 @@ is_in-enter v (suc l) x (row ∷ rows) h = elim (or-either (list_any (is_user v)
 
 -- the queues' users
 
-wakes_user : (n u : ℕ) (q : Levels) (v : ℕ) → waits v (woken n u q) ≡ true → (u ≡ v) ⊎ (waits v q ≡ true)
+wakes_user : (n u now : ℕ) (q : Levels) (v : ℕ) → waits v (woken n u now q) ≡ true → (u ≡ v) ⊎ (waits v q ≡ true)
 unfolding woken waits entered
-wakes_user n u q v h = by_test (waits u q) h
+wakes_user n u now q v h = by_test (waits u q) h
   where
-    by_test : (b : Bool) → waits v (cond b q (entered n u q)) ≡ true → (u ≡ v) ⊎ (waits v q ≡ true)
+    by_test : (b : Bool) → waits v (cond b q (entered n u now q)) ≡ true → (u ≡ v) ⊎ (waits v q ≡ true)
     by_test true h = inr h
-    by_test false h = is_in-enter v (level_of_words q.wq (256 * n)) (record { user = u; left = q.quantum * 2 ^ level_of_words q.wq (256 * n) }) q.rows h
+    by_test false h = is_in-enter v (level_of_words q.wq (256 * n)) (record { user = u; left = q.quantum * 2 ^ level_of_words q.wq (256 * n); since = now }) q.rows h
 
 dropped_user : (u : ℕ) (q : Levels) (v : ℕ) → waits v (dropped u q) ≡ true → waits v q ≡ true
 unfolding dropped waits
@@ -132,34 +132,54 @@ ticked_user : (u : ℕ) (q : Levels) (v : ℕ) → waits v (ticked u q) ≡ true
 unfolding ticked waits
 ticked_user u q v h = sym (is_in-less v u q.rows) ∙ h
 
-sunk_user : (u : ℕ) (q : Levels) (v : ℕ) → waits v (sunk u q) ≡ true → (u ≡ v) ⊎ (waits v q ≡ true)
+sunk_user : (u now : ℕ) (q : Levels) (v : ℕ) → waits v (sunk u now q) ≡ true → (u ≡ v) ⊎ (waits v q ≡ true)
 unfolding sunk waits dropped
-sunk_user u q v h = elim (is_in-enter v (min (level_in (chosen q) + 1) 8) (record { user = u; left = q.quantum * 2 ^ min (level_in (chosen q) + 1) 8 }) (map (without_user u) q.rows) h) [ inl e ↦ inl e | inr k ↦ inr (is_in-without_user v u q.rows k) ]
+sunk_user u now q v h = elim (is_in-enter v (min (level_in (chosen q) + 1) 8) (record { user = u; left = q.quantum * 2 ^ min (level_in (chosen q) + 1) 8; since = now }) (map (without_user u) q.rows) h) [ inl e ↦ inl e | inr k ↦ inr (is_in-without_user v u q.rows k) ]
 
-charged_user : (u : ℕ) (q : Levels) (v : ℕ) → waits v (charged u q) ≡ true → (u ≡ v) ⊎ (waits v q ≡ true)
+charged_user : (u now : ℕ) (q : Levels) (v : ℕ) → waits v (charged u now q) ≡ true → (u ≡ v) ⊎ (waits v q ≡ true)
 unfolding charged
-charged_user u q v h = by_test (has_time q) h
+charged_user u now q v h = by_test (has_time q) h
   where
-    by_test : (b : Bool) → waits v (cond b (ticked u q) (sunk u q)) ≡ true → (u ≡ v) ⊎ (waits v q ≡ true)
+    by_test : (b : Bool) → waits v (cond b (ticked u q) (sunk u now q)) ≡ true → (u ≡ v) ⊎ (waits v q ≡ true)
     by_test true h = inr (ticked_user u q v h)
-    by_test false h = sunk_user u q v h
+    by_test false h = sunk_user u now q v h
 
-entered_user : (n u : ℕ) (q : Levels) (v : ℕ) → waits v (entered n u (dropped u q)) ≡ true → (u ≡ v) ⊎ (waits v q ≡ true)
+entered_user : (n u now : ℕ) (q : Levels) (v : ℕ) → waits v (entered n u now (dropped u q)) ≡ true → (u ≡ v) ⊎ (waits v q ≡ true)
 unfolding waits entered dropped
-entered_user n u q v h = elim (is_in-enter v (level_of_words q.wq (256 * n)) (record { user = u; left = q.quantum * 2 ^ level_of_words q.wq (256 * n) }) (map (without_user u) q.rows) h) [ inl e ↦ inl e | inr k ↦ inr (is_in-without_user v u q.rows k) ]
+entered_user n u now q v h = elim (is_in-enter v (level_of_words q.wq (256 * n)) (record { user = u; left = q.quantum * 2 ^ level_of_words q.wq (256 * n); since = now }) (map (without_user u) q.rows) h) [ inl e ↦ inl e | inr k ↦ inr (is_in-without_user v u q.rows k) ]
 
-again_user : (b : Bool) (u : ℕ) (q : Levels) (v : ℕ) → waits v (entered_again b u (dropped u q)) ≡ true → (u ≡ v) ⊎ (waits v q ≡ true)
-again_user false u q v h = inr (dropped_user u q v h)
-again_user true u q v h = entered_user command_blocks u q v h
+risen_user : (u l now : ℕ) (q : Levels) (v : ℕ) → waits v (risen u l now q) ≡ true → (u ≡ v) ⊎ (waits v q ≡ true)
+unfolding waits risen dropped
+risen_user u l now q v h = elim (is_in-enter v l (record { user = u; left = q.quantum * 2 ^ l; since = now }) (map (without_user u) q.rows) h) [ inl e ↦ inl e | inr k ↦ inr (is_in-without_user v u q.rows k) ]
 
-left_user : (o : Option Cause) (u : ℕ) (p : User) (q : Levels) (v : ℕ) → waits v (levels_after o u p q) ≡ true → (u ≡ v) ⊎ (waits v q ≡ true)
-left_user None u p q v h = inr h
-left_user (Some Time) u p q v h = inr h
-left_user (Some Wait) u p q v h = inr (dropped_user u q v h)
-left_user (Some Stop) u p q v h = again_user (some_line p.unread) u q v h
-left_user (Some Size) u p q v h = entered_user (blocks_of p.inner) u q v h
-left_user (Some Preempt) u p q v h = inr h
-left_user (Some AtEnd) u p q v h = inr h
+any-now : (v u now : ℕ) (row : List Waiting) → list_any (is_user v) (map (from_now u now) row) ≡ list_any (is_user v) row
+any-now v u now [] = refl
+any-now v u now (x ∷ xs) = rw (any-now v u now xs) (ap (λ (a : ℕ). nat_eq a v || list_any (is_user v) xs) (by_test (nat_eq x.user u)))
+  where
+    by_test : (b : Bool) → (cond b (record x { since = now }) x).user ≡ x.user
+    by_test true = refl
+    by_test false = refl
+
+is_in-now : (v u now : ℕ) (rows : List (List Waiting)) → is_in v (map (map (from_now u now)) rows) ≡ is_in v rows
+is_in-now v u now [] = refl
+is_in-now v u now (row ∷ rows) = rw (any-now v u now row, is_in-now v u now rows) refl
+
+preempted_user : (u now : ℕ) (q : Levels) (v : ℕ) → waits v (preempted u now q) ≡ true → waits v q ≡ true
+unfolding preempted waits
+preempted_user u now q v h = sym (is_in-now v u now q.rows) ∙ h
+
+again_user : (b : Bool) (u now : ℕ) (q : Levels) (v : ℕ) → waits v (entered_again b u now (dropped u q)) ≡ true → (u ≡ v) ⊎ (waits v q ≡ true)
+again_user false u now q v h = inr (dropped_user u q v h)
+again_user true u now q v h = entered_user command_blocks u now q v h
+
+left_user : (o : Option Cause) (u : ℕ) (p : User) (now : ℕ) (q : Levels) (v : ℕ) → waits v (levels_after o u p now q) ≡ true → (u ≡ v) ⊎ (waits v q ≡ true)
+left_user None u p now q v h = inr h
+left_user (Some Time) u p now q v h = inr h
+left_user (Some Wait) u p now q v h = inr (dropped_user u q v h)
+left_user (Some Stop) u p now q v h = again_user (some_line p.unread) u now q v h
+left_user (Some Size) u p now q v h = entered_user (blocks_of p.inner) u now q v h
+left_user (Some Preempt) u p now q v h = inr h
+left_user (Some AtEnd) u p now q v h = inr h
 
 -- a state with as many users and consoles, and the same accounts
 pub record Alike (r s : Run) : Type 0 where
@@ -225,7 +245,7 @@ sound_line c u l r sound who =
     sound_by r (line_taken c u l r) (record { users = length-set _ _ _; accounts = refl; consoles = refl }) sound (seats_left r sound)
     sound.sits
     (still r sound)
-    (λ v h. elim (wakes_user _ u r.system.plan.levels v h) [ inl e ↦ subst (λ (w : ℕ). IsUser w r) e who | inr k ↦ sound.queued v k ])
+    (λ v h. elim (wakes_user _ u r.system.clock r.system.plan.levels v h) [ inl e ↦ subst (λ (w : ℕ). IsUser w r) e who | inr k ↦ sound.queued v k ])
     (put_own r u r.system.clock _ (sound.owns (u - 1)) sound.owns)
 
 pub sound_quit : (c u : ℕ) (r : Run) → Sound r → Sound (quit_taken c u r)
@@ -274,11 +294,19 @@ sound_heard c kind now more r sound quiet =
     sound_by r (heard c kind now more r) (record { users = refl; accounts = refl; consoles = length-set _ _ _ }) sound (seats_left r sound)
     (put_seat r c now sound quiet) (still r sound) sound.queued sound.owns
 
-pub sound_served : (cause : Cause) (v : Service) (r : Run) → Sound r → Sound (served cause v r)
-unfolding served
-sound_served cause v r sound =
-    sound_by r (served cause v r) (record { users = refl; accounts = refl; consoles = refl }) sound sound.seats
-    sound.sits (λ w h. cc) sound.queued sound.owns
+pub sound_broken_off : (v : Service) (r : Run) → Sound r → Sound (broken_off v r)
+unfolding broken_off
+sound_broken_off v r sound =
+    sound_by r (broken_off v r) (record { users = refl; accounts = refl; consoles = refl }) sound sound.seats
+    sound.sits (λ w h. cc) (λ u h. sound.queued u (preempted_user v.user r.system.clock r.system.plan.levels u h)) sound.owns
+
+pub sound_rise : (u l : ℕ) (r : Run) → Sound r → IsUser u r → Sound (rise u l r)
+unfolding rise
+sound_rise u l r sound who =
+    sound_by r (rise u l r) (record { users = refl; accounts = refl; consoles = refl }) sound sound.seats
+    sound.sits (still r sound)
+    (λ v h. elim (risen_user u l r.system.clock r.system.plan.levels v h) [ inl e ↦ subst (λ (w : ℕ). IsUser w r) e who | inr k ↦ sound.queued v k ])
+    sound.owns
 
 none_lost : (t limit : ℕ) (e : Timed) → t < limit → t < e.tick → t ≤ min e.tick limit
 none_lost t limit e h k = omega arith
@@ -291,15 +319,15 @@ sound_idled limit r sound on =
     (λ k. let h = sound.owns k in omega (arith, h, on))
 
 -- a charged user and the others in the queues are users
-queued_charged : (v : Service) (r : Run) (u : ℕ) → Sound r → IsUser v.user r → waits u (charged v.user r.system.plan.levels) ≡ true → IsUser u r
-queued_charged v r u sound who h = elim (charged_user v.user r.system.plan.levels u h) [ inl e ↦ subst (λ (w : ℕ). IsUser w r) e who | inr k ↦ sound.queued u k ]
+queued_charged : (v : Service) (r : Run) (u : ℕ) → Sound r → IsUser v.user r → waits u (charged v.user (suc r.system.clock) r.system.plan.levels) ≡ true → IsUser u r
+queued_charged v r u sound who h = elim (charged_user v.user (suc r.system.clock) r.system.plan.levels u h) [ inl e ↦ subst (λ (w : ℕ). IsUser w r) e who | inr k ↦ sound.queued u k ]
 
 pub sound_waited : (v : Service) (r : Run) → Sound r → IsUser v.user r → Sound (waited v r)
 unfolding waited
 sound_waited v r sound who =
     sound_by r (waited v r) (record { users = refl; accounts = refl; consoles = refl }) sound sound.seats
     sound.sits (λ w h. cc)
-    (λ u h. queued_charged v r u sound who (dropped_user v.user (charged v.user r.system.plan.levels) u h))
+    (λ u h. queued_charged v r u sound who (dropped_user v.user (charged v.user (suc r.system.clock) r.system.plan.levels) u h))
     (λ k. let h = sound.owns k in omega (arith, h))
 
 behind_service : (v : Service) (o : Option Cause) (w : Service) → service_after v o ≡ Some w → (v.user ≡ w.user) × (suc v.ran ≡ w.ran)
@@ -326,7 +354,7 @@ sound_stepped v r sound who ran =
     sound_by r (stepped v r) (record { users = length-set _ _ _; accounts = refl; consoles = as_many _ v.user r.system.consoles }) sound sound.seats
     (λ k u h. left_seats r _ v.user k u sound h)
     (λ w h. let e = behind_service v _ w h in (subst (λ (u : ℕ). IsUser u r) e.0 who, (let f = e.1 in omega (arith, f, ran))))
-    (λ u h. elim (left_user (theory.cause_of (ending r.system.clock (reply_for r (asks_common (user_at v.user r.system.users))) (user_at v.user r.system.users)) (has_time r.system.plan.levels)) v.user (step r.system.clock (reply_for r (asks_common (user_at v.user r.system.users))) (user_at v.user r.system.users)) (charged v.user r.system.plan.levels) u h)
+    (λ u h. elim (left_user (theory.cause_of (ending r.system.clock (reply_for r (asks_common (user_at v.user r.system.users))) (user_at v.user r.system.users)) (has_time r.system.plan.levels)) v.user (step r.system.clock (reply_for r (asks_common (user_at v.user r.system.users))) (user_at v.user r.system.users)) (suc r.system.clock) (charged v.user (suc r.system.clock) r.system.plan.levels) u h)
     [ inl e ↦ subst (λ (w : ℕ). IsUser w r) e who | inr k ↦ queued_charged v r u sound who k ])
     (put_own r v.user (suc r.system.clock) _ (let h = sound.owns (v.user - 1) in omega (arith, h)) (λ k. let h = sound.owns k in omega (arith, h)))
 
@@ -438,6 +466,48 @@ sound_attended v r sound who ran = by_load (must_load r.system.plan v.user (bloc
     by_load true m = subst Sound (sym (attended_loads v r who.some m)) (sound_brought v.user r sound)
     by_load false m = by_step (can_step (user_at v.user r.system.users)) m refl
 
+-- the user that rises
+that_holds : (p : Waiting → Bool) (row : List Waiting) (x : Waiting) → first_that p row ≡ Some x → list_any (is_user x.user) row ≡ true
+that_holds p [] x h = cc
+that_holds p (y ∷ row) x h = by_test (that_holds p row x) (p y) h
+  where
+    by_test : (first_that p row ≡ Some x → list_any (is_user x.user) row ≡ true) → (b : Bool) → cond b (Some y) (first_that p row) ≡ Some x → list_any (is_user x.user) (y ∷ row) ≡ true
+    by_test rest true h =
+        let e : y ≡ x = cc in
+        let t : nat_eq y.user x.user ≡ true = (let s : y.user ≡ x.user = ap (λ (z : Waiting). z.user) e in grind (arith, nat_tests)) in
+        or-left (nat_eq y.user x.user) (list_any (is_user x.user) row) t
+    by_test rest false h = or-right (nat_eq y.user x.user) (list_any (is_user x.user) row) (rest h)
+
+with_holds : (p : Waiting → Bool) (l : ℕ) (rows : List (List Waiting)) (k : ℕ) (x : Waiting) → first_with p l rows ≡ Some (k, x) → is_in x.user rows ≡ true
+with_holds p l [] k x h = cc
+with_holds p l (row ∷ rows) k x h = by_first (with_holds p (suc l) rows k x) (first_that p row) refl h
+  where
+    by_first : (first_with p (suc l) rows ≡ Some (k, x) → is_in x.user rows ≡ true) → (o : Option Waiting) → first_that p row ≡ o → at_or l o (first_with p (suc l) rows) ≡ Some (k, x) → is_in x.user (row ∷ rows) ≡ true
+    by_first rest None is h = or-right (list_any (is_user x.user) row) (is_in x.user rows) (rest h)
+    by_first rest (Some y) is h = let both : ◌≡◌ {A = ℕ × Waiting} (l, y) (k, x) = cc in let e : y ≡ x = ap (λ (q : ℕ × Waiting). q.1) both in or-left (list_any (is_user x.user) row) (is_in x.user rows) (that_holds p row x (is ∙ ap (λ (z : Waiting). Some z) e))
+
+behind_holds : (p : Waiting → Bool) (rows : List (List Waiting)) (k : ℕ) (x : Waiting) → first_with p 1 (drop 1 rows) ≡ Some (k, x) → is_in x.user rows ≡ true
+behind_holds p [] k x h = cc
+behind_holds p (row ∷ rows) k x h = or-right (list_any (is_user x.user) row) (is_in x.user rows) (with_holds p 1 rows k x h)
+
+riser_waits : (served : Option ℕ) (now : ℕ) (q : Levels) (k : ℕ) (x : Waiting) → riser served now q ≡ Some (k, x) → waits x.user q ≡ true
+unfolding riser waits
+riser_waits served now q k x h = by_age (nat_eq q.age 0) h
+  where
+    by_age : (b : Bool) → cond b None (first_with (has_waited q.age served now) 1 (drop 1 q.rows)) ≡ Some (k, x) → is_in x.user q.rows ≡ true
+    by_age true h = cc
+    by_age false h = behind_holds (has_waited q.age served now) q.rows k x h
+
+pub riser_user : (r : Run) (u l : ℕ) → Sound r → rising r ≡ Some (u, l) → IsUser u r
+riser_user r u l sound h = by_who (riser (theory.served_of r.system.service) r.system.clock r.system.plan.levels) refl h
+  where
+    by_who : (o : Option (ℕ × Waiting)) → riser (theory.served_of r.system.service) r.system.clock r.system.plan.levels ≡ o → goes_up o ≡ Some (u, l) → IsUser u r
+    by_who None is h = cc
+    by_who (Some x) is h =
+        let both : ◌≡◌ {A = ℕ × ℕ} ((x.1).user, x.0 - 1) (u, l) = cc in
+        let p : (x.1).user ≡ u = ap (λ (q : ℕ × ℕ). q.0) both in
+        subst (λ (w : ℕ). IsUser w r) p (sound.queued (x.1).user (riser_waits (theory.served_of r.system.service) r.system.clock r.system.plan.levels x.0 x.1 is))
+
 -- the user that comes first
 pub first_chosen : (r : Run) (u : ℕ) → Sound r → user_of (chosen r.system.plan.levels) ≡ Some u → IsUser u r
 first_chosen r u sound h = by_first (chosen r.system.plan.levels) refl h
@@ -451,9 +521,16 @@ sound_otherwise limit r on sound = by_both (user_of (chosen r.system.plan.levels
   where
     by_both : (o : Option ℕ) (v : Option Service) → user_of (chosen r.system.plan.levels) ≡ o → r.system.service ≡ v → Sound (otherwise limit o v r)
     by_both None None a b = subst Sound (sym (idles limit r)) (sound_idled limit r sound on)
-    by_both None (Some v) a b = subst Sound (sym (preempts_none limit v r)) (sound_served Preempt v r sound)
+    by_both None (Some v) a b = subst Sound (sym (preempts_none limit v r)) (sound_broken_off v r sound)
     by_both (Some u) None a b = subst Sound (sym (begins limit u r)) (sound_attended (record { tick = r.system.clock; user = u; level = level_in (chosen r.system.plan.levels); ran = 0 }) r sound (first_chosen r u sound a) (omega arith))
-    by_both (Some u) (Some v) a b = elim (same_or_not v.user u) [ inl e ↦ subst Sound (sym (goes_on limit u v r e)) (sound_attended v r sound (sound.served v b) (sound.ran v b)) | inr n ↦ subst Sound (sym (preempts limit u v r n)) (sound_served Preempt v r sound) ]
+    by_both (Some u) (Some v) a b = elim (same_or_not v.user u) [ inl e ↦ subst Sound (sym (goes_on limit u v r e)) (sound_attended v r sound (sound.served v b) (sound.ran v b)) | inr n ↦ subst Sound (sym (preempts limit u v r n)) (sound_broken_off v r sound) ]
+
+pub sound_quiet : (limit : ℕ) (r : Run) → r.system.clock ≤ next_tick limit r.system.events → Sound r → Sound (by_due limit None r)
+sound_quiet limit r on sound = by_who (rising r) refl
+  where
+    by_who : (o : Option (ℕ × ℕ)) → rising r ≡ o → Sound (by_rising limit o r)
+    by_who None is = sound_otherwise limit r on sound
+    by_who (Some x) is = sound_rise x.0 x.1 r sound (riser_user r x.0 x.1 sound is)
 
 pub sound_next : (limit : ℕ) (r : Run) → r.system.clock < limit → Sound r → Sound (next limit r)
 sound_next limit r up sound = subst Sound (sym (next_due limit r)) (by_events r.system.events refl)
@@ -464,10 +541,10 @@ sound_next limit r up sound = subst Sound (sym (next_due limit r)) (by_events r.
         sound_taken e r (all-head (λ (x : Timed). HasSeat x r) e rest all) sound
     by_test e rest is false late =
         let k : r.system.clock ≤ min e.tick limit = (let l : r.system.clock < e.tick = grind (arith, nat_tests) in omega (arith, l, up)) in
-        sound_otherwise limit r (subst (λ (es : List Timed). r.system.clock ≤ next_tick limit es) (sym is) k) sound
+        sound_quiet limit r (subst (λ (es : List Timed). r.system.clock ≤ next_tick limit es) (sym is) k) sound
 
     by_events : (es : List Timed) → r.system.events ≡ es → Sound (by_due limit (due_of es r.system.clock) r)
-    by_events [] is = sound_otherwise limit r (subst (λ (es : List Timed). r.system.clock ≤ next_tick limit es) (sym is) (omega (arith, up))) sound
+    by_events [] is = sound_quiet limit r (subst (λ (es : List Timed). r.system.clock ≤ next_tick limit es) (sym is) (omega (arith, up))) sound
     by_events (e ∷ rest) is = by_test e rest is (nat_le e.tick r.system.clock) refl
 
 pub sound_given : (e : Timed) (r : Run) → HasSeat e r → Sound r → Sound (with_one_event e r)

@@ -1,10 +1,10 @@
 -- What each case of a step adds to the blocks that the schedule's loads moved.
 use Rattle.std.proofs.Common.{◌≡◌, ℕ, ◌+◌, Bool, true, false, nat_eq, cond, List, [], ◌∷◌, ◌++◌, Option, Some, None, refl, ◌∙◌, arith}
 use Rattle.time_sharing.specs.Machine.{Ending, CutKind, Quit, Hang, Spent, CommonOp, Reply}
-use Rattle.time_sharing.specs.System.{Timed, Service, Console, On, Entry, Taken, Login, Refused, Idle, Swap, Serve, Clock, Common, EventKind, LineTaken, kind_of, Cause, Stop, cause_of, service_entry, clock_entry, common_entry}
+use Rattle.time_sharing.specs.System.{Timed, Service, Console, On, Entry, Taken, Login, Refused, Idle, Swap, Rise, Serve, Clock, Common, EventKind, LineTaken, kind_of, Cause, Stop, cause_of, service_entry, clock_entry, common_entry}
 use Rattle.plan_model.specs.Levels.{has_time}
-use Rattle.system_model.specs.Run.{Run, taken}
-use Rattle.system_model.specs.Cases.{user_at, idle_notes, stop_notes, heard, line_taken, quit_taken, hang_taken, spent_taken, cut_taken, login_taken, dial_taken, idled, served, waited}
+use Rattle.system_model.specs.Run.{Run, taken, rise, rising, rise_of, raised}
+use Rattle.system_model.specs.Cases.{user_at, idle_notes, stop_notes, heard, line_taken, quit_taken, hang_taken, spent_taken, cut_taken, login_taken, dial_taken, idled, broken_off, waited}
 use Rattle.system_model.specs.Joined.{counted, moved}
 use Rattle.system_model.specs.Sound.{Sound, HasSeat}
 use Rattle.schedule_model.specs.Sums.{dumped_in, read_in}
@@ -19,6 +19,7 @@ dumped-append (Taken tick console kind user own ∷ xs) ys = dumped-append xs ys
 dumped-append (Login tick console user ∷ xs) ys = dumped-append xs ys
 dumped-append (Refused tick console cause ∷ xs) ys = dumped-append xs ys
 dumped-append (Idle from until ∷ xs) ys = dumped-append xs ys
+dumped-append (Rise tick user level ∷ xs) ys = dumped-append xs ys
 dumped-append (Serve tick user level ran cause ∷ xs) ys = dumped-append xs ys
 dumped-append (Clock answer user ∷ xs) ys = dumped-append xs ys
 dumped-append (Common user op reply ∷ xs) ys = dumped-append xs ys
@@ -30,6 +31,7 @@ read-append (Taken tick console kind user own ∷ xs) ys = read-append xs ys
 read-append (Login tick console user ∷ xs) ys = read-append xs ys
 read-append (Refused tick console cause ∷ xs) ys = read-append xs ys
 read-append (Idle from until ∷ xs) ys = read-append xs ys
+read-append (Rise tick user level ∷ xs) ys = read-append xs ys
 read-append (Serve tick user level ran cause ∷ xs) ys = read-append xs ys
 read-append (Clock answer user ∷ xs) ys = read-append xs ys
 read-append (Common user op reply ∷ xs) ys = read-append xs ys
@@ -110,9 +112,17 @@ pub idled_moves : (limit : ℕ) (r : Run) → Moves r.system.entries (idled limi
 unfolding idled
 idled_moves limit r = record { out = omega arith; back = omega arith }
 
-pub served_moves : (cause : Cause) (v : Service) (r : Run) → Moves r.system.entries (served cause v r).system.entries 0 0
-unfolding served
-served_moves cause v r = adds r.system.entries _ 0 0 refl refl
+pub broken_off_moves : (v : Service) (r : Run) → Moves r.system.entries (broken_off v r).system.entries 0 0
+unfolding broken_off
+broken_off_moves v r = adds r.system.entries _ 0 0 refl refl
+
+pub raised_moves : (r : Run) → Moves r.system.entries (raised r).system.entries 0 0
+unfolding rise
+raised_moves r = by_who (rising r)
+  where
+    by_who : (o : Option (ℕ × ℕ)) → Moves r.system.entries (rise_of o r).system.entries 0 0
+    by_who None = record { out = omega arith; back = omega arith }
+    by_who (Some x) = adds r.system.entries _ 0 0 refl refl
 
 pub waited_moves : (v : Service) (r : Run) → Moves r.system.entries (waited v r).system.entries 0 0
 unfolding waited

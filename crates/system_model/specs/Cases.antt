@@ -2,11 +2,11 @@
 use Rattle.std.specs.Prelude.{ℕ, suc, ◌+◌, ◌-◌, if◌then◌else◌, nat_eq, List, [], ◌∷◌, ◌++◌, Option, Some, None, drop, set, get_or}
 use Rattle.time_sharing.specs.Machine.{Line, CutKind, Quit, Hang, Spent, CommonOp, Reply}
 use Rattle.time_sharing.specs.Rows.{machine}
-use Rattle.time_sharing.specs.System.{SystemState, Timed, Service, Console, Session, Entry, Taken, Login, Idle, Swap, Serve, EventKind, LineTaken, DialTaken, kind_of, Cause, Stop, Wait, AtEnd, without, Off, consoles_after, cause_of, service_after, service_entry, clock_entry, common_entry, next_tick}
+use Rattle.time_sharing.specs.System.{SystemState, Timed, Service, Console, Session, Entry, Taken, Login, Idle, Swap, Serve, EventKind, LineTaken, DialTaken, kind_of, Cause, Stop, Wait, Preempt, AtEnd, without, Off, consoles_after, cause_of, service_after, service_entry, clock_entry, common_entry, next_tick}
 use Rattle.user_model.specs.Session.{user_rows, nobody}
 use Rattle.user_model.specs.Inner.{blocks_of}
 use Rattle.user_model.specs.User.{User, typed, opened, cut, step, ending, asks_clock, asks_common}
-use Rattle.plan_model.specs.Levels.{Levels, has_time, charged, dropped, woken}
+use Rattle.plan_model.specs.Levels.{Levels, has_time, charged, dropped, woken, preempted}
 use Rattle.plan_model.specs.Plan.{with_load, move_of, places_after, places_cut}
 use Rattle.time_sharing.specs.System as theory
 use Rattle.ctss_types.specs.declared.file.FileBody.{FileBody}
@@ -54,7 +54,7 @@ line_taken c u l r =
     record r {
       system = record r.system {
         users = with_user u (typed l (user_at u r.system.users)) r.system.users;
-        plan = record r.system.plan { levels = woken (line_blocks (user_at u r.system.users)) u r.system.plan.levels };
+        plan = record r.system.plan { levels = woken (line_blocks (user_at u r.system.users)) u r.system.clock r.system.plan.levels };
         events = drop 1 r.system.events;
         idling = None;
         entries = r.system.entries ++ (idle_notes r.system.idling r.system.clock ++ Taken r.system.clock c LineTaken u (user_at u r.system.users).own ∷ []);
@@ -113,14 +113,21 @@ dial_taken c u r =
 unfoldable pub idled : ℕ → Run → Run
 idled limit r = record r { system = record r.system { clock = next_tick limit r.system.events; idling = Some (idle_start r.system.idling r.system.clock) } }
 
--- a service ends with no step
-unfoldable pub served : Cause → Service → Run → Run
-served cause v r = record r { system = record r.system { service = None; entries = r.system.entries ++ Serve v.tick v.user v.level v.ran cause ∷ [] } }
+-- a service ends, since its user isn't the head of the lowest level
+unfoldable pub broken_off : Service → Run → Run
+broken_off v r =
+    record r {
+      system = record r.system {
+        plan = record r.system.plan { levels = preempted v.user r.system.clock r.system.plan.levels };
+        service = None;
+        entries = r.system.entries ++ Serve v.tick v.user v.level v.ran Preempt ∷ [];
+      };
+    }
 
 -- the queues behind a step that ends a service by this cause, if any
-abbrev pub levels_after : Option Cause → ℕ → User → Levels → Levels
-levels_after None u p q = q
-levels_after (Some cause) u p q = leaves q u cause p
+abbrev pub levels_after : Option Cause → ℕ → User → (now : ℕ) → Levels → Levels
+levels_after None u p now q = q
+levels_after (Some cause) u p now q = leaves q u cause p now
 
 -- a user's blocks are brought into core
 unfoldable pub brought : ℕ → Run → Run
@@ -152,7 +159,7 @@ stepped_by cause v r =
         users = with_user v.user q r.system.users;
         files = commons_for r (asks_common p);
         plan = record {
-          levels = levels_after cause v.user q (charged v.user r.system.plan.levels);
+          levels = levels_after cause v.user q (suc r.system.clock) (charged v.user (suc r.system.clock) r.system.plan.levels);
           places = places_after (ending r.system.clock (reply_for r (asks_common p)) p) v.user (blocks_of q.inner) r.system.plan.places;
         };
         consoles = consoles_after (ending r.system.clock (reply_for r (asks_common p)) p) v.user r.system.consoles;
@@ -172,7 +179,7 @@ unfoldable pub waited : Service → Run → Run
 waited v r =
     record r {
       system = record r.system {
-        plan = record r.system.plan { levels = dropped v.user (charged v.user r.system.plan.levels) };
+        plan = record r.system.plan { levels = dropped v.user (charged v.user (suc r.system.clock) r.system.plan.levels) };
         clock = suc r.system.clock;
         service = None;
         entries = r.system.entries ++ Serve v.tick v.user v.level (suc v.ran) Wait ∷ [];

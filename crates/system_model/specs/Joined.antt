@@ -48,7 +48,7 @@ stepped_to v p t asked notes r =
       system = record r.system {
         users = with_user v.user p r.system.users;
         plan = record {
-          levels = levels_after cause v.user p (charged v.user r.system.plan.levels);
+          levels = levels_after cause v.user p (suc r.system.clock) (charged v.user (suc r.system.clock) r.system.plan.levels);
           places = places_after t v.user (blocks_of p.inner) r.system.plan.places;
         };
         consoles = consoles_after t v.user r.system.consoles;
@@ -65,7 +65,7 @@ counted v t asked notes r =
     let cause = cause_of t (has_time r.system.plan.levels) in
     record r {
       system = record r.system {
-        plan = record r.system.plan { levels = levels_after cause v.user (user_at v.user r.system.users) (charged v.user r.system.plan.levels) };
+        plan = record r.system.plan { levels = levels_after cause v.user (user_at v.user r.system.users) (suc r.system.clock) (charged v.user (suc r.system.clock) r.system.plan.levels) };
         consoles = consoles_after t v.user r.system.consoles;
         clock = suc r.system.clock;
         service = service_after v cause;

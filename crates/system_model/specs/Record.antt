@@ -31,7 +31,7 @@ start_of script =
       swap = script.params.swap;
       common = script.params.common;
       accounts = script.accounts;
-      system = whole.start (machine user_rows) (round script.params.swap script.params.common script.accounts) (users_from 1 script.accounts script.files) [] (first_plan script.params.wq script.params.quantum) consoles script.events;
+      system = whole.start (machine user_rows) (round script.params.swap script.params.common script.accounts) (users_from 1 script.accounts script.files) [] (first_plan script.params.wq script.params.quantum script.params.age) consoles script.events;
     }
 
 -- what a run leaves

@@ -11,17 +11,17 @@ use Rattle.user_model.specs.Inner.{blocks_of}
 use Rattle.user_model.specs.Session.{nobody, works_in}
 use Rattle.user_model.specs.Requests.{word_name}
 use Rattle.user_model.specs.User.{User}
-use Rattle.plan_model.specs.Levels.{Levels, chosen, user_of, level_in, has_time, charged, dropped, woken, entered, entered_again, command_blocks}
+use Rattle.plan_model.specs.Levels.{Levels, chosen, user_of, level_in, has_time, charged, dropped, woken, entered, entered_again, command_blocks, preempted, riser, goes_up, risen, sum_of_levels}
 use Rattle.plan_model.specs.Plan.{Plan, must_load, with_load, move_of, places_after, places_cut}
 
 -- where a user goes whose service has ended; at the end of its time it has sunk already
-abbrev pub leaves : Levels → ℕ → Cause → User → Levels
-leaves q u Time p = q
-leaves q u Wait p = dropped u q
-leaves q u Stop p = entered_again (some_line p.unread) u (dropped u q)
-leaves q u Size p = entered (blocks_of p.inner) u (dropped u q)
-leaves q u Preempt p = q
-leaves q u AtEnd p = q
+abbrev pub leaves : Levels → ℕ → Cause → User → (now : ℕ) → Levels
+leaves q u Time p now = q
+leaves q u Wait p now = dropped u q
+leaves q u Stop p now = entered_again (some_line p.unread) u now (dropped u q)
+leaves q u Size p now = entered (blocks_of p.inner) u now (dropped u q)
+leaves q u Preempt p now = q
+leaves q u AtEnd p now = q
 
 -- as how many blocks a user enters that gets a line: as a command's, or as its program's where that works
 abbrev pub line_blocks : User → ℕ
@@ -64,14 +64,17 @@ round swap common accounts =
       choose = λ q. user_of (chosen q.levels);
       level = λ q u. level_in (chosen q.levels);
       time_left = λ q u. has_time q.levels;
+      rises = λ q served now. goes_up (riser served now q.levels);
       must_load = λ q u p. must_load q u (blocks_of p.inner);
       load = λ q u p now. with_load q u (blocks_of p.inner);
       move = λ q u p. move_of swap q.places u (blocks_of p.inner);
-      charged = λ q u now. record q { levels = charged u q.levels };
-      preempted = λ q u now. q;
-      leaves = λ q u cause p now. record q { levels = leaves q.levels u cause p };
+      sum_of_levels = λ q. sum_of_levels q.levels;
+      risen = λ q u l now. record q { levels = risen u l now q.levels };
+      charged = λ q u now. record q { levels = charged u now q.levels };
+      preempted = λ q u now. record q { levels = preempted u now q.levels };
+      leaves = λ q u cause p now. record q { levels = leaves q.levels u cause p now };
       gave_up = λ q u p ending now. record q { places = places_after ending u (blocks_of p.inner) q.places };
-      line_came = λ q u was p now. record q { levels = woken (line_blocks was) u q.levels };
+      line_came = λ q u was p now. record q { levels = woken (line_blocks was) u now q.levels };
       cut_came = λ q u kind p now. record q { levels = dropped u q.levels; places = places_cut kind u q.places };
       files_after = λ f op. files_after common f op;
       reply_to = λ f op. reply_to common f op;

@@ -1,6 +1,7 @@
 -- claim: worked rows: a script without users; one user that logs in, gives a password and logs out; and one that is refused
--- three times, types a command with a word too much after a day, and hangs up.
-use Rattle.std.specs.Prelude.{◌≡◌, ℕ, List, [], ◌∷◌, codes}
+-- three times, types a command with a word too much after a day, and hangs up; and two users whose programs run without an end, where a
+-- user rises after 50 ticks.
+use Rattle.std.specs.Prelude.{◌≡◌, ℕ, List, [], ◌∷◌, codes, drop}
 use Rattle.ctss_types.specs.Words.{name_of}
 use Rattle.ctss_types.specs.declared.script.Script.{Script}
 use Rattle.ctss_types.specs.declared.script.Timed.{Timed}
@@ -8,13 +9,13 @@ use Rattle.ctss_types.specs.declared.script.Event.TheVariants as event
 use Rattle.ctss_types.specs.declared.history.Item.TheVariants as item
 use Rattle.ctss_types.specs.declared.history.EventKind.TheVariants as kind
 use Rattle.ctss_types.specs.declared.history.Cause.TheVariants as cause
-use Rattle.ctss_types.specs.declared.history.Entry.TheVariants.{Taken, Login, Refused, Idle, Serve, Clock}
+use Rattle.ctss_types.specs.declared.history.Entry.TheVariants.{Taken, Login, Refused, Idle, Swap, Rise, Serve, Clock}
 use Rattle.ctss_types.specs.declared.file.FileBody.{FileBody}
 use Rattle.system_model.specs.Record.{record_of}
 
 abbrev pub empty_script : Script
 empty_script =
-    record { params = record { wq = 1024; quantum = 100; swap = 10; drum = 0; disk = 0; common = 0 }; accounts = []; files = []; events = []; end = 0 }
+    record { params = record { wq = 1024; quantum = 100; swap = 10; drum = 0; disk = 0; common = 0; age = 0 }; accounts = []; files = []; events = []; end = 0 }
 
 abbrev pub RowOfNobody : Type 0
 RowOfNobody = record_of empty_script ≡ record { entries = []; transcripts = []; files = []; common = []; clock = 0 }
@@ -22,7 +23,7 @@ RowOfNobody = record_of empty_script ≡ record { entries = []; transcripts = []
 abbrev pub one_user : Script
 one_user =
     record {
-      params = record { wq = 1024; quantum = 100; swap = 10; drum = 8; disk = 20; common = 5 };
+      params = record { wq = 1024; quantum = 100; swap = 10; drum = 8; disk = 20; common = 5; age = 0 };
       accounts = record { name = name_of (codes "ALFA"); password = name_of (codes "SESAME"); blocks = 8; tracks = 10 } ∷ [];
       files = [];
       events = record { tick = 0; console = 1; event = event.Dial } ∷ record { tick = 0; console = 1; event = event.Line (codes "LOGIN ALFA") }
@@ -51,7 +52,7 @@ file_of_mode mode = record { name = record { first = name_of (codes "NOTES"); se
 abbrev pub late_user : Script
 late_user =
     record {
-      params = record { wq = 1024; quantum = 100; swap = 10; drum = 8; disk = 20; common = 5 };
+      params = record { wq = 1024; quantum = 100; swap = 10; drum = 8; disk = 20; common = 5; age = 0 };
       accounts = record { name = name_of (codes "ALFA"); password = name_of (codes "SESAME"); blocks = 8; tracks = 10 } ∷ [];
       files = record { owner = 1; body = file_of_mode 0 } ∷ record { owner = 2; body = file_of_mode 2 } ∷ record { owner = 1; body = file_of_mode 1 } ∷ [];
       events = record { tick = 0; console = 1; event = event.Dial } ∷ line_at 0 (codes "LOGIN ALFA BETA") ∷ line_at 0 (codes "LOGIN ALFA") ∷ line_at 0 (codes "SESAME NOW")
@@ -74,3 +75,31 @@ RowOfLateUser =
       common = [];
       clock = 15100000;
     }
+
+-- a program that goes back to its first word for ever
+abbrev pub spin : FileBody
+spin = record { name = record { first = name_of (codes "SPIN"); second = name_of (codes "BSS") }; mode = 1; words = 1 ∷ 262144 ∷ 268435456 ∷ [] }
+
+abbrev pub at_seat : ℕ → ℕ → List ℕ → Timed
+at_seat tick console text = record { tick = tick; console = console; event = event.Line text }
+
+abbrev pub two_spins : Script
+two_spins =
+    record {
+      params = record { wq = 1024; quantum = 100; swap = 0; drum = 16; disk = 20; common = 5; age = 50 };
+      accounts = record { name = name_of (codes "ALFA"); password = name_of (codes "SESAME"); blocks = 8; tracks = 5 }
+          ∷ record { name = name_of (codes "BETA"); password = name_of (codes "OPEN"); blocks = 8; tracks = 5 } ∷ [];
+      files = record { owner = 1; body = spin } ∷ record { owner = 2; body = spin } ∷ [];
+      events = record { tick = 0; console = 1; event = event.Dial } ∷ at_seat 0 1 (codes "LOGIN ALFA") ∷ at_seat 0 1 (codes "SESAME")
+          ∷ record { tick = 0; console = 2; event = event.Dial } ∷ at_seat 0 2 (codes "LOGIN BETA") ∷ at_seat 0 2 (codes "OPEN")
+          ∷ at_seat 10 1 (codes "LOADGO SPIN") ∷ at_seat 10 2 (codes "LOADGO SPIN") ∷ [];
+      end = 300;
+    }
+
+-- what comes behind the two logins
+abbrev pub RowOfRises : Type 0
+RowOfRises =
+    drop 8 (record_of two_spins).entries ≡
+    (Idle 0 10 ∷ Taken 10 1 kind.Line 1 0 ∷ Taken 10 2 kind.Line 2 0 ∷ Clock 10 1 ∷ Serve 10 1 1 1 cause.Size ∷ Swap 11 1 0 0 1
+    ∷ Rise 60 2 0 ∷ Serve 11 1 0 100 cause.Time ∷ Clock 111 2 ∷ Serve 111 2 0 1 cause.Size ∷ Swap 112 2 1 0 1
+    ∷ Rise 161 1 0 ∷ Serve 112 2 0 100 cause.Time ∷ Swap 212 1 1 1 0 ∷ Rise 262 2 0 ∷ Serve 212 1 0 88 cause.End ∷ [])

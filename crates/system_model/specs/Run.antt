@@ -1,14 +1,14 @@
 -- claim: the machine of all users, with its accounts, closed: what contracts cite.
-use Rattle.std.specs.Prelude.{◌≡◌, ℕ, if◌then◌else◌, nat_le, List, [], ◌∷◌, Option, Some, None, drop}
+use Rattle.std.specs.Prelude.{◌≡◌, ℕ, if◌then◌else◌, nat_le, List, [], ◌∷◌, ◌++◌, Option, Some, None, drop}
 use Rattle.ctss_types.specs.declared.script.Account.{Account}
 use Rattle.ctss_types.specs.declared.file.FileBody.{FileBody}
 use Rattle.time_sharing.specs.Rows.{machine}
 use Rattle.time_sharing.specs.System as theory
-use Rattle.time_sharing.specs.System.{SystemState, Timed, Service, Console, Event, Cause, Off, at}
+use Rattle.time_sharing.specs.System.{SystemState, Timed, Service, Console, Event, Cause, Off, Rise, at, served_of}
 use Rattle.time_sharing.specs.Record as whole
 use Rattle.user_model.specs.Session.{user_rows}
 use Rattle.user_model.specs.User.{User}
-use Rattle.plan_model.specs.Levels.{chosen, user_of}
+use Rattle.plan_model.specs.Levels.{chosen, user_of, riser, goes_up, risen}
 use Rattle.plan_model.specs.Plan.{Plan}
 use Rattle.system_model.specs.Round.{round}
 
@@ -73,7 +73,34 @@ otherwise limit user service r = record r { system = theory.otherwise (machine u
 unfoldable pub attended : Service → Run → Run
 attended v r = record r { system = theory.attended (machine user_rows) (round r.swap r.common r.accounts) v r.system }
 
+-- a user rises to a level
+unfoldable pub rise : ℕ → (level : ℕ) → Run → Run
+rise u l r =
+    record r {
+      system = record r.system {
+        plan = record r.system.plan { levels = risen u l r.system.clock r.system.plan.levels };
+        entries = r.system.entries ++ Rise r.system.clock u l ∷ [];
+      };
+    }
+
+-- who rises, and to which level, if anyone does
+abbrev pub rising : Run → Option (ℕ × ℕ)
+rising r = goes_up (riser (served_of r.system.service) r.system.clock r.system.plan.levels)
+
+-- whoever rises does
+abbrev pub rise_of : Option (ℕ × ℕ) → Run → Run
+rise_of None r = r
+rise_of (Some x) r = rise x.0 x.1 r
+
+abbrev pub raised : Run → Run
+raised r = rise_of (rising r) r
+
+-- what one step is where no event is due, with a user that rises or none
+abbrev pub by_rising : ℕ → Option (ℕ × ℕ) → Run → Run
+by_rising limit None r = otherwise limit (user_of (chosen r.system.plan.levels)) r.system.service r
+by_rising limit (Some x) r = rise x.0 x.1 r
+
 -- what one step is, with an event due or none
 abbrev pub by_due : ℕ → Option Timed → Run → Run
-by_due limit None r = otherwise limit (user_of (chosen r.system.plan.levels)) r.system.service r
+by_due limit None r = by_rising limit (rising r) r
 by_due limit (Some e) r = taken e r

@@ -6,7 +6,7 @@
 #![tactic(auto)]
 
 ghost use Rattle.system_model.specs.Claims.{UsersAreAlone, CommonsAreOne, EachMomentIsAlone, FeedsDecide, StepsEnd, RunsInParts, LateEventsWait};
-ghost use Rattle.system_model.specs.Rows.{RowOfNobody, RowOfOneUser, RowOfLateUser};
+ghost use Rattle.system_model.specs.Rows.{RowOfNobody, RowOfOneUser, RowOfLateUser, RowOfRises};
 
 /// In the record of every script each user's transcript and files are those of the user's machine alone.
 #[tactic(auto, using(crate::proofs::AloneLaws::users_are_alone))]
@@ -66,4 +66,10 @@ pub fn row_of_one_user()
 #[tactic(auto, using(crate::proofs::RowsComputed::row_of_late_user))]
 pub fn row_of_late_user()
     ensures { RowOfLateUser }
+{}
+
+/// What the schedule of two users says, of whom each rises after it has waited for 50 ticks.
+#[tactic(auto, using(crate::proofs::RowsComputed::row_of_rises))]
+pub fn row_of_rises()
+    ensures { RowOfRises }
 {}

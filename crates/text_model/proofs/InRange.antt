@@ -43,7 +43,8 @@ HasConsole e = (1 ≤ e.console) × (e.console ≤ 32)
 -- the limits of PARAM
 params_fit : (c : ParamCard) → are_params_in_limits c ≡ true → (1 ≤ c.wq) × (c.quantum ≤ 1000000) × (c.swap ≤ 1000000) × (c.drum ≤ 3840)
 params_fit c h =
-    let five = both (is_within 1 32768 c.wq && is_within 1 1000000 c.quantum && nat_le c.swap 1000000 && nat_le c.drum 3840 && nat_le c.disk 10000) (nat_le c.common 10000) h in
+    let six = both (is_within 1 32768 c.wq && is_within 1 1000000 c.quantum && nat_le c.swap 1000000 && nat_le c.drum 3840 && nat_le c.disk 10000 && nat_le c.common 10000) (nat_le c.age 1000000) h in
+    let five = both (is_within 1 32768 c.wq && is_within 1 1000000 c.quantum && nat_le c.swap 1000000 && nat_le c.drum 3840 && nat_le c.disk 10000) (nat_le c.common 10000) six.0 in
     let four = both (is_within 1 32768 c.wq && is_within 1 1000000 c.quantum && nat_le c.swap 1000000 && nat_le c.drum 3840) (nat_le c.disk 10000) five.0 in
     let three = both (is_within 1 32768 c.wq && is_within 1 1000000 c.quantum && nat_le c.swap 1000000) (nat_le c.drum 3840) four.0 in
     let two = both (is_within 1 32768 c.wq && is_within 1 1000000 c.quantum) (nat_le c.swap 1000000) three.0 in
@@ -80,14 +81,14 @@ empty_fits =
 -- PARAM keeps it
 with_params_fits : (d e : Draft) (c : ParamCard) → d.params ≡ None → Fits d → with_params d c ≡ Ok e → Fits e
 with_params_fits d e c none fits h =
-    let made : Draft = record d { params = Some (record { wq = c.wq; quantum = c.quantum; swap = c.swap; drum = c.drum; disk = c.disk; common = c.common }) } in
+    let made : Draft = record d { params = Some (record { wq = c.wq; quantum = c.quantum; swap = c.swap; drum = c.drum; disk = c.disk; common = c.common; age = c.age }) } in
     let first = passed (are_params_in_limits c) OverLimit _ e h in
     let second = escaped (nat_lt c.disk c.common) DiskSmall (Ok made) e first.1 in
-    let ok : ParamsFit (record { wq = c.wq; quantum = c.quantum; swap = c.swap; drum = c.drum; disk = c.disk; common = c.common }) = params_fit c first.0 in
+    let ok : ParamsFit (record { wq = c.wq; quantum = c.quantum; swap = c.swap; drum = c.drum; disk = c.disk; common = c.common; age = c.age }) = params_fit c first.0 in
     let empty : d.blocks ≡ 0 = fits.unset none in
     subst Fits (given made e second.1)
     (record {
-      params = λ q k. (let s : record { wq = c.wq; quantum = c.quantum; swap = c.swap; drum = c.drum; disk = c.disk; common = c.common } ≡ q = cc in subst ParamsFit s ok);
+      params = λ q k. (let s : record { wq = c.wq; quantum = c.quantum; swap = c.swap; drum = c.drum; disk = c.disk; common = c.common; age = c.age } ≡ q = cc in subst ParamsFit s ok);
       few = fits.few;
       blocks = fits.blocks;
       added = fits.added;

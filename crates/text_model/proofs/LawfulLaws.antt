@@ -96,7 +96,7 @@ event_card_form text c h =
 
 -- params that keep their limits
 abbrev ParamsAre : Params → Type 0
-ParamsAre p = (p.wq ≤ 32768) × (1 ≤ p.quantum) × (p.disk ≤ 10000)
+ParamsAre p = (p.wq ≤ 32768) × (1 ≤ p.quantum) × (p.disk ≤ 10000) × (p.age ≤ 1000000)
 
 -- the tracks of all accounts together
 abbrev tracks_so_far : List Account → ℕ
@@ -148,19 +148,20 @@ empty_keeps =
 -- PARAM
 
 -- the limits of PARAM
-params_are : (c : ParamCard) → are_params_in_limits c ≡ true → (c.wq ≤ 32768) × (1 ≤ c.quantum) × (c.disk ≤ 10000)
+params_are : (c : ParamCard) → are_params_in_limits c ≡ true → (c.wq ≤ 32768) × (1 ≤ c.quantum) × (c.disk ≤ 10000) × (c.age ≤ 1000000)
 params_are c h =
-    let five = both (is_within 1 32768 c.wq && is_within 1 1000000 c.quantum && nat_le c.swap 1000000 && nat_le c.drum 3840 && nat_le c.disk 10000) (nat_le c.common 10000) h in
+    let six = both (is_within 1 32768 c.wq && is_within 1 1000000 c.quantum && nat_le c.swap 1000000 && nat_le c.drum 3840 && nat_le c.disk 10000 && nat_le c.common 10000) (nat_le c.age 1000000) h in
+    let five = both (is_within 1 32768 c.wq && is_within 1 1000000 c.quantum && nat_le c.swap 1000000 && nat_le c.drum 3840 && nat_le c.disk 10000) (nat_le c.common 10000) six.0 in
     let four = both (is_within 1 32768 c.wq && is_within 1 1000000 c.quantum && nat_le c.swap 1000000 && nat_le c.drum 3840) (nat_le c.disk 10000) five.0 in
     let three = both (is_within 1 32768 c.wq && is_within 1 1000000 c.quantum && nat_le c.swap 1000000) (nat_le c.drum 3840) four.0 in
     let two = both (is_within 1 32768 c.wq && is_within 1 1000000 c.quantum) (nat_le c.swap 1000000) three.0 in
     let one = both (is_within 1 32768 c.wq) (is_within 1 1000000 c.quantum) two.0 in
-    ((within 1 32768 c.wq one.0).1, (within 1 1000000 c.quantum one.1).0, at_most c.disk 10000 four.1)
+    ((within 1 32768 c.wq one.0).1, (within 1 1000000 c.quantum one.1).0, at_most c.disk 10000 four.1, at_most c.age 1000000 six.1)
 
 -- PARAM keeps it
 with_params_keeps : (d e : Draft) (c : ParamCard) → d.params ≡ None → Keeps d → with_params d c ≡ Ok e → Keeps e
 with_params_keeps d e c none keeps h =
-    let p : Params = record { wq = c.wq; quantum = c.quantum; swap = c.swap; drum = c.drum; disk = c.disk; common = c.common } in
+    let p : Params = record { wq = c.wq; quantum = c.quantum; swap = c.swap; drum = c.drum; disk = c.disk; common = c.common; age = c.age } in
     let made : Draft = record d { params = Some p } in
     let first = passed (are_params_in_limits c) OverLimit _ e h in
     let second = escaped (nat_lt c.disk c.common) DiskSmall (Ok made) e first.1 in
@@ -386,6 +387,7 @@ script_keeps d p end keeps e g range =
       level = ok.0;
       quantum = ok.1;
       disk = ok.2;
+      age = ok.3;
       fits = subst (λ (n : ℕ). p.common + n ≤ p.disk) (sym keeps.added) room;
       accounts = keeps.accounts;
       differ = keeps.differ;

@@ -13,7 +13,11 @@ use Rattle.text_model.specs.declared.card.CardEvent.{CardEvent}
 use Rattle.text_model.specs.declared.card.CardEvent.TheVariants.{Fits, TooLong}
 use Rattle.text_model.specs.Fields.{first_number, first_name, octal_in, is_over, text_behind}
 
--- PARAM wq quantum swap drum disk common
+-- the last number of a PARAM card, which may be left out
+abbrev pub age_in : List ℕ → Option ℕ
+age_in text = if is_over text then Some 0 else option_and_then (λ (age, rest). if is_over rest then Some age else None) (first_number text)
+
+-- PARAM wq quantum swap drum disk common age
 abbrev pub param_card_in : List ℕ → Option ParamCard
 param_card_in text =
     option_and_then (λ (wq, a).
@@ -22,8 +26,7 @@ param_card_in text =
     option_and_then (λ (drum, d).
     option_and_then (λ (disk, e).
     option_and_then (λ (common, f).
-    let card : ParamCard = record { wq = wq; quantum = quantum; swap = swap; drum = drum; disk = disk; common = common } in
-    if is_over f then Some card else None)
+    option_map (λ age. let card : ParamCard = record { wq = wq; quantum = quantum; swap = swap; drum = drum; disk = disk; common = common; age = age } in card) (age_in f))
     (first_number e)) (first_number d)) (first_number c)) (first_number b)) (first_number a)) (first_number text)
 
 -- USER number name password blocks tracks

@@ -51,14 +51,14 @@ max_tick = 100000000
 
 abbrev pub are_params_in_limits : ParamCard → Bool
 are_params_in_limits c =
-    is_within 1 32768 c.wq && is_within 1 1000000 c.quantum && nat_le c.swap 1000000 && nat_le c.drum 3840 && nat_le c.disk 10000 && nat_le c.common 10000
+    is_within 1 32768 c.wq && is_within 1 1000000 c.quantum && nat_le c.swap 1000000 && nat_le c.drum 3840 && nat_le c.disk 10000 && nat_le c.common 10000 && nat_le c.age 1000000
 
 -- the common files have to fit the disk
 abbrev pub with_params : Draft → ParamCard → Result Draft ScriptCause
 with_params d c =
     if not (are_params_in_limits c) then Err OverLimit
     else (if nat_lt c.disk c.common then Err DiskSmall
-    else Ok (record d { params = Some (record { wq = c.wq; quantum = c.quantum; swap = c.swap; drum = c.drum; disk = c.disk; common = c.common }) }))
+    else Ok (record d { params = Some (record { wq = c.wq; quantum = c.quantum; swap = c.swap; drum = c.drum; disk = c.disk; common = c.common; age = c.age }) }))
 
 -- USER
 

@@ -59,6 +59,7 @@ pub record IsLawful (s : Script) : Type 0 where
   pub level : s.params.wq ≤ 32768
   pub quantum : 1 ≤ s.params.quantum
   pub disk : s.params.disk ≤ 10000
+  pub age : s.params.age ≤ 1000000
   -- the tracks of the common files and of all accounts are those of the disk
   pub fits : s.params.common + sum (map (λ (a : Account). a.tracks) s.accounts) ≤ s.params.disk
   pub accounts : All IsLawfulAccount s.accounts

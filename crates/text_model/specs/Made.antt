@@ -72,7 +72,7 @@ made_events (suc k) i = events_at i ++ made_events k (suc i)
 unfoldable pub made_script : ℕ → Script
 made_script n =
     record {
-      params = record { wq = 1024; quantum = 100; swap = 2; drum = 480; disk = 300; common = 10 };
+      params = record { wq = 1024; quantum = 100; swap = 2; drum = 480; disk = 300; common = 10; age = 0 };
       accounts = made_accounts (user_count n) 1;
       files = made_files (user_count n) 1 n;
       events = made_events (user_count n) 1;

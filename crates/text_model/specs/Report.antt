@@ -13,7 +13,7 @@ use Rattle.ctss_types.specs.declared.history.Record.{Record}
 use Rattle.ctss_types.specs.declared.history.Item.{Item}
 use Rattle.ctss_types.specs.declared.history.Item.TheVariants as item
 use Rattle.ctss_types.specs.declared.history.Entry.{Entry}
-use Rattle.ctss_types.specs.declared.history.Entry.TheVariants.{Taken, Login, Refused, Idle, Swap, Serve, Clock, Common}
+use Rattle.ctss_types.specs.declared.history.Entry.TheVariants.{Taken, Login, Refused, Idle, Swap, Rise, Serve, Clock, Common}
 use Rattle.text_model.specs.Canonical.{word_cards}
 use Rattle.file_model.specs.Texts.{file_line, refusal_number}
 use Rattle.text_model.specs.Parts.{line, blank, number, name}
@@ -70,6 +70,7 @@ entry_text (Refused tick console cause) = line (codes "REFUSED" ++ (number tick 
 entry_text (Idle from until) = line (codes "IDLE" ++ (number from ++ number until))
 entry_text (Swap tick user dumped read fresh) =
     line (codes "SWAP" ++ (number tick ++ (number user ++ (number dumped ++ (number read ++ number fresh)))))
+entry_text (Rise tick user level) = line (codes "RISE" ++ (number tick ++ (number user ++ number level)))
 entry_text (Serve tick user level ran cause) =
     line (codes "SERVE" ++ (number tick ++ (number user ++ (number level ++ (number ran ++ blank (cause_text cause))))))
 entry_text (Clock answer user) = line (codes "CLOCK" ++ (number answer ++ number user))

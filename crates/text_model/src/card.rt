@@ -10,6 +10,8 @@ pub struct ParamCard {
     pub drum: u32,
     pub disk: u32,
     pub common: u32,
+    /// Left out, it is 0.
+    pub age: u32,
 }
 
 /// What a USER card says.

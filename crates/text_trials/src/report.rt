@@ -18,6 +18,7 @@ fn script(alloc: Global) -> Result<Script, Fail> {
         drum: 8,
         disk: 20,
         common: 5,
+        age: 0,
     };
     let account = Account {
         name: name_word(b"ALFA"),
@@ -213,7 +214,7 @@ fn dumps_words_five_a_card(rt: HostRuntime) -> Result<(), Fail> {
     )
 }
 
-/// A refusal, a load, and two calls on the common files.
+/// A refusal, a load, a rise, and two calls on the common files.
 fn shared(alloc: Global) -> Result<Entries, Fail> {
     let name = FileName::new(name_word(b"A"), name_word(b"B"));
     let put = CommonOp::Put {
@@ -232,6 +233,11 @@ fn shared(alloc: Global) -> Result<Entries, Fail> {
             dumped: 0,
             read: 0,
             fresh: 4,
+        },
+        Entry::Rise {
+            tick: 102,
+            user: 2,
+            level: 0,
         },
         Entry::Common {
             user: 1,
@@ -270,6 +276,7 @@ fn names_what_is_shared_and_refused(rt: HostRuntime) -> Result<(), Fail> {
         SCHEDULE\n\
         REFUSED 100 1 1\n\
         SWAP 101 3 0 0 4\n\
+        RISE 102 2 0\n\
         SHARED 1 PUT 0\n\
         SHARED 2 GET 1\n\
         END 100\n",

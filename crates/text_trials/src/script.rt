@@ -81,6 +81,7 @@ const PARAMS: Params = Params {
     drum: 8,
     disk: 20,
     common: 5,
+    age: 0,
 };
 
 /// The events of the session: ticks, consoles, and what they are.
@@ -161,6 +162,8 @@ fn reads_files_of_two_accounts(rt: HostRuntime) -> Result<(), Fail> {
     Ok(())
 }
 
+const AGE: &[u8] = b"PARAM 1024 100 10 0 0 0 50\nEND 0\n";
+
 const NO_USERS: &[u8] = b"PARAM 1024 100 10 0 0 0\nEND 0\n";
 
 const FEW_TEXTS: &[u8] =
@@ -175,8 +178,14 @@ const TEXT_FILE: &[u8] = b"PARAM 1 1 0 1 1 0\n\
     END 0\n";
 
 // What the bytes are, the bytes, and the canonical text of their script.
-static READ: [(&str, &[u8], &[u8]); 13] = [
+static READ: [(&str, &[u8], &[u8]); 15] = [
     ("no users", NO_USERS, NO_USERS),
+    ("an age", b"PARAM 1024 100 10 0 0 0 0050\nEND 0\n", AGE),
+    (
+        "an age of 0",
+        b"PARAM 1024 100 10 0 0 0 0\nEND 0\n",
+        NO_USERS,
+    ),
     ("lines of no text", FEW_TEXTS, FEW_TEXTS),
     ("words of a text", TEXT_FILE, TEXT_FILE),
     (
@@ -408,7 +417,19 @@ static BEHIND_HEAD: [Refused; 33] = [
 ];
 
 // Whole texts.
-static WHOLE: [Refused; 8] = [
+static WHOLE: [Refused; 10] = [
+    (
+        "an age past its limit",
+        b"PARAM 1024 100 10 8 20 5 1000001\nEND 0\n",
+        1,
+        ScriptCause::OverLimit,
+    ),
+    (
+        "a number too much",
+        b"PARAM 1024 100 10 8 20 5 50 1\nEND 0\n",
+        1,
+        ScriptCause::NotACard,
+    ),
     ("no bytes", b"", 1, ScriptCause::NoEnd),
     ("comments alone", b"*\n*\n", 3, ScriptCause::NoEnd),
     ("no PARAM", b"END 0\n", 1, ScriptCause::NotACard),

@@ -22,6 +22,7 @@ fn script(alloc: Global) -> Result<Script, Fail> {
             drum: 16,
             disk: 40,
             common: 5,
+            age: 0,
         },
         accounts: Sequence::from_vec(vec![in alloc; account; 2]?),
         files: Sequence::new(alloc),

@@ -2,7 +2,7 @@
 use Rattle.std.proofs.Common.{◌≡◌, ℕ, zero, suc, Bool, true, false, nat_lt, nat_le, nat_eq, List, [], ◌∷◌, ◌++◌, Option, Some, None, refl, sym, ap, ◌∙◌, append-nil, append_assoc, if◌then◌else◌}
 use Rattle.time_sharing.specs.Machine.{Machine, CutKind, Quit, Hang, Spent, CommonOp, Reply}
 use Rattle.time_sharing.specs.System as system
-use Rattle.time_sharing.specs.System.{SystemState, World, Timed, Service, Console, Off, On, Password, Session, Dials, Types, Quits, Hangs, Entry, Taken, Login, Refused, Idle, Swap, Serve, Clock, Common, Cause, state_of, next, clock_entry, common_entry, service_entry, cause_of, clock_for}
+use Rattle.time_sharing.specs.System.{SystemState, World, Timed, Service, Console, Off, On, Password, Session, Dials, Types, Quits, Hangs, Entry, Taken, Login, Refused, Idle, Swap, Rise, Serve, Clock, Common, Cause, state_of, next, clock_entry, common_entry, service_entry, cause_of, clock_for}
 use Rattle.time_sharing.specs.Repeat.{repeat}
 use Rattle.time_sharing.specs.Record.{clock_is_below, iterate, start}
 use Rattle.time_sharing.specs.Commons.{operations_of, replies_of, common_run, files_left}
@@ -15,6 +15,7 @@ operations-append (Login tick console user ∷ es) fs = operations-append es fs
 operations-append (Refused tick console cause ∷ es) fs = operations-append es fs
 operations-append (Idle from until ∷ es) fs = operations-append es fs
 operations-append (Swap tick user dumped read fresh ∷ es) fs = operations-append es fs
+operations-append (Rise tick user level ∷ es) fs = operations-append es fs
 operations-append (Serve tick user level ran cause ∷ es) fs = operations-append es fs
 operations-append (Clock answer user ∷ es) fs = operations-append es fs
 
@@ -26,6 +27,7 @@ replies-append (Login tick console user ∷ es) fs = replies-append es fs
 replies-append (Refused tick console cause ∷ es) fs = replies-append es fs
 replies-append (Idle from until ∷ es) fs = replies-append es fs
 replies-append (Swap tick user dumped read fresh ∷ es) fs = replies-append es fs
+replies-append (Rise tick user level ∷ es) fs = replies-append es fs
 replies-append (Serve tick user level ran cause ∷ es) fs = replies-append es fs
 replies-append (Clock answer user ∷ es) fs = replies-append es fs
 
@@ -189,10 +191,14 @@ module _ {S P F : Type 0} (m : Machine S) (w : World S P F) where
   otherwise_serves limit s (Some v) (Some x) =
       elim (nat_eq x.user v) as (λ b. Serves s (if b then system.attended m w x s else system.preempt m w x s)) [ true ↦ attended_serves s x | false ↦ preempt_serves s x ]
 
+  quiet_serves : (limit : ℕ) (s : SystemState S P F) (x : Option (ℕ × ℕ)) → Serves s (system.quiet_by m w limit x s)
+  quiet_serves limit s None = otherwise_serves limit s (w.choose s.plan) s.service
+  quiet_serves limit s (Some x) = quiet s _ (Rise _ _ _ ∷ []) refl refl refl refl
+
   next_serves : (limit : ℕ) (s : SystemState S P F) (events : List Timed) → Serves s (system.next_by m w limit events s)
-  next_serves limit s [] = otherwise_serves limit s (w.choose s.plan) s.service
+  next_serves limit s [] = quiet_serves limit s _
   next_serves limit s (e ∷ rest) =
-      elim (nat_le e.tick s.clock) as (λ b. Serves s (if b then system.taken m w e rest s else system.otherwise m w limit (w.choose s.plan) s.service s)) [ true ↦ taken_serves e rest s | false ↦ otherwise_serves limit s (w.choose s.plan) s.service ]
+      elim (nat_le e.tick s.clock) as (λ b. Serves s (if b then system.taken m w e rest s else system.quiet m w limit s)) [ true ↦ taken_serves e rest s | false ↦ quiet_serves limit s _ ]
 
   iterate_serves : (limit n : ℕ) (s : SystemState S P F) → Serves s (iterate m w limit n s)
   iterate_serves limit zero s = stays s

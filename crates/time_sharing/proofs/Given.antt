@@ -3,7 +3,7 @@ use Rattle.std.proofs.Common.{◌≡◌, ℕ, suc, ◌<◌, ◌≤◌, true, fal
 use Rattle.std.proofs.lemmas.Bool.{cases_Bool}
 use Rattle.time_sharing.specs.Machine.{Machine, CutKind, Quit, Hang, Spent}
 use Rattle.time_sharing.specs.System as system
-use Rattle.time_sharing.specs.System.{SystemState, World, Timed, Service, Console, Off, On, Password, Session, Dials, Types, Quits, Hangs, state_of, next, next_by, next_tick, otherwise, idled}
+use Rattle.time_sharing.specs.System.{SystemState, World, Timed, Service, Console, Off, On, Password, Session, Dials, Types, Quits, Hangs, state_of, next, next_by, next_tick, otherwise, quiet_by, quiet, idled}
 use Rattle.time_sharing.specs.Record.{with_events, AreLate}
 
 module _ {S P F : Type 0} (m : Machine S) (w : World S P F) (es : List Timed) where
@@ -63,7 +63,7 @@ module _ {S P F : Type 0} (m : Machine S) (w : World S P F) (es : List Timed) wh
       elim (w.must_load s.plan x.user (state_of m w s x.user)) as (λ b. (if b then system.swapped m w x.user (g s) else system.stepped m w x (g s)) ≡ g (if b then system.swapped m w x.user s else system.stepped m w x s)) [ true ↦ refl | false ↦ stepped_given s x ]
 
   -- no event is due
-  pub not_due : (limit : ℕ) (events : List Timed) (s : SystemState S P F) → s.clock < next_tick (suc s.clock) events → next_by m w limit events s ≡ otherwise m w limit (w.choose s.plan) s.service s
+  pub not_due : (limit : ℕ) (events : List Timed) (s : SystemState S P F) → s.clock < next_tick (suc s.clock) events → next_by m w limit events s ≡ quiet m w limit s
   not_due limit [] s h = refl
   not_due limit (e ∷ rest) s h =
       elim (cases_Bool (nat_le e.tick s.clock)) [ inl q ↦ absurd (omega (arith, leb-true e.tick s.clock q, h)) | inr q ↦ rw q refl ]
@@ -86,12 +86,16 @@ module _ {S P F : Type 0} (m : Machine S) (w : World S P F) (es : List Timed) wh
       by_choice (Some u) (Some x) c v =
           inl (elim (nat_eq x.user u) as (λ b. (if b then system.attended m w x (g s) else system.preempt m w x (g s)) ≡ g (if b then system.attended m w x s else system.preempt m w x s)) [ true ↦ attended_given s x | false ↦ refl ])
 
+      by_rising : (x : Option (ℕ × ℕ)) → AreSteps j k s (quiet_by m w j x s) (quiet_by m w k x (g s))
+      by_rising None = by_choice (w.choose s.plan) s.service refl refl
+      by_rising (Some x) = inl refl
+
       by_events : (events : List Timed) → AreSteps j k s (next_by m w j events s) (next_by m w k (events ++ es) (g s))
       by_events [] =
-          subst (AreSteps j k s (otherwise m w j (w.choose s.plan) s.service s)) (sym (not_due k es (g s) (late_tick s.clock j es h late)))
-          (by_choice (w.choose s.plan) s.service refl refl)
+          subst (AreSteps j k s (quiet m w j s)) (sym (not_due k es (g s) (late_tick s.clock j es h late)))
+          (by_rising (w.rises s.plan (system.served_of s.service) s.clock))
       by_events (e ∷ rest) = by_test (nat_le e.tick s.clock)
         where
-          by_test : (b : Bool) → AreSteps j k s (if b then system.taken m w e rest s else otherwise m w j (w.choose s.plan) s.service s) (if b then system.taken m w e (rest ++ es) (g s) else otherwise m w k (w.choose s.plan) s.service (g s))
+          by_test : (b : Bool) → AreSteps j k s (if b then system.taken m w e rest s else quiet m w j s) (if b then system.taken m w e (rest ++ es) (g s) else quiet m w k (g s))
           by_test true = inl (taken_given e rest s)
-          by_test false = by_choice (w.choose s.plan) s.service refl refl
+          by_test false = by_rising (w.rises s.plan (system.served_of s.service) s.clock)

@@ -1,9 +1,9 @@
 -- Events that come at the limit or after it change nothing before it.
-use Rattle.std.proofs.Common.{inl, inr, ◌*◌, ◌≡◌, ℕ, zero, suc, ◌+◌, ◌-◌, ◌<◌, ◌≤◌, Bool, true, false, nat_lt, nat_le, nat_eq, List, [], ◌∷◌, ◌++◌, Option, Some, None, refl, sym, ap, ◌∙◌, arith, if◌then◌else◌, ltb-true, leb-true, length, length-append, mul-le-mul}
+use Rattle.std.proofs.Common.{inl, inr, ◌*◌, ◌≡◌, ℕ, zero, suc, ◌+◌, ◌-◌, ◌<◌, ◌≤◌, Bool, true, false, nat_lt, nat_le, nat_eq, List, [], ◌∷◌, ◌++◌, Option, Some, None, refl, sym, ap, ◌∙◌, arith, if◌then◌else◌, ltb-true, leb-true, length, length-append}
 use Rattle.std.proofs.lemmas.Bool.{cases_Bool}
 use Rattle.time_sharing.specs.Machine.{Machine, CutKind, Quit, Hang, Spent}
 use Rattle.time_sharing.specs.System as system
-use Rattle.time_sharing.specs.System.{SystemState, World, Timed, Service, Console, Off, On, Password, Session, Dials, Types, Quits, Hangs, state_of, next, next_by, next_tick, otherwise}
+use Rattle.time_sharing.specs.System.{SystemState, World, Timed, Service, Console, Off, On, Password, Session, Dials, Types, Quits, Hangs, state_of, next, next_by, next_tick, otherwise, quiet_by, quiet}
 use Rattle.time_sharing.specs.Repeat.{repeat}
 use Rattle.time_sharing.specs.Record.{clock_is_below, iterate, run_to, measure, Ends, with_events, AreLate, as_number, must_load_of}
 use Rattle.time_sharing.proofs.RepeatLaws.{repeat-enough}
@@ -30,11 +30,15 @@ module _ {S P F : Type 0} (m : Machine S) (w : World S P F) (es : List Timed) wh
   otherwise_given limit late s (Some u) (Some x) =
       elim (nat_eq x.user u) as (λ b. (if b then system.attended m w x (g s) else system.preempt m w x (g s)) ≡ g (if b then system.attended m w x s else system.preempt m w x s)) [ true ↦ attended_given m w es s x | false ↦ refl ]
 
+  quiet_given : (limit : ℕ) → AreLate limit es → (s : SystemState S P F) (x : Option (ℕ × ℕ)) → quiet_by m w limit x (g s) ≡ g (quiet_by m w limit x s)
+  quiet_given limit late s None = otherwise_given limit late s (w.choose s.plan) s.service
+  quiet_given limit late s (Some x) = refl
+
   next_given : (limit : ℕ) → AreLate limit es → (s : SystemState S P F) (events : List Timed) → s.events ≡ events → s.clock < limit → next_by m w limit (events ++ es) (g s) ≡ g (next_by m w limit events s)
-  next_given limit late s [] is h = not_due m w es limit es (g s) (is_later m w es s.clock limit es h late) ∙ otherwise_given limit late s (w.choose s.plan) s.service
+  next_given limit late s [] is h = not_due m w es limit es (g s) (is_later m w es s.clock limit es h late) ∙ quiet_given limit late s _
   next_given limit late s (e ∷ rest) is h =
-      elim (nat_le e.tick s.clock) as (λ b. (if b then system.taken m w e (rest ++ es) (g s) else otherwise m w limit (w.choose s.plan) s.service (g s)) ≡ g (if b then system.taken m w e rest s else otherwise m w limit (w.choose s.plan) s.service s))
-      [ true ↦ taken_given m w es e rest s | false ↦ otherwise_given limit late s (w.choose s.plan) s.service ]
+      elim (nat_le e.tick s.clock) as (λ b. (if b then system.taken m w e (rest ++ es) (g s) else quiet m w limit (g s)) ≡ g (if b then system.taken m w e rest s else quiet m w limit s))
+      [ true ↦ taken_given m w es e rest s | false ↦ quiet_given limit late s _ ]
 
   iterate_given : (limit : ℕ) → AreLate limit es → (n : ℕ) (s : SystemState S P F) → iterate m w limit n (g s) ≡ g (iterate m w limit n s)
   iterate_given limit late zero s = refl
@@ -51,11 +55,7 @@ module _ {S P F : Type 0} (m : Machine S) (w : World S P F) (es : List Timed) wh
 
   -- at most as many steps without those events
   fewer : (limit : ℕ) (s : SystemState S P F) → measure m w limit s ≤ measure m w limit (g s)
-  fewer limit s =
-      let l = length-append s.events es in
-      let each : 4 * length s.events + 4 ≤ 4 * length (s.events ++ es) + 4 = omega (arith, l) in
-      let ticks : (limit - s.clock) * (4 * length s.events + 4) ≤ (limit - s.clock) * (4 * length (s.events ++ es) + 4) = mul-le-mul (omega arith) each in
-      omega (arith, l, ticks, ap (as_number m w) (same_load (w.choose s.plan) s))
+  fewer limit s = omega (arith, length-append s.events es, ap (as_number m w) (same_load (w.choose s.plan) s))
 
   module _ (ends : Ends w) where
     -- what is given late may be given before

@@ -6,7 +6,7 @@ use Rattle.std.proofs.lemmas.Bool.{eq-eqb}
 use Rattle.time_sharing.specs.Machine.{Machine, Laws, CutKind, Quit, Hang, Spent, End, Line, CommonOp, Reply, Done, Ending, Went, Stopped, Resized, Replaced, LoggedOut}
 use Rattle.time_sharing.specs.Private.{FeedItem, Cut}
 use Rattle.time_sharing.specs.System as system
-use Rattle.time_sharing.specs.System.{SystemState, World, Service, Console, Off, On, Password, Session, Event, Dials, Types, Quits, Hangs, Entry, Taken, Login, Refused, Idle, Swap, at, put, out_of, without, Timed, Cause, Time, Wait, Stop, Size, Preempt, AtEnd, Serve, Clock, Common, EventKind, DialTaken, LineTaken, QuitTaken, HangTaken, SpentTaken, kind_of, service_after, service_entry, clock_entry, common_entry, cause_of, clock_for, consoles_cut, consoles_after}
+use Rattle.time_sharing.specs.System.{SystemState, World, Service, Console, Off, On, Password, Session, Event, Dials, Types, Quits, Hangs, Entry, Taken, Login, Refused, Idle, Swap, Rise, at, put, out_of, without, Timed, Cause, Time, Wait, Stop, Size, Preempt, AtEnd, Serve, Clock, Common, EventKind, DialTaken, LineTaken, QuitTaken, HangTaken, SpentTaken, kind_of, service_after, service_entry, clock_entry, common_entry, cause_of, clock_for, consoles_cut, consoles_after}
 use Rattle.time_sharing.specs.Feeds.{Observed, observe, observed, feed_items, steps_of, first_text, text_of, ran_of}
 use Rattle.time_sharing.proofs.Isolation as one
 use Rattle.time_sharing.proofs.Isolation.{Holds, clocks_in, replies_in}
@@ -372,13 +372,17 @@ module _ {S P F : Type 0} (m : Machine S) (laws : Laws m) (w : World S P F) (fir
       let popped : Inv m w first u script (e ∷ []) (record s { events = rest }) = record { inside = i.inside; holds = subst (λ (z : List Timed). Holds m first u z (system.state_of m w s u) (ran_of u s.service) s.consoles (observed u script s.entries)) is i.holds } in
       inv_at_console e (system.end_idling_of m w s.idling (record s { events = rest })) e.console _ e.event refl refl (inv_end_idling (e ∷ []) (record s { events = rest }) s.idling popped)
 
+  inv_quiet : (limit : ℕ) (s : SystemState S P F) (x : Option (ℕ × ℕ)) → Inv m w first u script [] s → Inv m w first u script [] (system.quiet_by m w limit x s)
+  inv_quiet limit s None i = inv_otherwise limit s (w.choose s.plan) s.service refl i
+  inv_quiet limit s (Some x) i = record { inside = i.inside; holds = noting _ _ _ _ s.entries (Rise _ _ _ ∷ []) i.holds }
+
   inv_next_by : (limit : ℕ) (events : List Timed) (s : SystemState S P F) → s.events ≡ events → Inv m w first u script [] s → Inv m w first u script [] (system.next_by m w limit events s)
-  inv_next_by limit [] s is i = inv_otherwise limit s (w.choose s.plan) s.service refl i
+  inv_next_by limit [] s is i = inv_quiet limit s _ i
   inv_next_by limit (e ∷ rest) s is i = by_test (nat_le e.tick s.clock)
     where
-      by_test : (b : Bool) → Inv m w first u script [] (if b then system.taken m w e rest s else system.otherwise m w limit (w.choose s.plan) s.service s)
+      by_test : (b : Bool) → Inv m w first u script [] (if b then system.taken m w e rest s else system.quiet m w limit s)
       by_test true = inv_taken e rest s is i
-      by_test false = inv_otherwise limit s (w.choose s.plan) s.service refl i
+      by_test false = inv_quiet limit s _ i
 
   pub inv_next : (limit : ℕ) (s : SystemState S P F) → Inv m w first u script [] s → Inv m w first u script [] (system.next m w limit s)
   inv_next limit s i = inv_next_by limit s.events s refl i

@@ -1,7 +1,7 @@
 -- claim: the common files, by the operations of a record alone.
 use Rattle.std.specs.Prelude.{List, [], ◌∷◌}
 use Rattle.time_sharing.specs.Machine.{CommonOp, Reply}
-use Rattle.time_sharing.specs.System.{World, Entry, Taken, Login, Refused, Idle, Swap, Serve, Clock, Common}
+use Rattle.time_sharing.specs.System.{World, Entry, Taken, Login, Refused, Idle, Swap, Rise, Serve, Clock, Common}
 
 abbrev pub operations_of : List Entry → List CommonOp
 operations_of [] = []
@@ -11,6 +11,7 @@ operations_of (Login tick console user ∷ es) = operations_of es
 operations_of (Refused tick console cause ∷ es) = operations_of es
 operations_of (Idle from until ∷ es) = operations_of es
 operations_of (Swap tick user dumped read fresh ∷ es) = operations_of es
+operations_of (Rise tick user level ∷ es) = operations_of es
 operations_of (Serve tick user level ran cause ∷ es) = operations_of es
 operations_of (Clock answer user ∷ es) = operations_of es
 
@@ -22,6 +23,7 @@ replies_of (Login tick console user ∷ es) = replies_of es
 replies_of (Refused tick console cause ∷ es) = replies_of es
 replies_of (Idle from until ∷ es) = replies_of es
 replies_of (Swap tick user dumped read fresh ∷ es) = replies_of es
+replies_of (Rise tick user level ∷ es) = replies_of es
 replies_of (Serve tick user level ran cause ∷ es) = replies_of es
 replies_of (Clock answer user ∷ es) = replies_of es
 

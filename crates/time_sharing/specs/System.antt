@@ -6,7 +6,7 @@ pub use Rattle.ctss_types.specs.declared.history.Cause.TheVariants.{Time, Wait, 
 pub use Rattle.ctss_types.specs.declared.history.EventKind.{EventKind}
 pub use Rattle.ctss_types.specs.declared.history.EventKind.TheVariants.{Dial as DialTaken, Line as LineTaken, Quit as QuitTaken, Hang as HangTaken, Spent as SpentTaken}
 pub use Rattle.ctss_types.specs.declared.history.Entry.{Entry}
-pub use Rattle.ctss_types.specs.declared.history.Entry.TheVariants.{Taken, Login, Refused, Idle, Swap, Serve, Clock, Common}
+pub use Rattle.ctss_types.specs.declared.history.Entry.TheVariants.{Taken, Login, Refused, Idle, Swap, Rise, Serve, Clock, Common}
 pub use Rattle.ctss_types.specs.declared.script.Event.{Event}
 pub use Rattle.ctss_types.specs.declared.script.Event.TheVariants.{Dial as Dials, Line as Types, Quit as Quits, Hang as Hangs}
 pub use Rattle.ctss_types.specs.declared.session.Console.{Console}
@@ -27,11 +27,16 @@ pub record World (State Plan Files : Type 0) : Type 0 where
   pub choose : Plan → Option ℕ
   pub level : Plan → ℕ → ℕ
   pub time_left : Plan → ℕ → Bool
+  -- who rises, and to which level, if anyone does: of those that have waited long enough, but never the user whose service is open
+  pub rises : Plan → (served : Option ℕ) → (now : ℕ) → Option (ℕ × ℕ)
   -- whether a user has to be loaded, what the load does, and what is moved by it
   pub must_load : Plan → ℕ → State → Bool
   pub load : Plan → ℕ → State → (now : ℕ) → Plan
   pub move : Plan → ℕ → State → Move
-  -- a tick of a user; a preempted user; a service that ended by a cause
+  -- the levels of all users, summed
+  pub sum_of_levels : Plan → ℕ
+  -- a user that rises to a level; a tick of a user; a preempted user; a service that ended by a cause
+  pub risen : Plan → ℕ → (level : ℕ) → (now : ℕ) → Plan
   pub charged : Plan → ℕ → (now : ℕ) → Plan
   pub preempted : Plan → ℕ → (now : ℕ) → Plan
   pub leaves : Plan → ℕ → Cause → State → (now : ℕ) → Plan
@@ -107,6 +112,11 @@ cause_of Stopped left = Some Stop
 cause_of Resized left = Some Size
 cause_of Replaced left = Some Size
 cause_of LoggedOut left = Some Stop
+
+-- the user whose service is open
+abbrev pub served_of : Option Service → Option ℕ
+served_of None = None
+served_of (Some v) = Some v.user
 
 abbrev pub service_after : Service → Option Cause → Option Service
 service_after v None = Some (record v { ran = suc v.ran })
@@ -291,10 +301,23 @@ module _ {S P F : Type 0} (m : Machine S) (w : World S P F) where
   otherwise limit (Some u) None s = attended (record { tick = s.clock; user = u; level = w.level s.plan u; ran = 0 }) s
   otherwise limit (Some u) (Some v) s = if nat_eq v.user u then attended v s else preempt v s
 
-  -- A, or else B to E
+  -- F. a user rises
+  abbrev pub rise : ℕ → ℕ → SystemState S P F → SystemState S P F
+  rise u l s = record s { plan = w.risen s.plan u l s.clock; entries = s.entries ++ Rise s.clock u l ∷ [] }
+
+  -- F, or else B to E
+  abbrev pub quiet_by : ℕ → Option (ℕ × ℕ) → SystemState S P F → SystemState S P F
+  quiet_by limit None s = otherwise limit (w.choose s.plan) s.service s
+  quiet_by limit (Some x) s = rise x.0 x.1 s
+
+  -- no event is due
+  abbrev pub quiet : ℕ → SystemState S P F → SystemState S P F
+  quiet limit s = quiet_by limit (w.rises s.plan (served_of s.service) s.clock) s
+
+  -- A, or else F and B to E
   abbrev pub next_by : ℕ → List Timed → SystemState S P F → SystemState S P F
-  next_by limit [] s = otherwise limit (w.choose s.plan) s.service s
-  next_by limit (e ∷ rest) s = if nat_le e.tick s.clock then taken e rest s else otherwise limit (w.choose s.plan) s.service s
+  next_by limit [] s = quiet limit s
+  next_by limit (e ∷ rest) s = if nat_le e.tick s.clock then taken e rest s else quiet limit s
 
   abbrev pub next : ℕ → SystemState S P F → SystemState S P F
   next limit s = next_by limit s.events s

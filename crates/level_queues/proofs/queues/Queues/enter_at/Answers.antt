@@ -1,7 +1,8 @@
-use Rattle.std.proofs.Common.{rules, ◌≡◌, ℕ, ◌<◌, false, ap, ◌∙◌, arith}
+use Rattle.std.proofs.Common.{rules, ◌≡◌, ℕ, ◌<◌, false, refl, ap, ◌∙◌, arith}
 use Rattle.plan_model.specs.Levels.{Levels, waits, is_in}
 use Rattle.level_queues.proofs.Counts.{room, sound_enter}
 use Rattle.level_queues.proofs.Spending.{empty_enter}
+use Rattle.level_queues.proofs.Rising.{rise_enter}
 use Rattle.level_queues.proofs.queues.Queues.enter_at.Goals as goal
 
 pub add_in-requires-clause-room : goal.add_in-requires-clause-room
@@ -20,4 +21,5 @@ invariant_of-self c =
       sound_enter c.self.inside.wq c.self.inside.quantum c.self.inside.rows c.args.level _ c.self.invariant.0 c.requires.small out (c.number.ensures.range.0, few),
       empty_enter c.self.inside.low c.args.level _ c.self.inside.rows _ c.self.invariant.1 (search rules) (search rules),
       search rules,
+      rise_enter c.self.inside.age c.self.inside.soon c.soon_with-self-inside.result c.args.now c.args.level c.self.inside.besides c.self.inside.rows _ c.self.invariant.3 c.soon_with-self-inside.ensures.under c.soon_with-self-inside.ensures.later refl,
     )

@@ -5,6 +5,7 @@ use Rattle.user_cores.specs.Backing.{Held}
 use Rattle.supervisor.specs.Seen.{seen}
 use Rattle.ctss_types.specs.declared.session.Waiting.{Waiting}
 use Rattle.time_sharing.specs.System.{Service}
+use Rattle.plan_model.specs.Levels.{chosen, since_in}
 use Rattle.plan_model.specs.Loads.{is_loaded}
 use Rattle.image_map.specs.Images.{size_of}
 use Rattle.system_model.proofs.SoundLaws.{first_user}
@@ -25,7 +26,7 @@ returns-in-Some-None-clause-ended g c =
     let had : Held = (g.C.Backing.state c.args.cores.now).held in
     let has : Held = (g.C.Backing.state c.attend.new.cores).held in
     let old : Run = seen had.places c.args.self.now in
-    let x : Waiting = record { user = c.in-Some-None.next.user; left = c.in-Some-None.next.left } in
+    let x : Waiting = record { user = c.in-Some-None.next.user; left = c.in-Some-None.next.left; since = since_in (chosen old.system.plan.levels) } in
     let v : Service = record { tick = c.args.self.now.clock; user = x.user; level = c.in-Some-None.next.level; ran = 0 } in
     let none = c.in-Some-None.is-1 in
     ends_map c.attend.result _ _ _ _ _ _ _ _
@@ -46,7 +47,7 @@ returns-then-eq-clause-ended g c =
     let had : Held = (g.C.Backing.state c.args.cores.now).held in
     let has : Held = (g.C.Backing.state c.attend-then-eq.new.cores).held in
     let old : Run = seen had.places c.args.self.now in
-    let x : Waiting = record { user = c.in-Some-Some.next.user; left = c.in-Some-Some.next.left } in
+    let x : Waiting = record { user = c.in-Some-Some.next.user; left = c.in-Some-Some.next.left; since = since_in (chosen old.system.plan.levels) } in
     let v : Service = c.in-Some-Some.v in
     let some = c.in-Some-Some.is-1 in
     let same : v.user ≡ x.user = (let t = c.if-eq.ensures in grind (arith, nat_tests, t)) in

@@ -1,8 +1,10 @@
-use Rattle.system_model.specs.Run.{Run}
+use Rattle.std.proofs.Common.{rules, ◌≡◌, ℕ, false, Option, Some, None, refl}
+use Rattle.std.specs.Option.{is_some}
+use Rattle.system_model.specs.Run.{Run, rising}
 use Rattle.user_cores.specs.Backing.{Held}
 use Rattle.supervisor.specs.Seen.{seen}
 use Rattle.supervisor.proofs.Doing.{does_none}
-use Rattle.supervisor.proofs.Serving.{ends_map}
+use Rattle.supervisor.proofs.Serving.{ends_map, is_none}
 use Rattle.supervisor.proofs.state.State.step_on.Goals as goal
 
 pub returns-clause-ended : goal.returns-clause-ended
@@ -10,8 +12,9 @@ returns-clause-ended g c =
     let had : Held = (g.C.Backing.state c.args.cores.now).held in
     let has : Held = (g.C.Backing.state c.go_on.new.cores).held in
     let old : Run = seen had.places c.args.self.now in
+    let low : rising old ≡ None = is_none (rising old) (search rules) in
     ends_map c.go_on.result _ _ _ _ _ _ _ _
-    (does_none c.args.limit old (seen has.places c.go_on.new.self) had has c.requires.quiet) (λ h. h)
-    (λ f. (f.0, f.1, record { next = record { quiet = c.requires.quiet; due = f.2.due }; cut = f.2.cut }))
+    (does_none c.args.limit old (seen has.places c.go_on.new.self) had has c.requires.quiet low) (λ h. h)
+    (λ f. (f.0, f.1, record { next = record { quiet = c.requires.quiet; low = low; due = f.2.due }; cut = f.2.cut }))
     (λ h. h)
     c.go_on.ensures.ended

@@ -4,6 +4,7 @@ use Rattle.user_model.specs.Session.{nobody}
 use Rattle.user_model.specs.Inner.{Stored, blocks_of}
 use Rattle.user_model.specs.User.{User}
 use Rattle.user_model.specs.Runs.{HaveGone}
+use Rattle.plan_model.specs.Levels.{chosen, since_in}
 use Rattle.plan_model.specs.Loads.{Places, is_loaded}
 use Rattle.system_model.specs.Run.{Run}
 use Rattle.system_model.specs.Cases.{user_at, with_user}
@@ -35,11 +36,12 @@ returns-clause-many g c =
     ap (λ (q : Places). seen q c.count_ticks.new.self) c.advance-ticks.ensures.worked.places ∙ c.count_ticks.ensures had.places
     ∙ (λ j. elapsed n c.args.v (with_users old (set users (place j) p) old.system.entries)) ∙ elapsed_is n c.args.v p old in
     let most : n ≤ c.args.most = c.advance-ticks.ensures.most in
-    does_many c.args.limit n c.args.next.level (record { user = c.args.next.user; left = c.args.next.left }) c.args.v p old (seen has.places c.count_ticks.new.self) had has window after.core
+    does_many c.args.limit n c.args.next.level (record { user = c.args.next.user; left = c.args.next.left; since = since_in (chosen old.system.plan.levels) }) c.args.v p old (seen has.places c.count_ticks.new.self) had has window after.core
     c.requires.user c.requires.serves c.requires.first c.requires.mine
     (λ h. let k = c.requires.left in omega (arith, k, most))
     (let k = c.requires.up in omega (arith, k, most))
     (let k = c.requires.quiet in omega (arith, k, most))
+    c.args.still c.requires.low (let k = c.requires.still in omega (arith, k, most))
     (ap not (ap (is_loaded had.places u) (sym (c.requires.held.tied.has u c.requires.user.some c.requires.user.within)) ∙ c.requires.loaded))
     (subst (λ (q : User). HaveGone n q p window.core after.core) (sym same) c.advance-ticks.ensures.gone)
     is

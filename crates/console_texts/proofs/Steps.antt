@@ -1,19 +1,18 @@
 -- What each step of a run adds to transcripts and schedule, and what it leaves of the consoles.
-use Rattle.std.proofs.Common.{◌≡◌, ◌≢◌, ℕ, zero, suc, ◌-◌, ◌<◌, Bool, true, false, cond, nat_eq, nat_le, Option, Some, None, List, [], ◌∷◌, ◌++◌, All, length, get_or, set, append_assoc, codes, refl, sym, ◌∙◌, ap, subst, arith, ◌⊎◌, inl, inr, eq-eqb}
+use Rattle.std.proofs.Common.{◌≡◌, ℕ, zero, suc, ◌-◌, ◌<◌, Bool, true, false, cond, nat_eq, nat_le, Option, Some, None, List, [], ◌∷◌, ◌++◌, All, length, get_or, set, append_assoc, codes, refl, sym, ◌∙◌, ap, subst, arith, inl, inr, eq-eqb}
 use Rattle.std.specs.List.{slice_get}
 use Rattle.std.specs.Option.{is_some}
 use Rattle.std.proofs.lemmas.Option.{slice_get-get_or}
 use Rattle.std.proofs.lemmas.List.{append-nil, map-set, length-map, get_or-set_same, get_or-set_other}
 use Rattle.std.proofs.Math.ListN.{get_or-map}
 use Rattle.time_sharing.specs.Machine.{Line, Item, CutKind, Quit, Hang, Spent, End, Ending, Went, Stopped, Resized, Replaced, LoggedOut, CommonOp, Reply}
-use Rattle.time_sharing.specs.System.{Timed, Service, Console, Off, On, Password, Session, Entry, Taken, Login, Refused, Idle, Swap, Rise, Serve, Clock, Common, EventKind, LineTaken, Cause, Stop, Preempt, kind_of, cause_of, service_after, service_entry, clock_entry, common_entry, consoles_after, without, out_of, at}
+use Rattle.time_sharing.specs.System.{Timed, Service, Console, Off, On, Password, Session, Entry, Taken, Login, Refused, Idle, Swap, Rise, Serve, Clock, Common, EventKind, LineTaken, Cause, Stop, kind_of, cause_of, service_after, service_entry, clock_entry, common_entry, consoles_after, without, out_of, at}
 use Rattle.time_sharing.specs.Texts.{refusals}
 use Rattle.user_model.specs.User.{User, typed, opened, cut, can_step, step, ending, asks_clock, asks_common}
 use Rattle.user_model.specs.Session.{nobody}
 use Rattle.user_model.specs.Inner.{blocks_of}
 use Rattle.plan_model.specs.Levels.{chosen, user_of, level_in, has_time}
 use Rattle.plan_model.specs.Plan.{must_load}
-use Rattle.ctss_types.specs.declared.session.Waiting.{Waiting}
 use Rattle.system_model.specs.Run.{Run, next, taken, otherwise, attended, rise, rising, by_rising, by_due, due_of}
 use Rattle.system_model.specs.Cases.{reply_for, user_at, with_user, idle_notes, stop_notes, heard, line_taken, quit_taken, hang_taken, spent_taken, cut_taken, login_taken, dial_taken, idled, broken_off, brought, stepped, waited}
 use Rattle.system_model.specs.Sound.{Sound, IsUser, HasSeat}

@@ -7,6 +7,7 @@ ghost use Rattle.image_map.specs.Blocks.{first};
 ghost use Rattle.image_map.specs.Images.{size_of, image_in, where_told};
 ghost use Rattle.medium.specs.Damages.{IsDamage};
 
+use crate::rows::holds;
 use core_bank::Bank;
 use cpu_regs::{MemoryPort, Outside};
 use ctss_types::UserNo;
@@ -18,16 +19,15 @@ use std::test::Fail;
 use word36::Word;
 
 /// What is done with a user's image. A word is written as a small number.
-#[derive(Clone, Copy, Debug)]
+#[derive(Clone, Copy)]
 enum Action {
     /// Gives the user an image of so many blocks of plus zeros.
     Give(u8),
     /// Gives the user another size.
     Resize(u8),
-    /// Loads the user, where this moves so many blocks to the drum, from it, and up as plus zeros, to this base.
-    Load(u8, u8, u8, u8),
-    /// The same, where its own blocks go to the drum before.
-    Move(u8, u8, u8, u8),
+    /// Loads the user, where this moves so many blocks to the drum, from it, and up as plus zeros, to this base, and where
+    /// its own blocks go to the drum before or stay.
+    Load(u8, u8, u8, u8, bool),
     /// Puts a word at an address of the user, which is loaded.
     Put(u16, i8),
     /// Gets the word at an address of the user.
@@ -36,7 +36,11 @@ enum Action {
     Resident(bool),
 }
 
-use Action::{Get, Give, Load, Move, Put, Resident, Resize};
+use Action::{Get, Give, Load, Put, Resident, Resize};
+
+const MOVES: bool = true;
+
+const STAYS: bool = false;
 
 /// A user's number, and what is done with its image.
 type Step = (u8, Action);
@@ -101,13 +105,21 @@ fn word(number: i8) -> Word {
     Word::signed(number < 0, u64::from(number.unsigned_abs()))
 }
 
-/// Does a step after no load has failed, and compares what it gives. It fails where a load does.
+/// What is got, of a small number.
+fn found(number: Result<i8, Outside>) -> Result<Word, Outside> {
+    match number {
+        Ok(number) => Ok(word(number)),
+        Err(outside) => Err(outside),
+    }
+}
+
+/// Does a step after no load has failed, and says whether it gives what it must. It fails where a load does.
 fn does<D: Medium>(
     rt: &impl Abort,
     image: &mut Image<'_, D>,
     quotas: &[u8],
     step: Step,
-) -> Result<(), DrumFault>
+) -> Result<bool, DrumFault>
     requires quotas { image.old.tables.kept.slots.quotas.items ≡ quotas.now }
     requires words { AreWords image.old.bank }
     requires serves { Serves (D.contents image.old.tables.kept.drum.now)
@@ -135,32 +147,21 @@ fn does<D: Medium>(
             image.resize_user(user, blocks);
             true
         }
-        Load(dumped, read, fresh, base) => {
+        Load(dumped, read, fresh, base, moved) => {
             image.load_user(user)?
                 == Plan {
                     base,
-                    moved: false,
-                    dumped,
-                    read,
-                    fresh,
-                }
-        }
-        Move(dumped, read, fresh, base) => {
-            image.load_user(user)?
-                == Plan {
-                    base,
-                    moved: true,
+                    moved,
                     dumped,
                     read,
                     fresh,
                 }
         }
         Put(address, number) => put(rt, image, user, address, word(number)) == Ok(()),
-        Get(address, number) => get(rt, image, user, address) == number.map(word),
+        Get(address, number) => get(rt, image, user, address) == found(number),
         Resident(is) => image.resident(user) == is,
     };
-    assert!(rt; went, "{step:?}");
-    Ok(())
+    Ok(went)
 }
 
 /// Does these steps, up to the first fault.
@@ -177,8 +178,8 @@ fn runs<D: Medium>(
         (D.words_each image.old.tables.kept.drum.now) (records_of image.old.tables.kept.slots) }
     ensures same { image.new.tables.kept.drum.ghost_name ≡ image.old.tables.kept.drum.ghost_name }
 {
-    'steps: for step in steps {
-        does(rt, image, quotas, *step)?;
+    'steps: for (row, step) in steps.iter().enumerate() {
+        holds(rt, row, does(rt, image, quotas, *step)?);
     }
     Ok(())
 }
@@ -189,23 +190,23 @@ fn loads_users_in_turn(rt: HostRuntime) -> Result<(), Fail> {
         (1, Give(64)),
         (2, Give(64)),
         (3, Give(32)),
-        (1, Load(0, 0, 64, 0)),
+        (1, Load(0, 0, 64, 0, STAYS)),
         (1, Put(16383, -5)),
         (1, Put(0, 6)),
-        (2, Load(0, 0, 64, 64)),
+        (2, Load(0, 0, 64, 64, STAYS)),
         (1, Resident(true)),
         // Half of the first user's blocks stay in core.
-        (3, Load(32, 0, 32, 0)),
+        (3, Load(32, 0, 32, 0, STAYS)),
         (1, Resident(false)),
         (2, Resident(true)),
-        (1, Load(32, 32, 0, 0)),
+        (1, Load(32, 32, 0, 0, STAYS)),
         (1, Get(16383, Ok(-5))),
         (1, Get(0, Ok(6))),
-        (3, Load(32, 32, 0, 0)),
+        (3, Load(32, 32, 0, 0, STAYS)),
     ];
     let mut drum = MemoryMedium::new(rt.alloc(), 160, 256, &[], &[], 0)?;
     let mut image = Image::new(rt.alloc(), &mut drum, 160, &[64, 64, 32])?;
-    assert_eq!(rt; runs(&rt, &mut image, &[0, 64, 64, 32], &STEPS), Ok(()));
+    assert!(rt; runs(&rt, &mut image, &[0, 64, 64, 32], &STEPS) == Ok(()));
     let _ = image.back();
     Ok(())
 }
@@ -214,21 +215,21 @@ fn loads_users_in_turn(rt: HostRuntime) -> Result<(), Fail> {
 fn cuts_and_extends(rt: HostRuntime) -> Result<(), Fail> {
     static STEPS: [Step; 11] = [
         (1, Give(4)),
-        (1, Load(0, 0, 4, 0)),
+        (1, Load(0, 0, 4, 0, STAYS)),
         (1, Put(600, 7)),
         (1, Resize(2)),
         (2, Give(4)),
         // It lies behind the first.
-        (2, Load(0, 0, 4, 2)),
+        (2, Load(0, 0, 4, 2, STAYS)),
         (2, Put(100, 5)),
         (1, Resize(4)),
-        (1, Load(2, 0, 2, 0)),
+        (1, Load(2, 0, 2, 0, STAYS)),
         (1, Get(600, Ok(0))),
-        (2, Load(2, 2, 0, 2)),
+        (2, Load(2, 2, 0, 2, STAYS)),
     ];
     let mut drum = MemoryMedium::new(rt.alloc(), 16, 256, &[], &[], 0)?;
     let mut image = Image::new(rt.alloc(), &mut drum, 16, &[8, 8])?;
-    assert_eq!(rt; runs(&rt, &mut image, &[0, 8, 8], &STEPS), Ok(()));
+    assert!(rt; runs(&rt, &mut image, &[0, 8, 8], &STEPS) == Ok(()));
     let _ = image.back();
     Ok(())
 }
@@ -237,21 +238,21 @@ fn cuts_and_extends(rt: HostRuntime) -> Result<(), Fail> {
 fn moves_a_user_that_grows(rt: HostRuntime) -> Result<(), Fail> {
     static STEPS: [Step; 11] = [
         (1, Give(40)),
-        (1, Load(0, 0, 40, 0)),
+        (1, Load(0, 0, 40, 0, STAYS)),
         (2, Give(60)),
-        (2, Load(0, 0, 60, 40)),
+        (2, Load(0, 0, 60, 40, STAYS)),
         (2, Put(600, 7)),
         (2, Resize(100)),
         (2, Resident(false)),
-        (2, Move(72, 60, 40, 28)),
+        (2, Load(72, 60, 40, 28, MOVES)),
         (2, Get(600, Ok(7))),
         (2, Get(15360, Ok(0))),
         // Blocks 0 to 27 of the first user are still in core.
-        (1, Load(12, 12, 0, 0)),
+        (1, Load(12, 12, 0, 0, STAYS)),
     ];
     let mut drum = MemoryMedium::new(rt.alloc(), 200, 256, &[], &[], 0)?;
     let mut image = Image::new(rt.alloc(), &mut drum, 200, &[100, 100])?;
-    assert_eq!(rt; runs(&rt, &mut image, &[0, 100, 100], &STEPS), Ok(()));
+    assert!(rt; runs(&rt, &mut image, &[0, 100, 100], &STEPS) == Ok(()));
     let _ = image.back();
     Ok(())
 }
@@ -271,16 +272,16 @@ fn gives(
     let steps = [
         (1, Give(128)),
         (2, Give(128)),
-        (1, Load(0, 0, 128, 0)),
+        (1, Load(0, 0, 128, 0, STAYS)),
         (1, Put(5, 7)),
-        (2, Load(128, 0, 128, 0)),
-        (1, Load(128, 128, 0, 0)),
+        (2, Load(128, 0, 128, 0, STAYS)),
+        (1, Load(128, 128, 0, 0, STAYS)),
         (1, Get(5, Ok(word))),
     ];
     let mut drum = MemoryMedium::new(alloc, 256, 256, faults, damages, 0)?;
     let mut image = Image::new(alloc, &mut drum, 256, &[128, 128])?;
-    let outcome = runs(rt, &mut image, &[0, 128, 128], &steps);
-    assert_eq!(rt; (outcome, image.failed()), (ended, ended.is_err()));
+    assert!(rt; runs(rt, &mut image, &[0, 128, 128], &steps) == ended);
+    assert!(rt; image.failed() == ended.is_err());
     let _ = image.back();
     Ok(())
 }

@@ -8,4 +8,6 @@ mod media;
 #[cfg(test)]
 mod owners;
 #[cfg(test)]
+mod rows;
+#[cfg(test)]
 mod slots;

@@ -1,13 +1,14 @@
 ghost use Rattle.std.specs.Prelude.{◌≡◌, ◌<◌, length};
 ghost use Rattle.medium.specs.Medium.{AreWords};
 
+use crate::rows::holds;
 use faults::NoMemory;
 use medium::{Damage, Failed, Medium, MemoryMedium};
 use std::process::Abort;
 use std::test::Fail;
 
 /// What is asked of a medium.
-#[derive(Clone, Copy, Debug)]
+#[derive(Clone, Copy)]
 enum Ask {
     /// To write the words.
     Write,
@@ -34,8 +35,8 @@ fn copy_to_last<M: Medium>(medium: &mut M, words: &mut [u64]) -> Result<(), Fail
     medium.write(last, words)
 }
 
-/// Makes a call, and compares how it ends and the words that are there then.
-fn does<M: Medium>(rt: &impl Abort, medium: &mut M, call: Call) {
+/// Makes a call, and says whether it ends as it must, with the words that must be there then.
+fn goes<M: Medium>(rt: &impl Abort, medium: &mut M, call: Call) -> bool {
     let (ask, at, words, ended) = call;
     let count = medium.record_words() as usize;
     assert!(rt; at < medium.records() && count <= 2);
@@ -48,45 +49,54 @@ fn does<M: Medium>(rt: &impl Abort, medium: &mut M, call: Call) {
         CopyToLast => copy_to_last(medium, part),
     };
     let want = [u64::from(words[0]), u64::from(words[1])];
-    assert_eq!(rt; (outcome, found), (ended, want), "{call:?}");
+    (outcome, found) == (ended, want)
 }
 
 /// Makes these calls of a medium.
 fn runs<M: Medium>(rt: &impl Abort, medium: &mut M, calls: &[Call]) {
-    for call in calls {
-        does(rt, medium, *call);
+    for (row, call) in calls.iter().enumerate() {
+        holds(rt, row, goes(rt, medium, *call));
     }
 }
+
+static WRITTEN: [Call; 6] = [
+    (Write, 1, [5, 6], Ok(())),
+    (Read, 1, [5, 6], Ok(())),
+    (Read, 2, [0, 0], Ok(())),
+    (Write, 0, [7, 8], Ok(())),
+    (CopyToLast, 0, [7, 8], Ok(())),
+    (Read, 2, [7, 8], Ok(())),
+];
 
 #[test]
 fn reads_what_was_written(rt: HostRuntime) -> Result<(), Fail> {
     let mut drum = MemoryMedium::new(rt.alloc(), 3, 2, &[], &[], 0)?;
-    assert_eq!(rt; (drum.records(), drum.record_words()), (3, 2));
-    let calls = [
-        (Write, 1, [5, 6], Ok(())),
-        (Read, 1, [5, 6], Ok(())),
-        (Read, 2, [0, 0], Ok(())),
-        (Write, 0, [7, 8], Ok(())),
-        (CopyToLast, 0, [7, 8], Ok(())),
-        (Read, 2, [7, 8], Ok(())),
-    ];
-    runs(&rt, &mut drum, &calls);
+    assert!(rt; drum.records() == 3 && drum.record_words() == 2);
+    runs(&rt, &mut drum, &WRITTEN);
     Ok(())
 }
 
 // Records of one word: behind it stands a one.
+static FAILING: [Call; 4] = [
+    (Write, 0, [4, 1], Ok(())),
+    (Write, 0, [5, 1], Err(Failed)),
+    (Read, 0, [1, 1], Err(Failed)),
+    (Read, 0, [4, 1], Ok(())),
+];
+
 #[test]
 fn fails_by_the_number_of_the_call(rt: HostRuntime) -> Result<(), Fail> {
     let mut drum = MemoryMedium::new(rt.alloc(), 1, 1, &[2, 3], &[], 0)?;
-    let calls = [
-        (Write, 0, [4, 1], Ok(())),
-        (Write, 0, [5, 1], Err(Failed)),
-        (Read, 0, [1, 1], Err(Failed)),
-        (Read, 0, [4, 1], Ok(())),
-    ];
-    runs(&rt, &mut drum, &calls);
+    runs(&rt, &mut drum, &FAILING);
     Ok(())
 }
+
+static DAMAGED: [Call; 4] = [
+    (Read, 0, [0, 7], Ok(())),
+    (Write, 0, [1, 1], Ok(())),
+    (Read, 0, [9, 7], Ok(())),
+    (Read, 0, [1, 7], Ok(())),
+];
 
 #[test]
 fn damages_by_the_number_of_the_read(rt: HostRuntime) -> Result<(), Fail> {
@@ -103,25 +113,20 @@ fn damages_by_the_number_of_the_read(rt: HostRuntime) -> Result<(), Fail> {
         },
     ];
     let mut drum = MemoryMedium::new(rt.alloc(), 1, 2, &[], &damages, 0)?;
-    let calls = [
-        (Read, 0, [0, 7], Ok(())),
-        (Write, 0, [1, 1], Ok(())),
-        (Read, 0, [9, 7], Ok(())),
-        (Read, 0, [1, 7], Ok(())),
-    ];
-    runs(&rt, &mut drum, &calls);
+    runs(&rt, &mut drum, &DAMAGED);
     Ok(())
 }
+
+static PAST_ROOM: [Call; 3] = [
+    (Write, 0, [1, 1], Ok(())),
+    (Write, 0, [2, 1], Ok(())),
+    (Read, 0, [2, 1], Ok(())),
+];
 
 #[test]
 fn works_past_the_room_for_calls(rt: HostRuntime) -> Result<(), Fail> {
     let mut drum = MemoryMedium::new(rt.alloc(), 1, 1, &[], &[], 1)?;
-    let calls = [
-        (Write, 0, [1, 1], Ok(())),
-        (Write, 0, [2, 1], Ok(())),
-        (Read, 0, [2, 1], Ok(())),
-    ];
-    runs(&rt, &mut drum, &calls);
+    runs(&rt, &mut drum, &PAST_ROOM);
     Ok(())
 }
 

@@ -3,6 +3,7 @@ ghost use Rattle.medium.specs.Medium.{AreWords};
 ghost use Rattle.drum_slots.specs.Kept.{Serves};
 ghost use Rattle.drum_slots.specs.Table.{records_of};
 
+use crate::rows::holds;
 use ctss_types::UserNo;
 use drum_slots::{DrumFault, SlotTable, Slots};
 use medium::{Medium, MemoryMedium};
@@ -16,7 +17,7 @@ const QUOTAS: [u8; 2] = [2, 1];
 const NUMBERED_QUOTAS: [u8; 3] = [0, 2, 1];
 
 /// What is done with a block of a user.
-#[derive(Clone, Copy, Debug)]
+#[derive(Clone, Copy)]
 enum Action {
     /// Puts words that are all this one. The block is not kept before.
     Put(u8, Result<(), DrumFault>),
@@ -79,7 +80,7 @@ fn does<D: Medium>(
             true
         }
     };
-    assert!(rt; went, "step {at}: {step:?}");
+    holds(rt, at, went);
 }
 
 /// Does these steps.
@@ -101,7 +102,7 @@ fn runs<D: Medium>(rt: &impl Abort, table: &mut SlotTable<'_, D>, quotas: &[u8],
 fn has_record<D: Medium>(rt: &impl Abort, drum: &mut D, at: u16, word: u64) {
     assert!(rt; at < drum.records() && drum.record_words() == 256);
     let mut words = filled(0);
-    assert_eq!(rt; drum.read(at, &mut words), Ok(()), "record {at}");
+    assert!(rt; drum.read(at, &mut words).is_ok());
     assert!(rt; words == [word; 256], "record {at}");
 }
 

@@ -4,44 +4,20 @@ use Rattle.std.proofs.lemmas.Bool.Decides.{nat_tests}
 use Rattle.text_model.specs.declared.mode.Mode.{Mode}
 use Rattle.text_model.specs.declared.mode.Mode.TheVariants.{Replay, Dump, Load, Asm, Serve}
 use Rattle.text_model.specs.Words.{mode_of}
-use Rattle.ctss_top.specs.declared.outcome.Outcome.{Outcome}
-use Rattle.ctss_top.specs.Outcomes.{bare, IsOneOf}
-use Rattle.ctss_top.specs.Devices.{DevicesSeen}
-use Rattle.ctss_top.specs.Top.{statuses_asked}
-use Rattle.ctss_top.specs.Answer.{Answers}
-use Rattle.ctss_top.proofs.Allowed.{memory_is_allowed}
-use Rattle.ctss_top.proofs.Complete.{complete, memory_has_causes}
+use Rattle.ctss_modes.specs.declared.outcome.Outcome.{Outcome}
+use Rattle.ctss_modes.specs.Outcomes.{bare, IsOneOf}
+use Rattle.ctss_modes.specs.Top.{statuses_asked}
+use Rattle.ctss_modes.specs.Answer.{Answers}
+use Rattle.ctss_modes.proofs.Answering.{no_memory as none_done}
 use Rattle.ctss_main.specs.Program.{HandedSeen, with_media, blank, IsAnswered}
 
 -- want of memory before anything was done
-
-no_memory_answers : (words : List (List ℕ)) (seen : DevicesSeen) → Answers words seen seen (bare 8 0 0)
-no_memory_answers words seen =
-    record {
-      headline = λ mode asked runs h. absurd (omega (arith, h));
-      deck = λ asked h. absurd (omega (arith, h));
-      refusals = record {
-        of_words = λ h. absurd (omega (arith, h));
-        of_script = λ mode asked reads h. absurd (omega (arith, h));
-        of_input = λ asked h. absurd (omega (arith, h));
-        of_cards = λ h. absurd (omega (arith, h));
-      };
-      causes = memory_has_causes seen seen (bare 8 0 0) refl;
-      cut_off = λ h. absurd (omega (arith, h));
-      stopped = λ h. absurd (omega (arith, h));
-      lost = λ h. absurd (omega (arith, h));
-      silent = λ h. record { outcome = refl; same = refl; media = λ k. refl; link = λ k. refl };
-      apart = record { media = λ h. refl; link = λ h. refl };
-      allowed = memory_is_allowed words seen (bare 8 0 0) refl;
-      complete = λ none. complete words seen seen (bare 8 0 0) (memory_has_causes seen seen (bare 8 0 0) refl) (memory_is_allowed words seen (bare 8 0 0) refl) none;
-    }
-
 pub no_memory : (words : List (List ℕ)) (seen : HandedSeen) → IsAnswered words seen seen 8
 no_memory words seen =
     record {
       outcome = bare 8 0 0;
       contents = blank;
-      answers = no_memory_answers words (with_media seen blank);
+      answers = none_done words (with_media seen blank);
       status_is = refl;
       unfailed = refl;
     }

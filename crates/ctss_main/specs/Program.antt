@@ -4,10 +4,10 @@ use Rattle.ctss_io.specs.declared.outside.Source.{Ghosts as InputGhosts}
 use Rattle.ctss_io.specs.declared.outside.Sink.{Ghosts as OutputGhosts}
 use Rattle.console_link.specs.Links.{LinkSeen}
 use Rattle.live_run.specs.Media.{MediaSeen}
-use Rattle.ctss_top.specs.declared.outcome.Outcome.{Outcome}
-use Rattle.ctss_top.specs.Outcomes.{IsOneOf}
-use Rattle.ctss_top.specs.Devices.{InputSeen, input_seen, OutputSeen, output_seen, DevicesSeen, devices}
-use Rattle.ctss_top.specs.Answer.{Answers}
+use Rattle.ctss_modes.specs.declared.outcome.Outcome.{Outcome}
+use Rattle.ctss_modes.specs.Outcomes.{IsOneOf}
+use Rattle.ctss_modes.specs.Devices.{InputSeen, input_seen, OutputSeen, output_seen, DevicesSeen, devices}
+use Rattle.ctss_modes.specs.Answer.{Answers}
 
 -- what is seen of what the program is handed
 pub record HandedSeen : Type 0 where

@@ -1,15 +1,85 @@
-//! The top call: a script's bytes come in and its report goes out, a made script is run, cards come in and their deck goes
-//! out, or people are served at live consoles.
+//! The top call: what the words of the command line ask for is done, and the answer is one of the promised ones.
+//!
+//! What each mode does stands in ctss_modes, with all definitions that the clauses name.
 #![tactic(auto)]
 
-mod asm;
-mod live;
-mod outcome;
-mod record;
-mod run;
-mod write;
+ghost use Rattle.std.specs.Prelude.{◌≡◌, ◌∷◌, [], Some, true};
+ghost use Rattle.drum_slots.specs.Kept.{Serves};
+ghost use Rattle.track_store.specs.Tracks.{Serves as Holds};
+ghost use Rattle.text_model.specs.Words.{mode_of};
+ghost use Rattle.ctss_modes.specs.Outcomes.{IsOneOf};
+ghost use Rattle.ctss_modes.specs.Modes.{ModeAsked, runs_script};
+ghost use Rattle.ctss_modes.specs.Asm.{DeckIsWritten};
+ghost use Rattle.ctss_modes.specs.Devices.{seen};
+ghost use Rattle.ctss_modes.specs.Top.{IsRun, RunIsStopped, RunLosesFiles, IsRefusal, HasCause, LeavesUnasked, IsCutOff, IsSilent};
+ghost use Rattle.ctss_modes.specs.Top.{IsAllowed, NothingFailed, IsComplete};
 
 pub use command_line::ArgList;
-pub use outcome::Outcome;
-pub use record::{Played, ScriptRun, record_script, run_script};
-pub use run::run_ctss;
+use console_link::Link;
+use ctss_io::{Sink, Source};
+pub use ctss_modes::Outcome;
+use ctss_modes::run_mode;
+use medium::Medium;
+use std::alloc::Global;
+use text_model::Mode;
+
+/// What the words ask for, done, over a drum of at least 3840 records of 256 words and a disk of at least 10000 of 432 words:
+///
+/// - `replay` reads a script from `input`, runs it and writes its report to `output`;
+/// - `dump` does the same, with the words of each file in the report;
+/// - `load N` runs the script that is made of a number and writes a summary;
+/// - `asm` reads cards and writes their deck;
+/// - `serve --port P --turns T` reads a script without events, has people connect over `link` for so many turns, and writes the script
+///   with what they did and its report.
+pub fn run_ctss<S: Source, K: Sink, D: Medium, F: Medium, L: Link>(
+    alloc: Global,
+    words: &ArgList,
+    input: &mut S,
+    output: &mut K,
+    drum: &mut D,
+    disk: &mut F,
+    link: &mut L,
+) -> Outcome
+    requires drum { Serves (D.contents drum.old) (D.record_count drum.old) (D.words_each drum.old) 3840 }
+    requires disk { Holds (F.contents disk.old) (F.record_count disk.old) (F.words_each disk.old) 10000 }
+    ensures headline { (mode : ModeAsked) → mode_of words.now ≡ Some mode → runs_script mode ≡ true
+        → result.status ≡ 0 → IsRun mode (seen S.Source K.Sink D.Medium F.Medium input.old output.old drum.old disk.old (L.seen link.old))
+        (seen S.Source K.Sink D.Medium F.Medium input.new output.new drum.new disk.new (L.seen link.new)) result }
+    ensures deck { mode_of words.now ≡ Some Mode.Asm → result.status ≡ 0
+        → DeckIsWritten (seen S.Source K.Sink D.Medium F.Medium input.old output.old drum.old disk.old (L.seen link.old))
+        (seen S.Source K.Sink D.Medium F.Medium input.new output.new drum.new disk.new (L.seen link.new)) result }
+    ensures refusals { IsRefusal words.now (seen S.Source K.Sink D.Medium F.Medium input.old output.old drum.old disk.old (L.seen link.old))
+        (seen S.Source K.Sink D.Medium F.Medium input.new output.new drum.new disk.new (L.seen link.new)) result }
+
+    // The faults: only where the object's count rose.
+    ensures causes { HasCause (seen S.Source K.Sink D.Medium F.Medium input.old output.old drum.old disk.old (L.seen link.old))
+        (seen S.Source K.Sink D.Medium F.Medium input.new output.new drum.new disk.new (L.seen link.new)) result }
+    ensures cut_off { result.status ≡ 4 → IsCutOff words.now
+        (seen S.Source K.Sink D.Medium F.Medium input.old output.old drum.old disk.old (L.seen link.old))
+        (seen S.Source K.Sink D.Medium F.Medium input.new output.new drum.new disk.new (L.seen link.new)) result }
+
+    // With drum or disk that failed nothing is written, and the run is that of whole steps; with a read or a listener that failed
+    // and where memory lacked nothing is written.
+    ensures stopped { result.status ≡ 5 → RunIsStopped words.now
+        (seen S.Source K.Sink D.Medium F.Medium input.old output.old drum.old disk.old (L.seen link.old))
+        (seen S.Source K.Sink D.Medium F.Medium input.new output.new drum.new disk.new (L.seen link.new)) result }
+    ensures lost { result.status ≡ 6 → RunLosesFiles words.now
+        (seen S.Source K.Sink D.Medium F.Medium input.old output.old drum.old disk.old (L.seen link.old))
+        (seen S.Source K.Sink D.Medium F.Medium input.new output.new drum.new disk.new (L.seen link.new)) result }
+    ensures silent { IsOneOf result.status (3 ∷ 7 ∷ 8 ∷ []) → IsSilent result.status
+        (seen S.Source K.Sink D.Medium F.Medium input.old output.old drum.old disk.old (L.seen link.old))
+        (seen S.Source K.Sink D.Medium F.Medium input.new output.new drum.new disk.new (L.seen link.new)) result }
+    ensures apart { LeavesUnasked words.now (seen S.Source K.Sink D.Medium F.Medium input.old output.old drum.old disk.old (L.seen link.old))
+        (seen S.Source K.Sink D.Medium F.Medium input.new output.new drum.new disk.new (L.seen link.new)) }
+    ensures allowed { IsAllowed words.now (seen S.Source K.Sink D.Medium F.Medium input.old output.old drum.old disk.old (L.seen link.old)) result }
+
+    // Where nothing failed, the answer is the one that words and bytes define, or want of memory.
+    ensures complete { NothingFailed (seen S.Source K.Sink D.Medium F.Medium input.old output.old drum.old disk.old (L.seen link.old))
+        (seen S.Source K.Sink D.Medium F.Medium input.new output.new drum.new disk.new (L.seen link.new))
+        → IsComplete words.now (seen S.Source K.Sink D.Medium F.Medium input.old output.old drum.old disk.old (L.seen link.old)) result }
+{
+    match words.mode() {
+        Ok(asked) => run_mode(alloc, asked, input, output, drum, disk, link),
+        Err(_) => Outcome::bare(alloc, 8, 0, 0),
+    }
+}

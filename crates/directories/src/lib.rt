@@ -2,7 +2,5 @@
 #![tactic(auto)]
 
 mod all;
-mod memory;
 
 pub use all::{Directories, Lists};
-pub use memory::MemoryDirectories;

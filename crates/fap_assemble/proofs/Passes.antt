@@ -1,5 +1,5 @@
 -- What a card does to what is known, and what all cards come to.
-use Rattle.std.proofs.Common.{◌≡◌, ℕ, zero, suc, ◌+◌, ◌<◌, ◌%◌, ◌^◌, Bool, true, false, List, [], ◌∷◌, length, get_or, drop, take_all, Option, Some, None, refl, sym, ap, ◌∙◌, subst, arith, if◌then◌else◌}
+use Rattle.std.proofs.Common.{◌≡◌, ℕ, zero, suc, ◌+◌, ◌<◌, ◌≤◌, max, ◌%◌, ◌^◌, Bool, true, false, List, [], ◌∷◌, length, get_or, drop, take_all, Option, Some, None, refl, sym, ap, ◌∙◌, subst, arith, if◌then◌else◌}
 use Rattle.fap_model.specs.Cards.{is_comment, operation_of, symbol_of}
 use Rattle.fap_model.specs.declared.types.Operation.{Operation}
 use Rattle.fap_model.specs.Statements.{operation_named}
@@ -52,6 +52,10 @@ pub entered : (symbols new : List (ℕ × ℕ)) (place next value : ℕ) (card :
     → value ≡ value_by (operation_in card) (known_at symbols (length symbols) place) card → new ≡ symbol_entered symbols (definition card) value
     → record { place = next; symbols = new } ≡ known_behind (record { place = place; symbols = symbols }) card
 entered symbols new place next value card n v e = rw e (sym (entered_known symbols place next value card n v))
+
+pub reach_most : (reach place size most : ℕ) → place + size ≤ most → reach_of reach place size ≤ max reach most
+reach_most reach place zero most h = omega arith
+reach_most reach place (suc n) most h = omega (arith, h)
 
 -- the first of the rest of the cards
 pub texts_at : (cards : List Card) (i : ℕ) (c : Card) → i < length cards → c ≡ get_or cards i c → texts (drop i cards) ≡ c.text ∷ texts (drop (i + 1) cards)

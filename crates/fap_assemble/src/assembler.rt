@@ -1,4 +1,4 @@
-ghost use Rattle.std.specs.Prelude.{◌≡◌, ◌+◌, ◌-◌, ◌*◌, ◌^◌, ◌<◌, ◌≤◌, ◌++◌, [], IfOk, OnOk, length, map};
+ghost use Rattle.std.specs.Prelude.{◌≡◌, ◌+◌, ◌-◌, ◌*◌, ◌^◌, ◌<◌, ◌≤◌, ◌++◌, [], Some, IfOk, OnOk, length, map};
 ghost use Rattle.fap_model.specs.Places.{nothing_known};
 ghost use Rattle.fap_model.specs.Decks.{is_end, operation_in, cards_read, whole_of, faults_of, start_from, deck_words, assembled};
 ghost use Rattle.fap_assemble.specs.Steps.{texts};
@@ -25,13 +25,23 @@ pub struct Deck {
     pub words: WordList,
 }
 
+/// Whether an operation is END.
+fn is_end(op: Operation) -> bool
+    ensures { result ≡ is_end (Some op) }
+{
+    match op {
+        Operation::End => true,
+        _ => false,
+    }
+}
+
 /// Whether a card is an END.
-fn is_end(text: &[u8]) -> bool
+fn is_end_card(text: &[u8]) -> bool
     ensures { result ≡ is_end (operation_in text.now) }
 {
     match operation_in(text) {
-        Some(Operation::End) => true,
-        _ => false,
+        Some(op) => is_end(op),
+        None => false,
     }
 }
 
@@ -42,7 +52,7 @@ fn end_index(cards: &[Card]) -> usize
 {
     cards
         .iter()
-        .take_while(|card| !is_end(card.text.as_slice()))
+        .take_while(|card| !is_end_card(card.text.as_slice()))
         .count()
 }
 
@@ -133,10 +143,7 @@ fn head(start: u16, blocks: u64) -> Word
     requires { blocks < 2 ^ 30 }
     ensures { result ≡ start * 2 ^ 18 + blocks }
 {
-    match Word::from_bits((u64::from(start) << 18) + blocks) {
-        Ok(word) => word,
-        Err(_) => unreachable!(),
-    }
+    Word::of((u64::from(start) << 18) + blocks)
 }
 
 /// The words of the deck of cards without a fault.
@@ -161,6 +168,32 @@ fn deck_words(
     words_of(alloc, read, whole, head(start, whole.blocks))
 }
 
+/// The deck of cards that together tell this, or their faults.
+fn deck_of(
+    alloc: Global,
+    cards: &[Card],
+    read: &[Card],
+    end: usize,
+    whole: &Whole,
+) -> Result<Deck, AsmFault>
+    requires few { length cards.now < 2 ^ 32 - 1 }
+    requires fewer { length read.now ≤ length cards.now }
+    requires end { end ≡ end_index cards.now }
+    requires read { texts read.now ≡ cards_read (texts cards.now) }
+    requires place { whole.now.end_place < 2 ^ 33 }
+    requires literals { length whole.now.literals < 2 ^ 33 }
+    requires blocks { whole.now.blocks < 2 ^ 30 }
+    requires whole { whole_in whole.now ≡ whole_of (texts cards.now) }
+    ensures { IsAssembled result (assembled (texts cards.now)) }
+{
+    let faults = faults_of(alloc, cards, read, end, whole)?;
+    if !faults.is_empty() {
+        return Err(AsmFault::Faults(faults));
+    }
+    let words = deck_words(alloc, cards, read, end, whole)?;
+    Ok(Deck { words })
+}
+
 /// The deck of a list of cards, or the faults of its cards. Nothing is searched from the front, so time and memory go with the
 /// length of the cards.
 pub fn assemble(alloc: Global, cards: &[Card]) -> Result<Deck, AsmFault>
@@ -170,10 +203,5 @@ pub fn assemble(alloc: Global, cards: &[Card]) -> Result<Deck, AsmFault>
     let end = end_index(cards);
     let read = cards_read(cards, end);
     let whole = whole_of(alloc, cards, read)?;
-    let faults = faults_of(alloc, cards, read, end, &whole)?;
-    if !faults.is_empty() {
-        return Err(AsmFault::Faults(faults));
-    }
-    let words = deck_words(alloc, cards, read, end, &whole)?;
-    Ok(Deck { words })
+    deck_of(alloc, cards, read, end, &whole)
 }

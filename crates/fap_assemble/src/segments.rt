@@ -34,10 +34,7 @@ fn header(length: usize, first: u64) -> Word
     requires first { first < 2 ^ 34 }
     ensures { result ≡ length * 2 ^ 18 + first }
 {
-    match Word::from_bits(((length as u64) << 18) + first) {
-        Ok(word) => word,
-        Err(_) => unreachable!(),
-    }
+    Word::of(((length as u64) << 18) + first)
 }
 
 /// Adds words at the end.

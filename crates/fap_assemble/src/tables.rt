@@ -1,7 +1,8 @@
 ghost use Rattle.std.specs.Prelude.{◌≡◌, ◌+◌, ◌^◌, ◌<◌, ◌≤◌, [], Some, IfOk, OnOk, length, map, max};
 ghost use Rattle.fap_model.specs.Places.{with_symbol, known_behind, known_after, nothing_known};
 ghost use Rattle.fap_model.specs.Decks.{operation_in, literal_by, with_literal, size_by, reach_of};
-ghost use Rattle.fap_assemble.specs.Steps.{texts};
+ghost use Rattle.fap_assemble.specs.Fields.{known_at};
+ghost use Rattle.fap_assemble.specs.Steps.{place_by, value_by, texts};
 ghost use Rattle.fap_assemble.specs.Passes.{symbol_entered, known_in, HasAll};
 
 use crate::field::literal;
@@ -22,6 +23,38 @@ pub(crate) struct Tables {
     pub(crate) literals: Literals,
     pub(crate) place: u64,
     pub(crate) reach: u64,
+}
+
+/// What a card comes to: how many words it takes or reserves, the place behind it, the value of its symbol.
+#[derive(Clone, Copy)]
+struct Measured {
+    size: u64,
+    next: u64,
+    value: u16,
+}
+
+/// What a card comes to at a place, where all symbols of earlier cards are known.
+fn measure(
+    alloc: Global,
+    op: Option<Operation>,
+    text: &[u8],
+    symbols: &Symbols,
+    place: u64,
+) -> Result<Measured, NoMemory>
+    requires { place < 2 ^ 40 }
+    ensures size { IfOk result (λ m. m.size ≡ size_by op (known_at symbols.now (length symbols.now) place) text.now) }
+    ensures next { IfOk result (λ m. m.next ≡ place_by op (known_at symbols.now (length symbols.now) place) text.now) }
+    ensures value { IfOk result (λ m. m.value
+        ≡ value_by op (known_at symbols.now (length symbols.now) place) text.now) }
+    ensures size_within { IfOk result (λ m. place + m.size ≤ max 32768 (place + 1)) }
+    ensures next_within { IfOk result (λ m. m.next ≤ max 65535 (place + 1)) }
+{
+    let visible = symbols.len();
+    Ok(Measured {
+        size: size_behind(alloc, op, text, symbols, visible, place)?,
+        next: place_behind(alloc, op, text, symbols, visible, place)?,
+        value: value_behind(alloc, op, text, symbols, visible, place)?,
+    })
 }
 
 /// Defines the symbol that a card has.
@@ -78,7 +111,6 @@ impl Tables {
     }
 
     /// Takes a card.
-    #[tactic(auto, using(crate::proofs::Passes::entered_known, crate::proofs::Passes::entered_reach))]
     fn enter(&mut self, alloc: Global, text: &[u8]) -> Result<(), NoMemory>
         requires { self.old.place < 2 ^ 39 }
         ensures known { OnOk result (known_in self.new ≡ known_behind (known_in self.old) text.now) }
@@ -89,15 +121,11 @@ impl Tables {
         ensures reach_within { OnOk result (self.new.reach ≤ max self.old.reach (max 32768 (self.old.place + 1))) }
     {
         let op = operation_in(text);
-        let visible = self.symbols.len();
-        let place = self.place;
-        let size = size_behind(alloc, op, text, &self.symbols, visible, place)?;
-        let next = place_behind(alloc, op, text, &self.symbols, visible, place)?;
-        let value = value_behind(alloc, op, text, &self.symbols, visible, place)?;
-        enter_symbol(&mut self.symbols, definition(text), value)?;
+        let card = measure(alloc, op, text, &self.symbols, self.place)?;
+        enter_symbol(&mut self.symbols, definition(text), card.value)?;
         enter_literal(&mut self.literals, literal_by(op, text))?;
-        self.reach = reach_of(self.reach, place, size);
-        self.place = next;
+        self.reach = reach_of(self.reach, self.place, card.size);
+        self.place = card.next;
         Ok(())
     }
 }

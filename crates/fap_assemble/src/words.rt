@@ -97,10 +97,7 @@ fn plain_word(whole: &Whole, said: &Option<Said>) -> Word
             let address = u64::from(address_value(whole, *address));
             let tag = u64::from(tag.unwrap_or(0));
             let decrement = u64::from(decrement.unwrap_or(0));
-            match Word::from_bits((decrement << 18) + (tag << 15) + address) {
-                Ok(word) => word,
-                Err(_) => unreachable!(),
-            }
+            Word::of((decrement << 18) + (tag << 15) + address)
         }
         _ => Word::default(),
     }

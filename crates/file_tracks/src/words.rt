@@ -14,10 +14,7 @@ pub(crate) fn as_words(alloc: Global, bits: &[u64]) -> Result<Vec<Word>, NoMemor
 {
     let mut words = Vec::with_capacity(alloc, bits.len())?;
     for word in bits {
-        match Word::from_bits(*word) {
-            Ok(word) => words.push(word)?,
-            Err(_) => unreachable!(),
-        }
+        words.push(Word::of(*word))?;
     }
     Ok(words)
 }

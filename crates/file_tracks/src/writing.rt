@@ -8,9 +8,9 @@ ghost use Rattle.file_tracks.specs.Stored.{body_on, files_on, IsDirectory, Stand
 ghost use Rattle.file_tracks.specs.Seen.{tells_of};
 ghost use Rattle.file_tracks.specs.declared.table.Filed.{Filed};
 
-use crate::patches::{extend_tracks, patched, swap_tracks};
+use crate::patches::{rewritten, written_over};
 use crate::table::{Filed, TrackTable};
-use crate::words::{copied, padded, room_for_tracks, tracks_for, used_after};
+use crate::words::{tracks_for, used_after};
 use ctss_types::{FileName, NoMemory, Refusal, StepFault};
 use file_map::PortFault;
 use medium::Medium;
@@ -71,16 +71,12 @@ fn replace_in<F: Medium>(
     let Some(used) = used_after(table.used, table.quota, before, after) else {
         return Err(PortFault::Refused(Refusal::Quota));
     };
-    let Ok(bits) = padded(alloc, words, after as usize) else {
-        return Err(PortFault::NoMemory);
-    };
-    let Ok(fresh) = room_for_tracks(alloc, after as usize) else {
-        return Err(PortFault::NoMemory);
+    let tracks = match rewritten(alloc, store, &file.tracks, after as usize, words) {
+        Ok(tracks) => tracks,
+        Err(StepFault::NoMemory) => return Err(PortFault::NoMemory),
+        Err(StepFault::Disk) => return Err(PortFault::Disk),
     };
     let file = &mut table.files[at];
-    let Ok(tracks) = swap_tracks(store, &file.tracks, fresh, after as usize, &bits) else {
-        return Err(PortFault::Disk);
-    };
     file.words = words.len() as u64;
     file.tracks = tracks;
     table.used = used;
@@ -138,29 +134,16 @@ fn write_at<F: Medium>(
     if place > file.words {
         return Err(PortFault::Refused(Refusal::PastEnd));
     }
-    let before = file.tracks.len();
-    let end = place + words.len() as u64;
-    let len = file.words.max(end);
+    let before = file.tracks.len() as u64;
+    let len = file.words.max(place + words.len() as u64);
     let after = tracks_for(len);
-    let Some(used) = used_after(table.used, table.quota, before as u64, after) else {
+    let Some(used) = used_after(table.used, table.quota, before, after) else {
         return Err(PortFault::Refused(Refusal::Quota));
     };
-    let from = (place / 432) as usize;
-    let to = end.div_ceil(432) as usize;
-    let kept = to.min(before);
-    let fresh = after as usize - before;
-    let Ok(tracks) = copied(alloc, &file.tracks, after as usize) else {
-        return Err(PortFault::NoMemory);
-    };
-    let first = place as usize - 432 * from;
-    let part = &file.tracks[from..kept];
-    let patch = match patched(alloc, store, part, to - from, first, words) {
-        Ok(patch) => patch,
+    let tracks = match written_over(alloc, store, &file.tracks, after as usize, place, words) {
+        Ok(tracks) => tracks,
         Err(StepFault::NoMemory) => return Err(PortFault::NoMemory),
         Err(StepFault::Disk) => return Err(PortFault::Disk),
-    };
-    let Ok(tracks) = extend_tracks(store, tracks, fresh, from, to, &patch) else {
-        return Err(PortFault::Disk);
     };
     let file = &mut table.files[at];
     file.words = len;
@@ -235,17 +218,13 @@ fn make<F: Medium>(
     let Some(used) = used_after(table.used, table.quota, 0, after) else {
         return Err(PortFault::Refused(Refusal::Quota));
     };
-    let Ok(bits) = padded(alloc, words, after as usize) else {
-        return Err(PortFault::NoMemory);
-    };
-    let Ok(fresh) = room_for_tracks(alloc, after as usize) else {
-        return Err(PortFault::NoMemory);
-    };
     let Ok(()) = room_for_file(table) else {
         return Err(PortFault::NoMemory);
     };
-    let Ok(tracks) = swap_tracks(store, &[], fresh, after as usize, &bits) else {
-        return Err(PortFault::Disk);
+    let tracks = match rewritten(alloc, store, &[], after as usize, words) {
+        Ok(tracks) => tracks,
+        Err(StepFault::NoMemory) => return Err(PortFault::NoMemory),
+        Err(StepFault::Disk) => return Err(PortFault::Disk),
     };
     let file = Filed {
         name,

@@ -1,11 +1,11 @@
-use Rattle.std.proofs.Common.{◌≡◌, ℕ, suc, zero, ◌+◌, ◌<◌, ◌≤◌, Bool, true, false, cond, not, ◌||◌, nat_eq, List, [], ◌∷◌, ◌++◌, length, get_or, set, map, filter, take, drop, Option, Some, None, IfSome, refl, sym, ◌∙◌, ap, subst, arith, length-set}
+use Rattle.std.proofs.Common.{◌≡◌, ℕ, suc, zero, ◌+◌, ◌<◌, ◌≤◌, Bool, true, false, cond, not, ◌||◌, nat_eq, List, [], ◌∷◌, ◌++◌, length, get_or, set, map, take, drop, Option, Some, None, IfSome, refl, sym, ◌∙◌, ap, subst, arith, length-set}
 use Rattle.std.proofs.lemmas.List.{length-map}
 use Rattle.std.specs.List.{list_any, IsDistinct, AllByRecursion}
-use Rattle.std.proofs.lemmas.Bool.Decides.{nat_tests, eqb_tells}
+use Rattle.std.proofs.lemmas.Bool.Decides.{nat_tests}
 use Rattle.std.proofs.lemmas.Map.Steps.{length-le_from_distinct_below}
 use Rattle.std.proofs.lemmas.List.Edits.{map_over_more}
 use Rattle.ctss_types.specs.declared.session.Waiting.{Waiting}
-use Rattle.plan_model.specs.Levels.{Levels, is_user, is_in, without_user, one_less, waits, dropped, drop_user, enter_at, first_of}
+use Rattle.plan_model.specs.Levels.{Levels, is_user, is_in, without_user, waits, dropped, first_of}
 use Rattle.plan_model.specs.Spent.{less}
 use Rattle.level_queues.specs.Sound.{times, count, IsSound}
 

@@ -1,9 +1,9 @@
 -- Ticks that go by for one user, who stands in the rows at most once; and rows without users at the front.
-use Rattle.std.proofs.Common.{◌≡◌, ℕ, suc, zero, ◌+◌, ◌-◌, ◌<◌, ◌≤◌, Bool, true, false, cond, ◌||◌, nat_eq, List, [], ◌∷◌, length, get_or, set, map, drop, min, Option, Some, None, refl, sym, ◌∙◌, ap, subst, arith}
+use Rattle.std.proofs.Common.{◌≡◌, ℕ, suc, zero, ◌+◌, ◌-◌, ◌<◌, ◌≤◌, Bool, true, false, cond, ◌||◌, nat_eq, List, [], ◌∷◌, length, get_or, set, map, drop, refl, sym, ◌∙◌, ap, subst, arith}
 use Rattle.std.specs.List.{list_any}
 use Rattle.std.proofs.lemmas.Bool.Decides.{nat_tests}
 use Rattle.ctss_types.specs.declared.session.Waiting.{Waiting}
-use Rattle.plan_model.specs.Levels.{is_user, is_in, without_user, first_of, head_of}
+use Rattle.plan_model.specs.Levels.{is_user, is_in, without_user, first_of}
 use Rattle.plan_model.specs.Spent.{less}
 use Rattle.level_queues.specs.Sound.{times, count, AreEmpty}
 use Rattle.level_queues.proofs.Counts.{none_times, none_count}

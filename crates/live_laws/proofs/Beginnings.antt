@@ -5,7 +5,7 @@ use Rattle.std.proofs.lemmas.List.{append-nil}
 use Rattle.time_sharing.specs.Machine.{Machine, Line, Item, Reply, CutKind, Quit, Hang, Spent, End}
 use Rattle.time_sharing.specs.Rows.{machine}
 use Rattle.time_sharing.specs.System as system
-use Rattle.time_sharing.specs.System.{SystemState, World, Timed, Service, Entry, Console, Event, Off, On, Password, Session, Dials, Types, Quits, Hangs, state_of}
+use Rattle.time_sharing.specs.System.{SystemState, World, Timed, Service, Console, Event, Off, On, Password, Session, Dials, Types, Quits, Hangs, state_of}
 use Rattle.time_sharing.specs.Record as whole
 use Rattle.user_model.specs.User.{User}
 use Rattle.user_model.specs.Session.{user_rows, nobody}

@@ -1,5 +1,5 @@
 -- What a run leaves behind the talk that was had over it.
-use Rattle.std.proofs.Common.{◌≡◌, ℕ, ◌*◌, ◌≤◌, true, false, List, [], ◌++◌, length, map, replicate, Ok, Err, refl, sym, subst, arith}
+use Rattle.std.proofs.Common.{◌≡◌, ℕ, ◌*◌, ◌≤◌, true, false, List, [], ◌++◌, length, map, replicate, Ok, Err, refl, sym, ap, subst, ◌∙◌, arith}
 use Rattle.std.specs.Prelude.{OnOk, OnErr, IfOk, IfErr, is_err}
 use Rattle.std.specs.declared.result.Result.{Result}
 use Rattle.faults.specs.Faults.{Rose, WhereTold}
@@ -26,8 +26,15 @@ use Rattle.console_server.specs.History.{heard_in}
 use Rattle.console_server.specs.Server.{IsCause, CutAt, Waiting, Hanging, Accepting, Dialling, Reading, Advancing, MayMeet, GivenUntil, ends_with}
 use Rattle.console_server.specs.Conversation.{events_of_turns, desk_behind, texts_behind}
 use Rattle.live_serve.specs.Talks.{empty_desk, IsTalk, TalkIsDone, TalkIsCut}
-use Rattle.live_serve.specs.Live.{IsLiveRecord, IsStopped, IsLost, IsServed, IsLeft, AtStart, InTurn, AtEnd}
+use Rattle.live_serve.specs.Live.{IsLiveRecord, IsStopped, IsLost, IsServed, RunEnds, AtStart, InTurn, AtEnd}
 use Rattle.live_serve.specs.declared.ending.Served.{Served}
+use Rattle.live_serve.specs.declared.ending.Served.TheVariants.{Done, DrumFailed, DiskFailed}
+use Rattle.live_run.specs.declared.ending.Played.{Played}
+use Rattle.live_run.specs.declared.ending.Played.TheVariants as played
+use Rattle.live_run.specs.Finishes.{Finishes, IfDone, OnTheWay, BehindTheEnd}
+use Rattle.ctss_types.specs.declared.fault.RunFault.{RunFault}
+use Rattle.ctss_types.specs.declared.fault.RunFault.TheVariants.{Drum, Disk}
+use Rattle.user_cores.specs.Backing.{BackState}
 use Rattle.live_serve.proofs.Behind.{disk_rises}
 use Rattle.live_serve.proofs.Ends.{live_record, stops_in_turn, lost_in_turn, lost_at_end}
 
@@ -72,6 +79,15 @@ of_disk Advancing is = refl
 
 abbrev blank : List (List ℕ)
 blank = replicate 32 []
+
+-- what is served, with the events that people gave
+abbrev pub as_served : List Timed → Played → Served
+as_served events (played.Done rec) = Done events rec
+as_served events (played.DrumFailed rec) = DrumFailed rec
+as_served events (played.DiskFailed rec) = DiskFailed rec
+
+no_fault : (run : Result Unit RunFault) (x : Unit) (fault : RunFault) → run ≡ Ok x → run ≡ Err fault → ⊥
+no_fault run x fault ended failed = let wrong = sym ended ∙ failed in cc
 
 module _ (base : Script) (was now : MediaSeen) (a b : Whole) (begins : Begins base was.tells a) {C : Type 0} (goes : C → List CoreCall → C → Type 0) (old new : C) (follow : (calls : List CoreCall) → goes old calls new → Follows calls a b)
     (was_is : a.back.calls ≡ was.drum_calls) (port count : ℕ) where
@@ -133,17 +149,58 @@ module _ (base : Script) (was now : MediaSeen) (a b : Whole) (begins : Begins ba
         cause = rose;
       }
 
-  -- whatever failed in a turn
-  pub cut_served : (was_drum : a.back.faults ≡ was.drum_faults) (was_disk : was.disk_faults ≤ a.back.disk_faults)
-      → b.back.calls ≡ now.drum_calls → b.back.faults ≡ now.drum_faults → b.back.disk_faults ≡ now.disk_faults
-      → (fault : ServeFault) (j k m : LinkSeen) → TalkIsCut goes a.bare.texts count fault k m old new → IsCause fault k m (seen_of a) (seen_of b)
-      → (rec : Record) → rec ≡ record_so_far (run_apart b) → (s : Served) → IsLeft fault rec s → IsServed base port count was now j m s
-  cut_served was_drum was_disk calls drum disk serve.Link j k m talk cause rec is s left = absurd left
-  cut_served was_drum was_disk calls drum disk serve.NoMemory j k m talk cause rec is s left = absurd left
-  cut_served was_drum was_disk calls drum disk serve.Drum j k m talk cause rec is s left =
-      subst (IsServed base port count was now j m) (sym left) (stopped k m rec talk is calls (rose_as a.back.faults b.back.faults was.drum_faults now.drum_faults was_drum cause drum))
-  cut_served was_drum was_disk calls drum disk serve.Disk j k m talk cause rec is s left =
-      subst (IsServed base port count was now j m) (sym left) (lost j k m rec talk is (omega (arith, was_disk, cause, disk)))
+  -- whatever a run hands out behind its turns, over drum and disk as they are then
+  module _ (was_drum : a.back.faults ≡ was.drum_faults) (was_disk : was.disk_faults ≤ a.back.disk_faults) (last : BackState) (same_calls : last.calls ≡ b.back.calls) (same_faults : last.faults ≡ b.back.faults)
+      (calls : last.calls ≡ now.drum_calls) (drum : last.faults ≡ now.drum_faults) (disk : last.disk_faults ≡ now.disk_faults) (events : List Timed) (k l m : LinkSeen) (opened : Did (DidOpen port false) k l) where
+    abbrev Lie : Record → Type 0
+    Lie rec = WhereTold now.disk_contents (λ contents. LieOn contents rec.files rec.common)
+
+    done_served : (x : Unit) (run : Result Unit RunFault) → run ≡ Ok x → TalkIsDone goes a.bare.texts count events l m old new
+        → (p : Played) → Finishes run b.bare b.back last p → IfDone p Lie → IsServed base port count was now k m (as_served events p)
+    done_served x run is talk (played.Done rec) f lie = served events events k l m rec refl opened talk f.ends (sym same_calls ∙ calls) lie
+    done_served x run is talk (played.DrumFailed rec) f lie = absurd (no_fault run x Drum is f.ended_is)
+    done_served x run is talk (played.DiskFailed rec) (OnTheWay f) lie = absurd (no_fault run x Disk is f.ended_is)
+    done_served x run is talk (played.DiskFailed rec) (BehindTheEnd f) lie = lost_behind was_disk events k l m rec opened talk f.ends.said (rose_as b.back.disk_faults last.disk_faults b.back.disk_faults now.disk_faults refl f.ends.cause disk)
+
+    drum_served : (run : Result Unit RunFault) → run ≡ Err Drum → TalkIsCut goes a.bare.texts count serve.Drum l m old new → Rose a.back.faults b.back.faults
+        → (p : Played) → Finishes run b.bare b.back last p → IfDone p Lie → IsServed base port count was now k m (as_served events p)
+    drum_served run is talk cause (played.Done rec) f lie = absurd (no_fault run f.nothing Drum f.ended_is is)
+    drum_served run is talk cause (played.DrumFailed rec) f lie = stopped l m rec talk f.shown (sym same_calls ∙ calls) (rose_as a.back.faults b.back.faults was.drum_faults now.drum_faults was_drum cause (sym same_faults ∙ drum))
+    drum_served run is talk cause (played.DiskFailed rec) (OnTheWay f) lie = absurd (let wrong = sym is ∙ f.ended_is in cc)
+    drum_served run is talk cause (played.DiskFailed rec) (BehindTheEnd f) lie = absurd (no_fault run f.nothing Drum f.ended_is is)
+
+    disk_served : (run : Result Unit RunFault) → run ≡ Err Disk → TalkIsCut goes a.bare.texts count serve.Disk l m old new → Rose a.back.disk_faults b.back.disk_faults
+        → (p : Played) → Finishes run b.bare b.back last p → IfDone p Lie → IsServed base port count was now k m (as_served events p)
+    disk_served run is talk cause (played.Done rec) f lie = absurd (no_fault run f.nothing Disk f.ended_is is)
+    disk_served run is talk cause (played.DrumFailed rec) f lie = absurd (let wrong = sym is ∙ f.ended_is in cc)
+    disk_served run is talk cause (played.DiskFailed rec) (OnTheWay f) lie =
+        let same : b.back.disk_faults ≡ now.disk_faults = ap (λ (s : BackState). s.disk_faults) (sym f.same) ∙ disk in
+        lost k l m rec talk f.shown (omega (arith, was_disk, cause, same))
+    disk_served run is talk cause (played.DiskFailed rec) (BehindTheEnd f) lie = absurd (no_fault run f.nothing Disk f.ended_is is)
+
+    pub played_served : (ended : Result Unit ServeFault) (run : Result Unit RunFault) → RunEnds ended run
+        → OnOk ended (TalkIsDone goes a.bare.texts count events l m old new) → IfErr ended (λ fault. TalkIsCut goes a.bare.texts count fault l m old new) → IfErr ended (λ fault. IsCause fault l m (seen_of a) (seen_of b))
+        → (p : Played) → Finishes run b.bare b.back last p → IfDone p Lie → IsServed base port count was now k m (as_served events p)
+    played_served (Ok x) run is done cut cause p f lie = done_served x run is done p f lie
+    played_served (Err serve.Link) run is done cut cause p f lie = absurd is
+    played_served (Err serve.Drum) run is done cut cause p f lie = drum_served run is cut cause p f lie
+    played_served (Err serve.Disk) run is done cut cause p f lie = disk_served run is cut cause p f lie
+    played_served (Err serve.NoMemory) run is done cut cause p f lie = absurd is
+
+-- what a talk keeps, however it ended
+pub talk_keeps : {C : Type 0} (keeps : C → C → Type 0) (goes : C → List CoreCall → C → Type 0) → ((a b : C) (calls : List CoreCall) → goes a calls b → keeps a b)
+    → (texts : List (List ℕ)) (count : ℕ) (events : List Timed) (l m : LinkSeen) (old new : C) (ended : Result Unit ServeFault)
+    → OnOk ended (TalkIsDone goes texts count events l m old new) → IfErr ended (λ fault. TalkIsCut goes texts count fault l m old new) → keeps old new
+talk_keeps keeps goes f texts count events l m old new (Ok x) done cut = f old new _ done.core
+talk_keeps keeps goes f texts count events l m old new (Err fault) done cut = f old new _ cut.core
+
+-- a run whose turns ended well ended well
+pub ends_ok : (ended : Result Unit ServeFault) (run : Result Unit RunFault) (P Q : Type 0) → (P → Q) → RunEnds ended run → OnOk ended P → OnOk run Q
+ends_ok (Ok x) run P Q f is h = subst (λ (r : Result Unit RunFault). OnOk r Q) (sym is) (f h)
+ends_ok (Err serve.Link) run P Q f is h = absurd is
+ends_ok (Err serve.Drum) run P Q f is h = subst (λ (r : Result Unit RunFault). OnOk r Q) (sym is) tt
+ends_ok (Err serve.Disk) run P Q f is h = subst (λ (r : Result Unit RunFault). OnOk r Q) (sym is) tt
+ends_ok (Err serve.NoMemory) run P Q f is h = absurd is
 
 -- the first files could not be written
 pub lost_at_start : (base : Script) (port turns : ℕ) (was now : MediaSeen) (a b : LinkSeen) (rec : Record) → b ≡ a → rec ≡ record_so_far (start_of base) → Rose was.disk_faults now.disk_faults → IsLost base port turns was now a b rec

@@ -1,6 +1,9 @@
 -- claim: what live consoles leave: the record of the script with their events, or that of a run which the drum or the disk stopped.
-use Rattle.std.specs.Prelude.{◌≡◌, ℕ, suc, ◌+◌, ◌*◌, ◌<◌, true, List, [], ◌∷◌, length, replicate}
+use Rattle.std.specs.Prelude.{◌≡◌, ℕ, suc, ◌+◌, ◌*◌, ◌<◌, true, List, [], ◌∷◌, length, replicate, Ok, Err}
+use Rattle.std.specs.declared.result.Result.{Result}
 use Rattle.faults.specs.Faults.{Rose, WhereTold}
+use Rattle.ctss_types.specs.declared.fault.RunFault.{RunFault}
+use Rattle.ctss_types.specs.declared.fault.RunFault.TheVariants.{Drum, Disk}
 use Rattle.ctss_types.specs.declared.script.Script.{Script}
 use Rattle.ctss_types.specs.declared.script.Timed.{Timed}
 use Rattle.ctss_types.specs.declared.history.Record.{Record}
@@ -75,9 +78,10 @@ IsServed base port turns was now a b (Done events rec) = IsLiveRecord base turns
 IsServed base port turns was now a b (DrumFailed rec) = IsStopped base turns was now rec
 IsServed base port turns was now a b (DiskFailed rec) = IsLost base port turns was now a b rec
 
--- what is left of a run in which a turn failed, of which so much is shown: nothing but for a fault of drum or disk
-abbrev pub IsLeft : ServeFault → Record → Served → Type 0
-IsLeft serve.Link rec s = ⊥
-IsLeft serve.Drum rec s = s ≡ DrumFailed rec
-IsLeft serve.Disk rec s = s ≡ DiskFailed rec
-IsLeft serve.NoMemory rec s = ⊥
+-- how a run ended whose turns ended so
+abbrev pub RunEnds : Result Unit ServeFault → Result Unit RunFault → Type 0
+RunEnds (Ok x) run = run ≡ Ok x
+RunEnds (Err serve.Link) run = ⊥
+RunEnds (Err serve.Drum) run = run ≡ Err Drum
+RunEnds (Err serve.Disk) run = run ≡ Err Disk
+RunEnds (Err serve.NoMemory) run = ⊥

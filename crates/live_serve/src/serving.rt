@@ -5,31 +5,29 @@ ghost use Rattle.drum_slots.specs.Kept.{Serves};
 ghost use Rattle.track_store.specs.Tracks.{Serves as Holds};
 ghost use Rattle.text_model.specs.Lawful.{IsLawful};
 ghost use Rattle.live_run.specs.Media.{media_seen};
-ghost use Rattle.plan_model.specs.Loads.{no_places};
-ghost use Rattle.supervisor.specs.Seen.{record_so_far, run_with};
-ghost use Rattle.live_serve.specs.Live.{IsServed, IsLeft};
+ghost use Rattle.live_serve.specs.Live.{IsServed, RunEnds};
 
 use crate::ending::Served;
 use crate::fault::ServingFault;
 use crate::talking::{Talked, talk};
 use console_link::Link;
 use console_server::ServeFault;
-use ctss_types::Script;
-use live_run::{Begun, begin};
+use ctss_types::{RunFault, Script};
+use live_run::{Begun, Played, begin, finish};
 use medium::Medium;
 use std::alloc::Global;
-use supervisor::{Closed, Supervisor};
 
-/// What is left of a run in which a turn failed.
-fn cut_off(alloc: Global, run: Supervisor, fault: ServeFault) -> Result<Served, ServingFault>
-    ensures served { IfOk result (IsLeft fault (record_so_far (run_with no_places run))) }
-    ensures link { result ≡ Err ServingFault.Link → fault ≡ ServeFault.Link }
+/// How a run ended whose turns ended so. A fault of the listener leaves none.
+fn run_ended(ended: Result<(), ServeFault>) -> Result<Result<(), RunFault>, ServingFault>
+    ensures run { IfOk result (λ run. RunEnds ended run) }
+    ensures link { result ≡ Err ServingFault.Link → ended ≡ Err ServeFault.Link }
 {
-    match fault {
-        ServeFault::Link => Err(ServingFault::Link),
-        ServeFault::Drum => Ok(Served::DrumFailed(run.stop(alloc)?)),
-        ServeFault::Disk => Ok(Served::DiskFailed(run.stop(alloc)?)),
-        ServeFault::NoMemory => Err(ServingFault::NoMemory),
+    match ended {
+        Ok(()) => Ok(Ok(())),
+        Err(ServeFault::Link) => Err(ServingFault::Link),
+        Err(ServeFault::Drum) => Ok(Err(RunFault::Drum)),
+        Err(ServeFault::Disk) => Ok(Err(RunFault::Disk)),
+        Err(ServeFault::NoMemory) => Err(ServingFault::NoMemory),
     }
 }
 
@@ -63,25 +61,20 @@ pub fn serve<D: Medium, F: Medium, L: Link>(
     if link.open(port).is_err() {
         return Err(ServingFault::Link);
     }
-    let talked = talk(alloc, run, turns, link)?;
     let Talked {
         core,
         events,
         ended,
-    } = talked;
+    } = talk(alloc, run, turns, link)?;
+    let ended = run_ended(ended)?;
     let (supervisor, mut behind) = core.into_parts();
-    if let Err(fault) = ended {
-        let (cores, files) = behind.into_parts();
-        let _ = cores.back();
-        let _ = files.back();
-        return cut_off(alloc, supervisor, fault);
-    }
-    let closed = supervisor.close(alloc, &mut behind);
+    let played = finish(alloc, supervisor, &mut behind, ended);
     let (cores, files) = behind.into_parts();
     let _ = cores.back();
     let _ = files.back();
-    match closed? {
-        Closed::Complete(record) => Ok(Served::Done { events, record }),
-        Closed::WithoutFiles(record) => Ok(Served::DiskFailed(record)),
+    match played? {
+        Played::Done(record) => Ok(Served::Done { events, record }),
+        Played::DrumFailed(record) => Ok(Served::DrumFailed(record)),
+        Played::DiskFailed(record) => Ok(Served::DiskFailed(record)),
     }
 }

@@ -1,5 +1,5 @@
+use crate::rows::holds;
 use bcd48::{char_of, code_of, is_character, pack6, text6};
-use std::process::Abort;
 
 // Each character with its code.
 static CODES: [(u8, u8); 48] = [
@@ -63,41 +63,49 @@ static PRINTED: [(u8, u8); 6] = [
     (0o77, b' '),
 ];
 
+// Words, and the characters that they print as.
 static TEXTS: [(u64, [u8; 6]); 3] = [
     (0o302543434660, *b"HELLO "),
     (0o665126436760, *b"WRFLX "),
     (0o122147777777, *b" AP   "),
 ];
 
-/// Compares whether a byte is a character, and its code.
-fn has_code(rt: &impl Abort, byte: u8, code: Option<u8>) {
-    assert_eq!(rt;
-        (is_character(byte), code_of(byte)),
-        (code.is_some(), code),
-        "{byte}"
-    );
+// Bytes that are no characters.
+static OTHERS: [u8; 7] = [b'a', b'"', b'#', b'@', b'\n', 0, 255];
+
+/// Whether a byte has this code, and is a character where it has one.
+fn has_code(byte: u8, code: Option<u8>) -> bool {
+    (is_character(byte), code_of(byte)) == (code.is_some(), code)
 }
 
 #[test]
-fn codes_are_those_of_the_table(rt: HostRuntime) {
-    for (byte, code) in &CODES {
-        has_code(&rt, *byte, Some(*code));
+fn characters_have_codes(rt: HostRuntime) {
+    for (row, (byte, code)) in CODES.iter().enumerate() {
+        holds(&rt, row, has_code(*byte, Some(*code)));
     }
-    for byte in [b'a', b'"', b'#', b'@', b'\n', 0, 255] {
-        has_code(&rt, byte, None);
+    for (row, byte) in OTHERS.iter().enumerate() {
+        holds(&rt, row, has_code(*byte, None));
     }
-    for (code, byte) in &PRINTED {
+}
+
+#[test]
+fn codes_are_printed(rt: HostRuntime) {
+    for (row, (code, byte)) in PRINTED.iter().enumerate() {
         assert!(rt; *code < 64);
-        assert_eq!(rt; char_of(*code), *byte, "{code}");
+        holds(&rt, row, char_of(*code) == *byte);
     }
 }
 
 #[test]
-fn packs_and_prints(rt: HostRuntime) {
+fn packs(rt: HostRuntime) {
     let hello = pack6(&[0o30, 0o25, 0o43, 0o43, 0o46, 0o60]);
-    assert_eq!(rt; hello, 0o302543434660);
-    for (word, text) in &TEXTS {
+    assert!(rt; hello == 0o302543434660);
+}
+
+#[test]
+fn prints_words(rt: HostRuntime) {
+    for (row, (word, text)) in TEXTS.iter().enumerate() {
         assert!(rt; *word < 1 << 36);
-        assert_eq!(rt; text6(*word), *text);
+        holds(&rt, row, text6(*word) == *text);
     }
 }

@@ -14,7 +14,11 @@ mod registers;
 #[cfg(test)]
 mod relocation;
 #[cfg(test)]
+mod rows;
+#[cfg(test)]
 mod shifts;
+#[cfg(test)]
+mod signed;
 #[cfg(test)]
 mod sums;
 #[cfg(test)]

@@ -1,3 +1,5 @@
+use crate::rows::holds;
+use crate::signed::bits_of;
 use opcode_table::{Class, Instr, Kind, Op, class, decode, encode, kind, op_named};
 use std::test::Fail;
 use word36::Word;
@@ -36,6 +38,7 @@ static INSTRUCTIONS: [(u64, Instr); 3] = [
     ),
 ];
 
+// Words, and the operations of those that are instructions.
 static OPERATIONS: [(u64, Option<Op>); 12] = [
     // one of the two bits of the flag is no flag
     (0o050040000005, Some(Op::Cla)),
@@ -53,49 +56,70 @@ static OPERATIONS: [(u64, Option<Op>); 12] = [
     (0o400000000000, None),
 ];
 
-#[test]
-fn decodes_and_encodes(rt: HostRuntime) -> Result<(), Fail> {
-    for (bits, instr) in &INSTRUCTIONS {
-        let decoded = decode(Word::from_bits(*bits)?);
-        let encoded = match &decoded {
-            Some(instr) => encode(instr).bits(),
-            None => 0,
-        };
-        assert_eq!(rt; (decoded, encoded), (Some(*instr), *bits));
+/// Whether the word and the instruction are each other's.
+fn is_coded(word: Word, want: &Instr) -> bool {
+    match decode(word) {
+        Some(instr) => instr == *want && encode(&instr) == word,
+        None => false,
     }
-    Ok(())
 }
 
 #[test]
-fn tells_what_is_an_operation(rt: HostRuntime) -> Result<(), Fail> {
-    for (bits, op) in &OPERATIONS {
-        let decoded = decode(Word::from_bits(*bits)?);
-        assert_eq!(rt; decoded.map(|instr| instr.op), *op, "{bits:o}");
+fn decodes_and_encodes(rt: HostRuntime) {
+    for (row, (bits, instr)) in INSTRUCTIONS.iter().enumerate() {
+        holds(&rt, row, is_coded(bits_of(&rt, *bits), instr));
     }
-    let half = decode(Word::from_bits(0o050040000005)?);
-    assert!(rt; half.is_some_and(|instr| !instr.flag));
-    Ok(())
+}
+
+/// The operation of a word, if it is an instruction.
+fn operation(word: Word) -> Option<Op> {
+    match decode(word) {
+        Some(instr) => Some(instr.op),
+        None => None,
+    }
 }
 
 #[test]
-fn knows_names_and_kinds(rt: HostRuntime) -> Result<(), Fail> {
-    let named = [
-        op_named(b"TIA   "),
-        op_named(b"DCT   "),
-        op_named(b"FOO   "),
-        op_named(b"TIA\0\0\0"),
-    ];
-    let kinds = [kind(Op::Xec), kind(Op::Tia)];
-    let classes = [class(Op::Tix), class(Op::Pbt)];
-    assert_eq!(rt;
-        (named, kinds, classes),
-        (
-            [Some(Op::Tia), Some(Op::Dct), None, None],
-            [Kind::Xec, Kind::Tia],
-            [Class::Prefixed, Class::Group]
-        )
-    );
+fn tells_what_is_an_operation(rt: HostRuntime) {
+    for (row, (bits, op)) in OPERATIONS.iter().enumerate() {
+        holds(&rt, row, operation(bits_of(&rt, *bits)) == *op);
+    }
+}
+
+#[test]
+fn half_a_flag_is_none(rt: HostRuntime) {
+    match decode(Word::of(0o050040000005)) {
+        Some(instr) => assert!(rt; !instr.flag),
+        None => panic!(rt; "no instruction"),
+    }
+}
+
+// Names, and the operations that have them.
+static NAMES: [(&[u8; 6], Option<Op>); 4] = [
+    (b"TIA   ", Some(Op::Tia)),
+    (b"DCT   ", Some(Op::Dct)),
+    (b"FOO   ", None),
+    (b"TIA\0\0\0", None),
+];
+
+#[test]
+fn knows_names(rt: HostRuntime) {
+    for (row, (name, op)) in NAMES.iter().enumerate() {
+        holds(&rt, row, op_named(name) == *op);
+    }
+}
+
+#[test]
+fn knows_kinds_and_classes(rt: HostRuntime) {
+    assert!(rt; kind(Op::Xec) == Kind::Xec);
+    assert!(rt; kind(Op::Tia) == Kind::Tia);
+    assert!(rt; class(Op::Tix) == Class::Prefixed);
+    assert!(rt; class(Op::Pbt) == Class::Group);
+}
+
+#[test]
+fn prints_names(rt: HostRuntime) -> Result<(), Fail> {
     let text = format!(in rt.alloc(); "{} {}", Op::Cla, Op::Dct)?;
-    assert_eq!(rt; text.as_str(), "CLA DCT");
+    assert!(rt; text.as_str() == "CLA DCT");
     Ok(())
 }

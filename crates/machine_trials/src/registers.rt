@@ -1,18 +1,18 @@
+use crate::rows::holds;
 use cpu_regs::{IndexRegisters, Regs};
 use word36::Word;
 
 #[test]
 fn registers_begin_at_zero(rt: HostRuntime) {
     let regs = Regs::new();
-    assert_eq!(rt;
-        [regs.ac.negative(), regs.overflow, regs.divide_check],
-        [false; 3]
-    );
-    assert_eq!(rt;
-        (regs.ac.magnitude(), regs.mq, regs.ic, regs.xr(7)),
-        (0, Word::signed(false, 0), 0, 0)
-    );
+    assert!(rt; !regs.ac.negative() && !regs.overflow && !regs.divide_check);
+    assert!(rt; regs.ac.magnitude() == 0 && regs.mq == Word::signed(false, 0));
+    assert!(rt; regs.ic == 0 && regs.xr(7) == 0);
+    assert!(rt; IndexRegisters::new().get(3) == 0);
 }
+
+// Tags, and what the registers that they name hold.
+static HELD: [(u8, u16); 4] = [(0, 0), (1, 5), (2, 0), (7, 32767)];
 
 #[test]
 fn tags_name_index_registers(rt: HostRuntime) {
@@ -20,15 +20,9 @@ fn tags_name_index_registers(rt: HostRuntime) {
     regs.set_xr(1, 5);
     regs.set_xr(7, 32767);
     regs.set_xr(0, 9);
-    assert_eq!(rt;
-        [
-            regs.xr(0),
-            regs.xr(1),
-            regs.xr(2),
-            regs.xr(7),
-            IndexRegisters::new().get(3)
-        ],
-        [0, 5, 0, 32767, 0]
-    );
+    for (row, (tag, held)) in HELD.iter().enumerate() {
+        assert!(rt; *tag < 8);
+        holds(&rt, row, regs.xr(*tag) == *held);
+    }
     assert!(rt; regs != Regs::new());
 }

@@ -1,3 +1,4 @@
+use crate::rows::holds;
 use reloc_protect::{Outside, Registers};
 
 // The first block and the blocks of a program, an address, and where that lies in core.
@@ -23,15 +24,15 @@ static ADDRESSES: [(u8, u8, u16, Result<u16, Outside>); 16] = [
 
 #[test]
 fn maps_addresses(rt: HostRuntime) {
-    for (base, blocks, address, at) in &ADDRESSES {
+    for (row, (base, blocks, address, at)) in ADDRESSES.iter().enumerate() {
         assert!(rt; *base <= 128 && *blocks <= 128 - *base);
         let registers = Registers::new(*base, *blocks);
-        assert_eq!(rt;
-            registers.map(*address),
-            *at,
-            "{address} of {blocks} from {base}"
-        );
+        holds(&rt, row, registers.map(*address) == *at);
     }
+}
+
+#[test]
+fn registers_compare(rt: HostRuntime) {
     assert!(rt; Registers::new(128, 0) != Registers::new(0, 0));
     assert!(rt; Registers::new(3, 2) == Registers::new(3, 2));
 }

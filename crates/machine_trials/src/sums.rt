@@ -1,3 +1,5 @@
+use crate::rows::holds;
+use crate::signed::{Signed, acc_of, word_of};
 use arith36::{
     Divide, Pair, Side, Sum, acl, add, add_magnitude, compare, compare_logical, dvp, mpr, mpy,
     round, sub, sub_magnitude,
@@ -5,11 +7,8 @@ use arith36::{
 use std::process::Abort;
 use word36::{Acc, Word};
 
-/// A sign, minus where it is `true`, and a magnitude.
-type Signed = (bool, u64);
-
 /// An operation on the accumulator and a word.
-#[derive(Clone, Copy, Debug)]
+#[derive(Clone, Copy)]
 enum Operation {
     Add,
     Sub,
@@ -20,8 +19,10 @@ enum Operation {
 
 use Operation::{Add, AddMagnitude, Round, Sub, SubMagnitude};
 
-// An operation, the accumulator and the word, and the sum with its overflow.
-static SUMS: [(Operation, Signed, Signed, Signed, bool); 9] = [
+/// An operation, the accumulator and the word, and the sum with its overflow.
+type SumRow = (Operation, Signed, Signed, Signed, bool);
+
+static SUMS: [SumRow; 9] = [
     (Add, (true, 5), (false, 5), (true, 0), false),
     (Add, (true, 5), (false, 7), (false, 2), false),
     (Sub, (true, 5), (false, 7), (true, 12), false),
@@ -52,9 +53,11 @@ static SUMS: [(Operation, Signed, Signed, Signed, bool); 9] = [
     (Round, (true, 1 << 35), (true, 15), (true, 1 << 35), false),
 ];
 
-// A dividend in the accumulator and the multiplier-quotient, the divisor, and the remainder and the quotient, if
-// the divisor is great enough.
-static DIVISIONS: [(Signed, Signed, Signed, Option<(Signed, Signed)>); 3] = [
+/// A dividend in the accumulator and the multiplier-quotient, the divisor, and the remainder and the quotient, if
+/// the divisor is great enough.
+type Division = (Signed, Signed, Signed, Option<(Signed, Signed)>);
+
+static DIVISIONS: [Division; 3] = [
     ((false, 5), (false, 0), (false, 5), None),
     ((true, 0), (false, 1), (true, 0), None),
     (
@@ -80,16 +83,6 @@ static LOGICAL_COMPARISONS: [(Signed, Signed, Side); 3] = [
     ((false, 0), (true, 0), Side::Less),
 ];
 
-fn acc_of(rt: &impl Abort, (negative, magnitude): Signed) -> Acc {
-    assert!(rt; magnitude < 1 << 37);
-    Acc::new(negative, magnitude)
-}
-
-fn word_of(rt: &impl Abort, (negative, magnitude): Signed) -> Word {
-    assert!(rt; magnitude < 1 << 35);
-    Word::signed(negative, magnitude)
-}
-
 fn sum_of(operation: Operation, acc: Acc, word: Word) -> Sum {
     match operation {
         Add => add(acc, word),
@@ -100,72 +93,73 @@ fn sum_of(operation: Operation, acc: Acc, word: Word) -> Sum {
     }
 }
 
+fn is_sum(rt: &impl Abort, (operation, acc, word, sum, overflow): SumRow) -> bool {
+    let want = Sum {
+        acc: acc_of(rt, sum),
+        overflow,
+    };
+    sum_of(operation, acc_of(rt, acc), word_of(rt, word)) == want
+}
+
 #[test]
 fn sums_keep_signs_and_carry_into_p(rt: HostRuntime) {
-    for (operation, acc, word, sum, overflow) in &SUMS {
-        let (acc, word) = (acc_of(&rt, *acc), word_of(&rt, *word));
-        let sum = Sum {
-            acc: acc_of(&rt, *sum),
-            overflow: *overflow,
-        };
-        assert_eq!(rt;
-            sum_of(*operation, acc, word),
-            sum,
-            "{operation:?} of {acc:?} and {word:?}"
-        );
+    for (row, sum) in SUMS.iter().enumerate() {
+        holds(&rt, row, is_sum(&rt, *sum));
     }
-    // the carry out of P comes round; S and Q are one before
+}
+
+#[test]
+fn the_carry_out_of_p_comes_round(rt: HostRuntime) {
+    // S and Q are one before
     let ones = Acc::new(true, 0o1777777777777);
-    assert_eq!(rt;
-        acl(ones, Word::signed(false, 1)),
-        Acc::new(true, 0o1000000000001)
-    );
+    let sum = acl(ones, Word::signed(false, 1));
+    assert!(rt; sum == Acc::new(true, 0o1000000000001));
 }
 
 #[test]
 fn multiplies(rt: HostRuntime) {
-    let three = Word::signed(false, 3);
-    let five = Word::signed(false, 5);
+    let product = mpy(Word::signed(true, 3), Word::signed(false, 5));
+    assert!(rt; product.acc == Acc::new(true, 0) && product.mq == Word::signed(true, 15));
     let half = Word::signed(false, 1 << 34);
-    assert_eq!(rt;
-        [mpy(Word::signed(true, 3), five), mpr(half, three)],
-        [
-            Pair {
-                acc: Acc::new(true, 0),
-                mq: Word::signed(true, 15),
-            },
-            Pair {
-                acc: Acc::new(false, 2),
-                mq: half,
-            },
-        ]
-    );
+    let rounded = mpr(half, Word::signed(false, 3));
+    assert!(rt; rounded.acc == Acc::new(false, 2) && rounded.mq == half);
+}
+
+/// What comes of a division with these parts.
+fn division(rt: &impl Abort, parts: Option<(Signed, Signed)>) -> Divide {
+    match parts {
+        Some((acc, mq)) => Divide::Divided(Pair {
+            acc: acc_of(rt, acc),
+            mq: word_of(rt, mq),
+        }),
+        None => Divide::Check,
+    }
+}
+
+fn is_division(rt: &impl Abort, (acc, mq, divisor, parts): Division) -> bool {
+    let divided = dvp(acc_of(rt, acc), word_of(rt, mq), word_of(rt, divisor));
+    divided == division(rt, parts)
 }
 
 #[test]
 fn divides(rt: HostRuntime) {
-    for (acc, mq, word, parts) in &DIVISIONS {
-        let divisor = word_of(&rt, *word);
-        let divided = dvp(acc_of(&rt, *acc), word_of(&rt, *mq), divisor);
-        let want = match *parts {
-            Some((acc, mq)) => Divide::Divided(Pair {
-                acc: acc_of(&rt, acc),
-                mq: word_of(&rt, mq),
-            }),
-            None => Divide::Check,
-        };
-        assert_eq!(rt; divided, want, "by {divisor:?}");
+    for (row, parts) in DIVISIONS.iter().enumerate() {
+        holds(&rt, row, is_division(&rt, *parts));
     }
 }
 
 #[test]
 fn compares_with_minus_zero_below_plus_zero(rt: HostRuntime) {
-    for (acc, word, side) in &COMPARISONS {
-        let (acc, word) = (acc_of(&rt, *acc), word_of(&rt, *word));
-        assert_eq!(rt; compare(acc, word), *side, "{acc:?} to {word:?}");
+    for (row, (acc, word, side)) in COMPARISONS.iter().enumerate() {
+        let found = compare(acc_of(&rt, *acc), word_of(&rt, *word));
+        holds(&rt, row, found == *side);
     }
-    for (acc, word, side) in &LOGICAL_COMPARISONS {
-        let (acc, word) = (acc_of(&rt, *acc), word_of(&rt, *word));
-        assert_eq!(rt; compare_logical(acc, word), *side, "{acc:?} to {word:?}");
+}
+
+#[test]
+fn compares_all_of_a_word(rt: HostRuntime) {
+    for (row, (acc, word, side)) in LOGICAL_COMPARISONS.iter().enumerate() {
+        let found = compare_logical(acc_of(&rt, *acc), word_of(&rt, *word));
+        holds(&rt, row, found == *side);
     }
 }

@@ -1,86 +1,80 @@
+use crate::rows::holds;
+use crate::signed::bits_of;
+use std::alloc::Global;
 use std::test::Fail;
 use word36::{Acc, TooWide, Word};
 
 #[test]
-fn takes_a_word_apart(rt: HostRuntime) -> Result<(), Fail> {
+fn takes_a_word_apart(rt: HostRuntime) {
     // `TSX 3,4`: the prefix 0, the decrement 07400, the tag 4, the address 00003
-    let call = Word::from_bits(0o007400400003)?;
-    let fields = (call.prefix(), call.decrement(), call.tag(), call.address());
-    assert_eq!(rt;
-        (fields, call.bits(), call.negative(), call.magnitude()),
-        ((0, 0o07400, 4, 3), 0o007400400003, false, 0o007400400003)
-    );
-    Ok(())
+    let call = Word::of(0o007400400003);
+    assert!(rt; call.prefix() == 0 && call.decrement() == 0o07400);
+    assert!(rt; call.tag() == 4 && call.address() == 3);
+    assert!(rt; !call.negative() && call.magnitude() == 0o007400400003);
+    assert!(rt; call.bits() == 0o007400400003);
+}
+
+#[test]
+fn minus_zero_has_a_sign(rt: HostRuntime) {
+    let minus_zero = Word::signed(true, 0);
+    assert!(rt; minus_zero.bits() == 0o400000000000 && minus_zero.prefix() == 4);
+    assert!(rt; minus_zero.negative() && minus_zero.magnitude() == 0);
+    assert!(rt; minus_zero != Word::default());
 }
 
 #[test]
 fn puts_a_word_together(rt: HostRuntime) {
-    let minus_zero = Word::signed(true, 0);
-    assert_eq!(rt;
-        (
-            minus_zero.bits(),
-            minus_zero.prefix(),
-            minus_zero.negative(),
-            minus_zero.magnitude()
-        ),
-        (0o400000000000, 4, true, 0)
-    );
-    assert!(rt; minus_zero != Word::default());
     let ones = Word::signed(true, 0o377777777777);
-    assert_eq!(rt;
-        [
-            Ok(Word::of(0o777777777777)),
-            Word::try_from(0o777777777777),
-            Word::from_bits(0o777777712345),
-            Word::from_bits(0o712345777777),
-            Word::from_bits(0o1000000000000),
-        ],
-        [
-            Ok(ones),
-            Ok(ones),
-            Ok(ones.with_address(0o12345)),
-            Ok(ones.with_decrement(0o12345)),
-            Err(TooWide),
-        ]
-    );
+    assert!(rt; Word::of(0o777777777777) == ones);
+    assert!(rt; Word::try_from(0o777777777777) == Ok(ones));
+    assert!(rt; Word::from_bits(0o777777712345) == Ok(ones.with_address(0o12345)));
+    assert!(rt; Word::from_bits(0o712345777777) == Ok(ones.with_decrement(0o12345)));
+    assert!(rt; Word::from_bits(0o1000000000000) == Err(TooWide));
 }
 
 #[test]
-fn reads_the_accumulator(rt: HostRuntime) -> Result<(), Fail> {
-    let five = Word::from_bits(5)?;
-    let minus_five = Word::from_bits(0o400000000005)?;
+fn reads_the_accumulator(rt: HostRuntime) {
     // Q and P are one
     let plus = Acc::new(false, 0o1400000000005);
-    assert_eq!(rt;
-        (
-            plus.negative(),
-            plus.magnitude(),
-            plus.word(),
-            plus.logical()
-        ),
-        (false, 0o1400000000005, five, minus_five)
-    );
+    assert!(rt; !plus.negative() && plus.magnitude() == 0o1400000000005);
+    assert!(rt; plus.word() == Word::of(5));
+    assert!(rt; plus.logical() == Word::of(0o400000000005));
+}
+
+#[test]
+fn sets_the_accumulator(rt: HostRuntime) {
     let minus = Acc::new(true, 5);
-    let mut other = plus;
+    assert!(rt; minus.negative());
+    assert!(rt; minus.word() == Word::of(0o400000000005));
+    assert!(rt; minus.logical() == Word::of(5));
+    let mut other = Acc::new(false, 0o1400000000005);
     other.set(true, 5);
-    assert_eq!(rt;
-        (minus.negative(), minus.word(), minus.logical(), other),
-        (true, minus_five, five, minus)
-    );
-    Ok(())
+    assert!(rt; other == minus);
+}
+
+// Bits, and the digits that they print as.
+static DIGITS: [(u64, &str); 3] = [
+    (0, "000000000000"),
+    (0o7400400003, "007400400003"),
+    (0o777777777777, "777777777777"),
+];
+
+/// Whether a word prints as these digits.
+fn prints_as(alloc: Global, word: Word, digits: &str) -> Result<bool, Fail> {
+    let text = format!(in alloc; "{word}")?;
+    Ok(text.as_str() == digits)
 }
 
 #[test]
 fn prints(rt: HostRuntime) -> Result<(), Fail> {
-    for (number, want) in [
-        (0, "000000000000"),
-        (0o7400400003, "007400400003"),
-        (0o777777777777, "777777777777"),
-    ] {
-        let text = format!(in rt.alloc(); "{}", Word::from_bits(number)?)?;
-        assert_eq!(rt; text.as_str(), want);
+    for (row, (bits, digits)) in DIGITS.iter().enumerate() {
+        holds(
+            &rt,
+            row,
+            prints_as(rt.alloc(), bits_of(&rt, *bits), digits)?,
+        );
     }
     let refusal = format!(in rt.alloc(); "{TooWide}")?;
-    assert_eq!(rt; refusal.as_str(), "more than 36 bits");
+    assert!(rt; refusal.as_str() == "more than 36 bits");
     Ok(())
 }

@@ -1,8 +1,8 @@
 -- What a plan owes, so that each run ends: a rise lowers the sum of the levels, and what else changes them raises it by at most 8.
-use Rattle.std.proofs.Common.{◌≡◌, ℕ, zero, suc, ◌+◌, ◌-◌, ◌*◌, ◌<◌, ◌≤◌, ◌^◌, min, Bool, true, false, cond, not, nat_eq, nat_le, List, [], ◌∷◌, ◌++◌, map, drop, set, get_or, Option, Some, None, refl, sym, ap, ◌∙◌, subst, arith}
+use Rattle.std.proofs.Common.{◌≡◌, ℕ, zero, suc, ◌+◌, ◌-◌, ◌*◌, ◌<◌, ◌≤◌, ◌^◌, min, Bool, true, false, cond, not, nat_eq, nat_le, List, [], ◌∷◌, ◌++◌, map, drop, set, get_or, Option, Some, None, refl, ap, ◌∙◌, subst, arith}
 use Rattle.std.proofs.lemmas.Bool.Decides.{nat_tests}
 use Rattle.ctss_types.specs.declared.session.Waiting.{Waiting}
-use Rattle.plan_model.specs.Levels.{Levels, greatest, level_of_words, without_user, enter_at, first_of, user_of, level_in, has_time, one_less, chosen, waits, entered, dropped, ticked, sunk, charged, woken, entered_again, command_blocks, from_now, preempted, first_that, at_or, first_with, has_waited, riser, goes_up, risen, so_much_each, levels_from, sum_of_levels}
+use Rattle.plan_model.specs.Levels.{Levels, greatest, level_of_words, without_user, first_of, user_of, level_in, has_time, one_less, chosen, waits, entered, dropped, ticked, sunk, charged, woken, entered_again, command_blocks, from_now, preempted, first_that, at_or, first_with, has_waited, riser, goes_up, risen, so_much_each, levels_from, sum_of_levels}
 
 -- a list with one more, and without a user
 each-more : (l : ℕ) (row : List Waiting) (x : Waiting) → so_much_each l (row ++ x ∷ []) ≡ so_much_each l row + l

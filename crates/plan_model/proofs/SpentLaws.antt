@@ -1,5 +1,5 @@
 -- A user that is chosen stays so while its time goes by.
-use Rattle.std.proofs.Common.{◌≡◌, ℕ, zero, suc, ◌+◌, ◌-◌, ◌<◌, Bool, true, false, cond, nat_eq, nat_lt, List, [], ◌∷◌, map, Option, Some, None, drop, refl, sym, ap, ◌∙◌, arith, eq-eqb, lt-ltb}
+use Rattle.std.proofs.Common.{◌≡◌, ℕ, suc, ◌-◌, ◌<◌, Bool, true, false, cond, nat_eq, nat_lt, List, [], ◌∷◌, map, Option, Some, None, drop, refl, ap, ◌∙◌, arith, eq-eqb, lt-ltb}
 use Rattle.ctss_types.specs.declared.session.Waiting.{Waiting}
 use Rattle.plan_model.specs.Levels.{Levels, first_of, chosen, user_of, left_in, has_time, one_less, ticked, charged, sunk, has_waited, first_that, at_or, first_with, riser}
 use Rattle.plan_model.specs.Spent.{less, spent}

@@ -1,7 +1,7 @@
 -- claim: worked rows of levels, queues and loads.
-use Rattle.std.specs.Prelude.{◌≡◌, ℕ, zero, suc, ◌*◌, Option, Some, None, List, Bool, true, false}
+use Rattle.std.specs.Prelude.{◌≡◌, ℕ, zero, suc, ◌*◌, Option, Some, None, Bool, true, false}
 use Rattle.ctss_types.specs.declared.session.Waiting.{Waiting}
-use Rattle.plan_model.specs.Levels.{Levels, level_of_words, empty_levels, chosen, entered, charged, dropped, waits, woken, preempted, riser, goes_up, risen, sum_of_levels}
+use Rattle.plan_model.specs.Levels.{Levels, level_of_words, empty_levels, chosen, entered, charged, dropped, woken, preempted, riser, goes_up, risen, sum_of_levels}
 use Rattle.plan_model.specs.Loads.{Places, no_places, loaded, given_up, dumps, reads, clears, base_for, is_moved, is_in, is_loaded}
 
 -- the levels of programs of 1, 4, 28 and 128 blocks with 1024 words a level, and of 128 blocks with one

@@ -1,4 +1,4 @@
-//! The program, run on a script with a card at fault.
+//! The program, asked to serve people over a script that has events, which it refuses.
 #![tactic(auto)]
 
 use std::process::ExitCode;

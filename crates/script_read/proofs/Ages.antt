@@ -1,5 +1,5 @@
 -- The age of a PARAM card, by whether it is 0.
-use Rattle.std.proofs.Common.{◌≡◌, ℕ, zero, suc, ◌<◌, ◌≤◌, List, [], refl, arith}
+use Rattle.std.proofs.Common.{◌≡◌, ℕ, zero, suc, ◌<◌, ◌≤◌, [], refl, arith}
 use Rattle.text_model.specs.Parts.{number}
 use Rattle.text_model.specs.Canonical.{age_text}
 

@@ -1,4 +1,4 @@
-use crate::shown::shows;
+use crate::shown::{has_bits, shows};
 use cmd_fap::{Assembly, assemble_file};
 use cmd_files::line_words;
 use ctss_types::{FileName, LineText, name_word};
@@ -46,31 +46,40 @@ static FAULTS: [&str; 4] = [
     "CARD 4 FAULT 6",
 ];
 
+fn hello() -> FileName {
+    FileName::new(name_word(b"HELLO"), name_word(b"FAP"))
+}
+
+/// Puts a card behind those of the file.
+fn append(rt: &impl Abort, files: &mut Files, card: &[u8]) -> Result<(), Fail> {
+    let words = line_words(&LineText::from_bytes(card)?);
+    assert!(rt; files.append(hello(), &words).is_ok());
+    Ok(())
+}
+
 /// What the assembler makes of these cards.
 fn assembly(rt: &impl Abort, alloc: Global, cards: &[&[u8]]) -> Result<Assembly, Fail> {
-    let hello = FileName::new(name_word(b"HELLO"), name_word(b"FAP"));
     let mut files = Files::new(alloc, 10);
     for card in cards {
-        let words = line_words(&LineText::from_bytes(card)?);
-        assert!(rt; files.append(hello, &words).is_ok());
+        append(rt, &mut files, card)?;
     }
-    Ok(assemble_file(alloc, hello, &mut files)?)
+    Ok(assemble_file(alloc, hello(), &mut files)?)
 }
 
 #[test]
 fn cards_are_assembled(rt: HostRuntime) -> Result<(), Fail> {
-    let Assembly::Deck(words) = assembly(&rt, rt.alloc(), &CARDS)? else {
-        panic!(rt; "no deck");
-    };
-    assert!(rt; words.as_slice().iter().map(|word| word.bits()).eq(DECK));
+    match &assembly(&rt, rt.alloc(), &CARDS)? {
+        Assembly::Deck(words) => has_bits(&rt, words.as_slice(), &DECK),
+        Assembly::Faults(_) => panic!(rt; "no deck"),
+    }
     Ok(())
 }
 
 #[test]
 fn faults_are_printed(rt: HostRuntime) -> Result<(), Fail> {
-    let Assembly::Faults(lines) = assembly(&rt, rt.alloc(), &FAULTY)? else {
-        panic!(rt; "no faults");
-    };
-    shows(&rt, lines.as_slice(), &FAULTS);
+    match &assembly(&rt, rt.alloc(), &FAULTY)? {
+        Assembly::Faults(lines) => shows(&rt, lines.as_slice(), &FAULTS),
+        Assembly::Deck(_) => panic!(rt; "no faults"),
+    }
     Ok(())
 }

@@ -1,4 +1,5 @@
 //! Operations on the common directory, one after another, with the reply to each.
+use crate::rows::holds;
 use common_file::apply;
 use ctss_types::{CommonOp, FileName, NoMemory, Refusal, Reply, Sequence, WordList};
 use file_map::Files;
@@ -23,7 +24,10 @@ enum Want {
     Words(&'static [u32]),
 }
 
-static OF_TWO_USERS: [(u32, u64, Act, Want); 4] = [
+/// The number of a file, a place in it, what is done there, and what is replied.
+type Row = (u32, u64, Act, Want);
+
+static OF_TWO_USERS: [Row; 4] = [
     (1, 0, Act::Write(1), Want::Done),
     (1, 1, Act::Write(2), Want::Done),
     (2, 0, Act::Write(3), Want::OverQuota),
@@ -63,14 +67,19 @@ fn reply(alloc: Global, want: Want) -> Result<Reply, NoMemory> {
     })
 }
 
+/// Does it, and says whether the reply is as it must be.
+fn goes(alloc: Global, files: &mut Files, (n, place, act, want): Row) -> Result<bool, Fail> {
+    let op = operation(alloc, n, place, act)?;
+    let found = apply(&op, files)?;
+    Ok(found == reply(alloc, want)?)
+}
+
 /// Two users write into a file of a directory of one track, a third file doesn't fit, and both words are read.
 #[test]
 fn what_two_users_write_is_read(rt: HostRuntime) -> Result<(), Fail> {
     let mut files = Files::new(rt.alloc(), 1);
-    for (row, (n, place, act, want)) in OF_TWO_USERS.iter().enumerate() {
-        let op = operation(rt.alloc(), *n, *place, *act)?;
-        let want = reply(rt.alloc(), *want)?;
-        assert!(rt; apply(&op, &mut files)? == want, "row {row}");
+    for (row, act) in OF_TWO_USERS.iter().enumerate() {
+        holds(&rt, row, goes(rt.alloc(), &mut files, *act)?);
     }
     Ok(())
 }

@@ -1,3 +1,4 @@
+use crate::rows::holds;
 use cmd_program::{PrepareFault, deck_in, fill, prepare};
 use cpu_regs::{MemoryPort, Regs};
 use ctss_types::{FileName, name_word};
@@ -31,25 +32,22 @@ fn word(decrement: u16, address: u16) -> Word {
 
 /// Prepares a file before and after it is put.
 fn prepares(rt: &impl Abort, files: &mut Files, name: FileName, deck: &[Word]) {
-    let before = prepare(name, 8, files);
-    let put = files.put(name, deck);
-    let after = prepare(name, 8, files);
-    let no_file = Err(PrepareFault::Load(LoadFault::NoFile));
-    let prepared = Ok(Deck {
+    assert!(rt; prepare(name, 8, files) == Err(PrepareFault::Load(LoadFault::NoFile)));
+    assert!(rt; files.put(name, deck).is_ok());
+    let prepared = Deck {
         start: 8,
         blocks: 1,
-    });
-    assert_eq!(rt; (before, put, after), (no_file, Ok(()), prepared));
+    };
+    assert!(rt; prepare(name, 8, files) == Ok(prepared));
 }
 
 /// Fills a core from the file.
-fn fills(rt: &impl Abort, alloc: Global, files: &mut Files, name: FileName) -> Result<(), Fail> {
-    let mut core = PlainCore::new(alloc, 1)?;
+fn fills(rt: &impl Abort, core: &mut PlainCore, files: &mut Files, name: FileName) {
     let mut regs = Regs::new();
-    let told = fill(&Fill::Deck { name, start: 8 }, &mut regs, &mut core, files);
-    let loaded = (told, regs.ic, core.load(8), core.load(9));
-    assert_eq!(rt; loaded, (Ok(()), 8, Ok(word(0, 5)), Ok(word(0, 6))));
-    Ok(())
+    assert!(rt; fill(&Fill::Deck { name, start: 8 }, &mut regs, core, files).is_ok());
+    assert!(rt; regs.ic == 8);
+    assert!(rt; core.load(8) == Ok(word(0, 5)));
+    assert!(rt; core.load(9) == Ok(word(0, 6)));
 }
 
 #[test]
@@ -58,17 +56,25 @@ fn a_deck_is_loaded(rt: HostRuntime) -> Result<(), Fail> {
     let deck = [word(8, 1), word(2, 8), word(0, 5), word(0, 6)];
     let mut files = Files::new(rt.alloc(), 10);
     prepares(&rt, &mut files, name, &deck);
-    fills(&rt, rt.alloc(), &mut files, name)
+    let mut core = PlainCore::new(rt.alloc(), 1)?;
+    fills(&rt, &mut core, &mut files, name);
+    Ok(())
+}
+
+/// The words of these decrements and addresses.
+fn words_of(alloc: Global, fields: &[(u16, u16)]) -> Result<Vec<Word>, Fail> {
+    let mut words = Vec::new(alloc);
+    for (decrement, address) in fields {
+        words.push(word(*decrement, *address))?;
+    }
+    Ok(words)
 }
 
 #[test]
 fn decks_that_are_none(rt: HostRuntime) -> Result<(), Fail> {
     for (row, (fields, want)) in DECKS.iter().enumerate() {
-        let mut words = Vec::new(rt.alloc());
-        for (decrement, address) in *fields {
-            words.push(word(*decrement, *address))?;
-        }
-        assert!(rt; deck_in(&words, 8) == *want, "row {row}");
+        let words = words_of(rt.alloc(), fields)?;
+        holds(&rt, row, deck_in(&words, 8) == *want);
     }
     Ok(())
 }

@@ -1,3 +1,4 @@
+use crate::rows::holds;
 use ctss_types::{FileBody, FileName, NoMemory, Refusal, Sequence};
 use file_map::{FilePort, Files, PortFault};
 use std::alloc::Global;
@@ -174,16 +175,21 @@ fn done(files: &mut Files, act: Act, words: &[Word]) -> Answer {
     Ok(true)
 }
 
-/// Does each in a new directory, again where memory lacked, which must be answered so.
+/// Does it, again where memory lacked, and says whether it was answered as it must be.
+fn goes(alloc: Global, files: &mut Files, (act, numbers, answer): Row) -> Result<bool, NoMemory> {
+    let words = words_of(alloc, numbers)?;
+    let mut told = done(files, act, &words);
+    if told == Err(PortFault::NoMemory) {
+        told = done(files, act, &words);
+    }
+    Ok(told == answer)
+}
+
+/// Does each in a new directory.
 fn all_done(rt: &impl Abort, alloc: Global, quota: u16, rows: &[Row]) -> Result<(), Fail> {
     let mut files = Files::new(alloc, quota);
-    for (place, (act, numbers, answer)) in rows.iter().enumerate() {
-        let words = words_of(alloc, *numbers)?;
-        let mut told = done(&mut files, *act, &words);
-        if told == Err(PortFault::NoMemory) {
-            told = done(&mut files, *act, &words);
-        }
-        assert_eq!(rt; told, *answer, "row {place}");
+    for (place, row) in rows.iter().enumerate() {
+        holds(rt, place, goes(alloc, &mut files, *row)?);
     }
     Ok(())
 }
@@ -216,7 +222,7 @@ fn begins_and_ends_with_a_list(rt: HostRuntime) -> Result<(), Fail> {
         words: Sequence::new(rt.alloc()),
     }];
     let files = Files::with_first(rt.alloc(), 1, &first)?;
-    assert_eq!(rt; sizes(&files, 1), Some((0, 2)));
+    assert!(rt; sizes(&files, 1) == Some((0, 2)));
     let last = files.into_list()?;
     assert!(rt; last.as_slice() == first.as_slice());
     Ok(())
@@ -226,9 +232,6 @@ fn begins_and_ends_with_a_list(rt: HostRuntime) -> Result<(), Fail> {
 fn tells_its_faults(rt: HostRuntime) -> Result<(), Fail> {
     let refused = PortFault::Refused(Refusal::NoFile);
     let told = format!(in rt.alloc(); "{}; {}; {}", refused, PortFault::Disk, PortFault::NoMemory)?;
-    assert_eq!(rt;
-        told.as_str(),
-        "FILE NOT FOUND; the disk failed; out of memory"
-    );
+    assert!(rt; told.as_str() == "FILE NOT FOUND; the disk failed; out of memory");
     Ok(())
 }

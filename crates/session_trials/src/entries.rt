@@ -1,3 +1,4 @@
+use crate::rows::holds;
 use crate::shown::shows;
 use cpu_regs::{MemoryPort, Regs};
 use ctss_types::{FileName, name_word};
@@ -33,8 +34,8 @@ fn puts_line(rt: &impl Abort, core: &mut PlainCore) {
     assert!(rt; core.words().len() == 256);
     store_line(core, 250, 3, b"HELLO, WORLD");
     assert!(rt; core.words().len() == 256);
-    let loaded = (core.load(250), core.load(252));
-    assert_eq!(rt; loaded, (Ok(name_word(b"HELLO,")), Ok(name_word(b""))));
+    assert!(rt; core.load(250) == Ok(name_word(b"HELLO,")));
+    assert!(rt; core.load(252) == Ok(name_word(b"")));
     shows(
         rt,
         &[line_in(core, 250, 3), line_in(core, 250, 1)],
@@ -49,36 +50,36 @@ fn a_line_goes_in_and_out(rt: HostRuntime) -> Result<(), Fail> {
     Ok(())
 }
 
-/// Reads each call over a core of one block with these words.
-fn all_read(
-    rt: &impl Abort,
-    alloc: Global,
-    words: &[(u16, Word)],
-    rows: &[Row<'_>],
-) -> Result<(), Fail> {
-    let mut core = PlainCore::new(alloc, 1)?;
+/// Reads a call over a core, and says whether it is as it must be.
+fn reads(rt: &impl Abort, core: &mut PlainCore, (argument, name, want): &Row<'_>) -> bool {
+    assert!(rt; core.store(9, *argument).is_ok());
+    assert!(rt; name.len() <= 6);
+    read_call(&called_from_8(), core, name_word(name)) == *want
+}
+
+/// Reads each call over a core with these words.
+fn all_read(rt: &impl Abort, core: &mut PlainCore, words: &[(u16, Word)], rows: &[Row<'_>]) {
     for (place, word) in words {
         assert!(rt; core.store(*place, *word).is_ok());
     }
-    let regs = called_from_8();
-    for (row, (argument, name, want)) in rows.iter().enumerate() {
-        let _ = core.store(9, *argument);
-        assert!(rt; name.len() <= 6, "row {row}");
-        assert!(rt;
-            read_call(&regs, &core, name_word(name)) == *want,
-            "row {row}"
-        );
+    for (place, row) in rows.iter().enumerate() {
+        holds(rt, place, reads(rt, core, row));
     }
-    Ok(())
 }
 
 #[test]
-fn calls_are_read_and_answered(rt: HostRuntime) -> Result<(), Fail> {
+fn calls_are_answered(rt: HostRuntime) {
     let mut regs = called_from_8();
     answer(&mut regs, 1, 3, Some(77));
-    let answered = (regs.ic, regs.ac.word(), regs.mq, is_line_count(14));
-    let three = Word::signed(false, 3);
-    assert_eq!(rt; answered, (10, three, Word::signed(false, 77), true));
+    assert!(rt; regs.ic == 10);
+    assert!(rt; regs.ac.word() == Word::signed(false, 3));
+    assert!(rt; regs.mq == Word::signed(false, 77));
+    assert!(rt; is_line_count(14));
+}
+
+#[test]
+fn calls_are_read(rt: HostRuntime) -> Result<(), Fail> {
+    let mut core = PlainCore::new(rt.alloc(), 1)?;
     let inside = counted(2, 254);
     let outside = counted(2, 255);
     let rows: [Row<'_>; 5] = [
@@ -88,22 +89,32 @@ fn calls_are_read_and_answered(rt: HostRuntime) -> Result<(), Fail> {
         (outside, b"GETTM", Ok(Call::GetTime)),
         (outside, b"RUNOFF", Err(EntryFault::NoSuchEntry)),
     ];
-    all_read(&rt, rt.alloc(), &[], &rows)
+    all_read(&rt, &mut core, &[], &rows);
+    Ok(())
+}
+
+fn notes() -> FileName {
+    FileName::new(name_word(b"NOTES"), name_word(b"TEXT"))
 }
 
 /// The arguments of a call at 8 are 20, a buffer of two words at 254, and 22; a file's names stand at 20, and 5 at 22.
-#[test]
-fn calls_for_files_are_read(rt: HostRuntime) -> Result<(), Fail> {
-    let name = FileName::new(name_word(b"NOTES"), name_word(b"TEXT"));
-    let to = FileName::new(Word::default(), Word::default());
-    let names = counted(0, 20);
-    let words = [
+fn arguments() -> [(u16, Word); 5] {
+    let name = notes();
+    [
         (10, counted(2, 254)),
         (11, counted(0, 22)),
         (20, name.first),
         (21, name.second),
         (22, Word::signed(true, 5)),
-    ];
+    ]
+}
+
+#[test]
+fn calls_for_files_are_read(rt: HostRuntime) -> Result<(), Fail> {
+    let mut core = PlainCore::new(rt.alloc(), 1)?;
+    let name = notes();
+    let to = FileName::new(Word::default(), Word::default());
+    let names = counted(0, 20);
     let read = Call::ReadFile {
         name,
         at: 254,
@@ -124,7 +135,8 @@ fn calls_for_files_are_read(rt: HostRuntime) -> Result<(), Fail> {
         (names, b"CHMODE", Ok(Call::ChangeMode { name, mode: 254 })),
         (names, b"RENAME", Ok(Call::RenameFile { name, to })),
     ];
-    all_read(&rt, rt.alloc(), &words, &rows)
+    all_read(&rt, &mut core, &arguments(), &rows);
+    Ok(())
 }
 
 /// Puts two words at 254.

@@ -1,3 +1,4 @@
+use crate::rows::holds;
 use ctss_types::UserNo;
 use level_queues::{Charge, Chosen, Queues, Risen, level_of};
 use std::process::Abort;
@@ -110,16 +111,16 @@ fn all_go(rt: &impl Abort, rows: &[Row]) {
     let mut queues = Queues::new(1024, 100, 0);
     for (place, (times, n, act)) in rows.iter().enumerate() {
         for _ in 0..*times {
-            assert!(rt; goes(&mut queues, 0, *n, *act), "row {place}");
+            holds(rt, place, goes(&mut queues, 0, *n, *act));
         }
     }
 }
 
 #[test]
 fn levels_go_by_powers_of_two(rt: HostRuntime) {
-    for (blocks, wq, level) in LEVELS {
-        assert!(rt; blocks <= 128 && 1 <= wq);
-        assert_eq!(rt; level_of(blocks, wq), level, "{blocks} {wq}");
+    for (row, (blocks, wq, level)) in LEVELS.iter().enumerate() {
+        assert!(rt; *blocks <= 128 && 1 <= *wq);
+        holds(&rt, row, level_of(*blocks, *wq) == *level);
     }
 }
 
@@ -137,6 +138,6 @@ fn a_row_is_served_in_order(rt: HostRuntime) {
 fn a_user_that_waits_rises(rt: HostRuntime) {
     let mut queues = Queues::new(1024, 100, 500);
     for (place, (now, (_, n, act))) in RISES.iter().enumerate() {
-        assert!(rt; goes(&mut queues, *now, *n, *act), "row {place}");
+        holds(&rt, place, goes(&mut queues, *now, *n, *act));
     }
 }

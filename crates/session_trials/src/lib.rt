@@ -18,6 +18,8 @@ mod lines;
 #[cfg(test)]
 mod requests;
 #[cfg(test)]
+mod rows;
+#[cfg(test)]
 mod saved;
 #[cfg(test)]
 mod sessions;

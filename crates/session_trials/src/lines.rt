@@ -1,3 +1,4 @@
+use crate::rows::holds;
 use ctss_types::LineText;
 use line_buffer::{Lines, Put};
 use std::alloc::Global;
@@ -71,7 +72,7 @@ fn all_go(rt: &impl Abort, alloc: Global, rows: &[Row]) -> Result<(), Fail> {
     for (place, (times, text, act)) in rows.iter().enumerate() {
         let line = LineText::from_bytes(text)?;
         for _ in 0..*times {
-            assert!(rt; goes(&mut lines, line, *act), "row {place}");
+            holds(rt, place, goes(&mut lines, line, *act));
         }
     }
     Ok(())

@@ -1,7 +1,14 @@
+use crate::rows::holds;
 use command_table::{command_of, word_name};
 use ctss_types::{FileName, LineText, name_word};
 use std::test::Fail;
 use user_model::Command;
+
+/// The command that a line asks for.
+fn asked_by(text: &[u8]) -> Result<Command, Fail> {
+    let line = LineText::from_bytes(text)?;
+    Ok(command_of(&line))
+}
 
 #[test]
 fn lines_ask_for_commands(rt: HostRuntime) -> Result<(), Fail> {
@@ -39,9 +46,8 @@ fn lines_ask_for_commands(rt: HostRuntime) -> Result<(), Fail> {
         (b"DELETE NOTEBOOK TEXT", Command::BadArguments),
         (b"DELET NOTES TEXT", Command::Unknown),
     ];
-    for (text, want) in &cases {
-        let line = LineText::from_bytes(text)?;
-        assert!(rt; command_of(&line) == *want, "{line}");
+    for (row, (text, want)) in cases.iter().enumerate() {
+        holds(&rt, row, asked_by(text)? == *want);
     }
     Ok(())
 }

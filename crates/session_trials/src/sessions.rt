@@ -1,3 +1,4 @@
+use crate::rows::holds;
 use ctss_types::{Account, Ending, FileName, Item, LineText, name_word};
 use file_map::{FilePort, Files};
 use plain_core::PlainCore;
@@ -257,11 +258,10 @@ fn does(
     match act {
         Act::Step(now, after) => step_goes(rt, alloc, session, core, files, now, after),
         Act::Steps(end) => {
-            let mut went = true;
             for now in 0..end {
-                went = went && step_goes(rt, alloc, session, core, files, now, After::Goes)?;
+                assert!(rt; step_goes(rt, alloc, session, core, files, now, After::Goes)?);
             }
-            Ok(went)
+            Ok(true)
         }
         _ => goes(session, act),
     }
@@ -277,10 +277,7 @@ fn all_go(
 ) -> Result<(), Fail> {
     let mut core = PlainCore::new(alloc, 0)?;
     for (row, act) in acts.iter().enumerate() {
-        assert!(rt;
-            does(rt, alloc, session, &mut core, files, *act)?,
-            "row {row}"
-        );
+        holds(rt, row, does(rt, alloc, session, &mut core, files, *act)?);
     }
     Ok(())
 }
@@ -309,8 +306,8 @@ fn a_program_is_loaded_and_runs(rt: HostRuntime) -> Result<(), Fail> {
     let mut session = alfa(rt.alloc())?;
     let mut files = with_deck(rt.alloc(), name_word(b"HELLO"), &HELLO)?;
     all_go(&rt, rt.alloc(), &mut session, &mut files, &OF_PROGRAM)?;
-    assert_eq!(rt; session.into_items().len(), 5);
-    assert_eq!(rt; files.into_list()?.len(), 1);
+    assert!(rt; session.into_items().len() == 5);
+    assert!(rt; files.into_list()?.len() == 1);
     Ok(())
 }
 

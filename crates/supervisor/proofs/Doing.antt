@@ -3,7 +3,7 @@ use Rattle.std.proofs.Common.{◌≡◌, ◌≢◌, ℕ, ◌-◌, ◌<◌, ◌�
 use Rattle.time_sharing.specs.Machine.{Ending, CommonOp, Reply}
 use Rattle.ctss_types.specs.declared.file.FileBody.{FileBody}
 use Rattle.std.specs.Option.{is_some}
-use Rattle.time_sharing.specs.System.{Timed, Service, Off, Preempt, common_entry}
+use Rattle.time_sharing.specs.System.{Timed, Service, Off, common_entry}
 use Rattle.user_model.specs.Inner.{Stored, blocks_of}
 use Rattle.user_model.specs.User.{User, can_step, step, ending, asks_clock, asks_common, in_store, store_after, IsStep}
 use Rattle.plan_model.specs.Levels.{chosen, user_of, level_in}

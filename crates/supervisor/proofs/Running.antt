@@ -1,9 +1,5 @@
 -- Whole runs: what the loop over steps keeps, and what it ends with.
 use Rattle.std.proofs.Common.{◌≡◌, ℕ, suc, ◌+◌, ◌<◌, ◌≤◌, true, List, [], ◌∷◌, map, Option, Some, None, refl, sym, ◌∙◌, ap, subst}
-use Rattle.std.specs.Prelude.{Ok, Err}
-use Rattle.std.specs.declared.result.Result.{Result}
-use Rattle.ctss_types.specs.declared.fault.RunFault.{RunFault}
-use Rattle.ctss_types.specs.declared.fault.RunFault.TheVariants.{Drum, Disk, NoMemory}
 use Rattle.time_sharing.specs.Machine.{Item}
 use Rattle.user_model.specs.User.{User}
 use Rattle.user_model.specs.Inner.{Stored}
@@ -19,7 +15,7 @@ use Rattle.system_model.proofs.JoinedLaws.{joined_same, same_stores, must_same, 
 use Rattle.system_model.proofs.RunLaws.{run_to_next, run_to_done, after_next, after_none}
 use Rattle.user_cores.specs.Backing.{Held}
 use Rattle.supervisor.specs.Counts.{IsCounted, calls_to_load}
-use Rattle.supervisor.specs.Steps.{Does, Stays, IsTied, IsHeld, LoadIsDue, NextLoadFails, HasRun, HasRunPart, HasRunShown, HasRunToLoad, Ends, Lasts}
+use Rattle.supervisor.specs.Steps.{Does, Stays, IsTied, IsHeld, LoadIsDue, NextLoadFails, HasRun, HasRunPart, HasRunShown, HasRunToLoad}
 use Rattle.supervisor.proofs.Counting.{counted_to_load}
 use Rattle.supervisor.proofs.Doing.{does_sound}
 

@@ -1,5 +1,5 @@
 -- Parts of what a step of the user that is served does.
-use Rattle.std.proofs.Common.{◌≡◌, ℕ, zero, ◌≤◌, ◌-◌, ◌*◌, Bool, true, false, List, [], ◌++◌, length, take, replicate, Option, Some, None, refl, sym, ◌∙◌, ap, arith, subst}
+use Rattle.std.proofs.Common.{◌≡◌, ℕ, zero, ◌-◌, ◌*◌, Bool, true, false, List, [], ◌++◌, length, take, replicate, Option, Some, None, refl, sym, ◌∙◌, ap, arith, subst}
 use Rattle.std.proofs.lemmas.List.{append-nil}
 use Rattle.std.proofs.Math.Seq.{take-length}
 use Rattle.time_sharing.specs.Machine.{Ending, CommonOp, Reply, Went, Stopped, Resized, Replaced, LoggedOut}
@@ -14,7 +14,6 @@ use Rattle.user_model.proofs.WentLaws.{went_stays}
 use Rattle.system_model.specs.Run.{Run, rise, rising, rise_of, raised}
 use Rattle.system_model.specs.Cases.{waited, idled, broken_off}
 use Rattle.system_model.specs.Joined.{counted, moved}
-use Rattle.faults.specs.Faults.{Rose}
 use Rattle.ctss_types.specs.declared.file.FileBody.{FileBody}
 use Rattle.file_map.specs.Known.{known}
 use Rattle.user_session.specs.Stores.{stored}

@@ -348,7 +348,8 @@ impl State {
     }
 
     /// So many ticks at most may go by until something else than the user of the service is to be looked at: an event, the
-    /// limit, another user that rises, before this tick none does, or the end of the user's time, of which so many ticks are left.
+    /// limit, another user that may rise, from the tick `still` on, or the end of the user's time, of which so many ticks are
+    /// left.
     fn spare(&self, left: u64, limit: u64, still: u64) -> u64
         ensures left { 0 < result → result < left }
         ensures limit { 0 < result → self.now.clock + result ≤ limit }

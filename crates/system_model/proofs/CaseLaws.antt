@@ -7,7 +7,7 @@ use Rattle.time_sharing.specs.System as theory
 use Rattle.time_sharing.specs.System.{SystemState, Timed, Service, Console, Off, On, Password, Session, Entry, Taken, Login, Refused, Idle, Swap, Serve, EventKind, Event, Dials, Types, Quits, Hangs, LineTaken, DialTaken, kind_of, QuitTaken, HangTaken, Cause, Stop, Wait, Preempt, AtEnd, at, put, max_lines, without}
 use Rattle.user_model.specs.Session.{user_rows, nobody}
 use Rattle.user_model.specs.User.{User, typed, opened, cut, can_step, step, ending, asks_clock, asks_common}
-use Rattle.plan_model.specs.Levels.{chosen, user_of, level_in, has_time, charged, dropped, woken}
+use Rattle.plan_model.specs.Levels.{chosen, level_in, has_time, charged, dropped, woken}
 use Rattle.plan_model.specs.Plan.{Plan, must_load, places_cut, places_after}
 use Rattle.user_model.specs.Inner.{blocks_of}
 use Rattle.system_model.specs.Round.{round, line_blocks, asked, check}

@@ -1,5 +1,5 @@
 use Rattle.std.specs.Prelude.{slice_index_or}
-use Rattle.std.proofs.Common.{◌+◌, Bool, false, not, nat_eq, zero, drop, replicate, eq-eqb, arith, ◌≡◌, ℕ, suc, ◌<◌, ◌≤◌, List, ◌++◌, ap, refl, sym, ◌∙◌, lt-ltb, le-ltb}
+use Rattle.std.proofs.Common.{◌+◌, Bool, false, not, arith, ◌≡◌, ℕ, suc, ◌<◌, ◌≤◌, List, ap, refl, sym, ◌∙◌, lt-ltb, le-ltb}
 use Rattle.ctss_types.specs.declared.script.Account.{Account}
 use Rattle.time_sharing.specs.Rows.{machine}
 use Rattle.time_sharing.specs.System as theory

@@ -2,7 +2,6 @@
 -- joined.
 use Rattle.std.specs.Prelude.{ℕ, zero, suc, ◌+◌, ◌*◌, Bool, if◌then◌else◌, nat_eq, nat_lt, List, [], ◌∷◌, ◌++◌}
 use Rattle.time_sharing.specs.Machine.{Ending}
-use Rattle.ctss_types.specs.declared.file.FileBody.{FileBody}
 use Rattle.time_sharing.specs.System.{Service, Console, Off, On, Password, Session, Event, Entry, Dials, Types, Quits, Hangs, Swap, max_lines, cause_of, consoles_after, service_after, service_entry, clock_entry}
 use Rattle.user_model.specs.Inner.{Stored, blocks_of}
 use Rattle.user_model.specs.User.{User, in_store, hung}

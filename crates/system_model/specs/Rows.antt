@@ -101,5 +101,5 @@ abbrev pub RowOfRises : Type 0
 RowOfRises =
     drop 8 (record_of two_spins).entries ≡
     (Idle 0 10 ∷ Taken 10 1 kind.Line 1 0 ∷ Taken 10 2 kind.Line 2 0 ∷ Clock 10 1 ∷ Serve 10 1 1 1 cause.Size ∷ Swap 11 1 0 0 1
-    ∷ Rise 60 2 0 ∷ Serve 11 1 0 100 cause.Time ∷ Clock 111 2 ∷ Serve 111 2 0 1 cause.Size ∷ Swap 112 2 1 0 1
-    ∷ Rise 161 1 0 ∷ Serve 112 2 0 100 cause.Time ∷ Swap 212 1 1 1 0 ∷ Rise 262 2 0 ∷ Serve 212 1 0 88 cause.End ∷ [])
+    ∷ Rise 60 2 0 ∷ Serve 11 1 0 100 cause.Time ∷ Clock 111 2 ∷ Serve 111 2 0 1 cause.Size ∷ Swap 112 2 0 0 1
+    ∷ Rise 161 1 0 ∷ Serve 112 2 0 100 cause.Time ∷ Rise 262 2 0 ∷ Serve 212 1 0 88 cause.End ∷ [])

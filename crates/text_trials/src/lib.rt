@@ -9,11 +9,15 @@ mod base;
 #[cfg(test)]
 mod command;
 #[cfg(test)]
+mod events;
+#[cfg(test)]
 mod made;
 #[cfg(test)]
 mod read;
 #[cfg(test)]
 mod report;
+#[cfg(test)]
+mod rows;
 #[cfg(test)]
 mod script;
 #[cfg(test)]

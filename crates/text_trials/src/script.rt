@@ -1,10 +1,27 @@
+use crate::events::{EventRow, has_events};
+use crate::rows::holds;
 use crate::written::written;
-use ctss_types::{Account, Event, FileName, OwnedFile, Params, Script, name_word};
+use ctss_types::{Account, FileName, OwnedFile, Params, Script, name_word};
 use script_read::{ScriptFault, ScriptText, read_base, read_script};
 use std::alloc::Global;
 use std::process::Abort;
 use std::test::Fail;
 use text_model::{ScriptCause, ScriptRefusal};
+
+/// Whether a script is that of its canonical text, and spells it.
+fn is_spelled(
+    rt: &impl Abort,
+    alloc: Global,
+    script: &Script,
+    canonical: &[u8],
+) -> Result<bool, Fail> {
+    let sink = written(rt, alloc, &ScriptText { script })?;
+    if sink.bytes() != canonical {
+        return Ok(false);
+    }
+    let same = read_script(alloc, canonical)?;
+    Ok(*script == same)
+}
 
 /// Reads bytes that spell the same script as its canonical text.
 fn reads_as(
@@ -15,9 +32,7 @@ fn reads_as(
     canonical: &[u8],
 ) -> Result<Script, Fail> {
     let script = read_script(alloc, bytes)?;
-    let sink = written(rt, alloc, &ScriptText { script: &script })?;
-    let same = read_script(alloc, canonical)?;
-    assert!(rt; sink.bytes() == canonical && script == same, "{what}");
+    assert!(rt; is_spelled(rt, alloc, &script, canonical)?, "{what}");
     Ok(script)
 }
 
@@ -84,46 +99,32 @@ const PARAMS: Params = Params {
     age: 0,
 };
 
-/// The events of the session: ticks, consoles, and what they are.
-static EVENTS: [(u64, u8, (&str, &str)); 4] = [
-    (0, 1, ("DIAL", "")),
-    (0, 1, ("LINE", "LOGIN ALFA")),
-    (0, 1, ("LINE", "SESAME")),
-    (20, 1, ("LINE", "LOGOUT")),
+/// The events of the session.
+static EVENTS: [EventRow; 4] = [
+    (0, 1, "DIAL", ""),
+    (0, 1, "LINE", "LOGIN ALFA"),
+    (0, 1, "LINE", "SESAME"),
+    (20, 1, "LINE", "LOGOUT"),
 ];
 
-/// An event, and what is typed.
-fn event_texts(event: &Event) -> (&str, &str) {
-    match event {
-        Event::Dial => ("DIAL", ""),
-        Event::Line(line) => ("LINE", line.as_str()),
-        Event::Quit => ("QUIT", ""),
-        Event::Hang => ("HANG", ""),
-    }
-}
-
-#[test]
-fn reads_a_session(rt: HostRuntime) -> Result<(), Fail> {
+/// Tries what the script of the session has.
+fn is_session(rt: &impl Abort, script: &Script) {
     let account = Account {
         name: name_word(b"ALFA"),
         password: name_word(b"SESAME"),
         blocks: 8,
         tracks: 10,
     };
+    assert!(rt; script.params == PARAMS);
+    assert!(rt; script.accounts.as_slice() == [account].as_slice());
+    assert!(rt; script.files.is_empty() && script.end == 100);
+    has_events(rt, script.events.as_slice(), &EVENTS);
+}
+
+#[test]
+fn reads_a_session(rt: HostRuntime) -> Result<(), Fail> {
     let script = reads_as(&rt, rt.alloc(), "a session", SESSION, SESSION)?;
-    assert!(rt; script.params == PARAMS && script.accounts.as_slice() == [account].as_slice());
-    let counts = [script.files.len(), script.events.len()];
-    assert!(rt; counts == [0, 4] && script.end == 100);
-    for (timed, want) in script.events.as_slice().iter().zip(&EVENTS) {
-        assert_eq!(rt;
-            (
-                timed.tick,
-                timed.console.number(),
-                event_texts(&timed.event)
-            ),
-            *want
-        );
-    }
+    is_session(&rt, &script);
     Ok(())
 }
 
@@ -137,27 +138,29 @@ const FILES: &[u8] = b"PARAM 1024 100 10 8 20 5\n\
     AT 0 1 DIAL\n\
     END 0\n";
 
-/// Owners, modes and words of these files, both of which are called `A B`.
-static WORDS: [(u8, u8, &[u64]); 2] = [(2, 3, &[7, 0, 0, 0, 0, 0o777777777777]), (1, 0, &[])];
+/// The owner, the mode and the words of a file.
+type FileRow = (u8, u8, &'static [u64]);
 
-fn has_words(rt: &impl Abort, file: &OwnedFile, (owner, mode, bits): (u8, u8, &[u64])) {
+/// The files, each of which is called `A B`.
+static FILE_ROWS: [FileRow; 2] = [(2, 3, &[7, 0, 0, 0, 0, 0o777777777777]), (1, 0, &[])];
+
+fn is_file(file: &OwnedFile, (owner, mode, bits): FileRow) -> bool {
     let OwnedFile { owner: found, body } = file;
     let name = FileName::new(name_word(b"A"), name_word(b"B"));
-    assert_eq!(rt;
-        (found.number(), body.name, body.mode, body.words.len()),
-        (owner, name, mode, bits.len())
-    );
+    let mut alike = (found.number(), body.name, body.mode, body.words.len())
+        == (owner, name, mode, bits.len());
     for (word, bits) in body.words.as_slice().iter().zip(bits) {
-        assert!(rt; word.bits() == *bits);
+        alike = alike && word.bits() == *bits;
     }
+    alike
 }
 
 #[test]
 fn reads_files_of_two_accounts(rt: HostRuntime) -> Result<(), Fail> {
     let script = reads_as(&rt, rt.alloc(), "two accounts", FILES, FILES)?;
-    assert_eq!(rt; script.files.len(), 2);
-    for (file, want) in script.files.as_slice().iter().zip(&WORDS) {
-        has_words(&rt, file, *want);
+    assert!(rt; script.files.len() == 2);
+    for (row, (file, want)) in script.files.as_slice().iter().zip(&FILE_ROWS).enumerate() {
+        holds(&rt, row, is_file(file, *want));
     }
     Ok(())
 }
@@ -596,9 +599,13 @@ static LONG: [(&str, Long, Option<ScriptFault>); 7] = [
 fn texts_files_and_scripts_have_their_limits(rt: HostRuntime) -> Result<(), Fail> {
     for (what, script, want) in &LONG {
         let bytes = script.bytes(rt.alloc())?;
-        let fault = read_script(rt.alloc(), &bytes).err();
-        assert_eq!(rt; fault, *want, "{what}");
+        assert!(rt; read_script(rt.alloc(), &bytes).err() == *want, "{what}");
     }
+    Ok(())
+}
+
+#[test]
+fn a_track_has_432_words(rt: HostRuntime) -> Result<(), Fail> {
     let fits = FULL_TRACK.bytes(rt.alloc())?;
     let _script = reads_as(&rt, rt.alloc(), "432 words", &fits, &fits)?;
     Ok(())
@@ -632,8 +639,10 @@ fn bytes_that_are_read(alloc: Global, script: &[u8], place: usize) -> Result<usi
 #[test]
 fn each_byte_is_read_or_refused(rt: HostRuntime) -> Result<(), Fail> {
     for (script, place, want) in &PLACES {
-        let read = bytes_that_are_read(rt.alloc(), script, *place)?;
-        assert_eq!(rt; read, *want, "at {place}");
+        assert!(rt;
+            bytes_that_are_read(rt.alloc(), script, *place)? == *want,
+            "at {place}"
+        );
     }
     Ok(())
 }

@@ -1,6 +1,7 @@
 //! What no clause says: that calls succeed, and that the pieces fit together.
 ghost use Rattle.std.specs.Prelude.{◌<◌, ◌≤◌, IfOk};
 
+use crate::rows::holds;
 use ctss_io::{
     Got, MemorySink, MemorySource, NoMemory, ReadEnd, Sink, Source, StdSink, StdSource, Took,
     WriteFault, read_bytes, write_all,
@@ -16,17 +17,17 @@ fn gives<S: Source, const N: usize>(rt: &impl Abort, source: &mut S, reads: &[(G
     requires { 0 < N }
 {
     let mut buffer = [b'-'; N];
-    for (got, held) in reads {
+    for (row, (got, held)) in reads.iter().enumerate() {
         let answer = source.read(&mut buffer);
-        assert_eq!(rt; (answer, buffer), (*got, *held));
+        holds(rt, row, (answer, buffer) == (*got, *held));
     }
 }
 
 /// Tries what a sink answers to one put after another; none puts nothing.
 fn takes<K: Sink>(rt: &impl Abort, sink: &mut K, puts: &[(&[u8], Took)]) {
-    for (bytes, took) in puts {
+    for (row, (bytes, took)) in puts.iter().enumerate() {
         assert!(rt; !bytes.is_empty());
-        assert_eq!(rt; sink.put(bytes), *took);
+        holds(rt, row, sink.put(bytes) == *took);
     }
 }
 
@@ -55,7 +56,7 @@ static PUTS: [(&[u8], Took); 4] = [
 fn memory_sink_keeps_to_its_room(rt: HostRuntime) -> Result<(), Fail> {
     let mut sink = MemorySink::new(rt.alloc(), 5, 4, &[5])?;
     takes(&rt, &mut sink, &PUTS);
-    assert_eq!(rt; sink.bytes(), b"abcde".as_slice());
+    assert!(rt; sink.bytes() == b"abcde".as_slice());
     Ok(())
 }
 
@@ -63,18 +64,23 @@ fn memory_sink_keeps_to_its_room(rt: HostRuntime) -> Result<(), Fail> {
 fn want_of_memory_converts(rt: HostRuntime) -> Result<(), NoMemory> {
     let mut bytes = vec![in rt.alloc(); 1u8]?;
     bytes.push(2)?;
-    assert_eq!(rt; bytes.as_slice(), [1, 2].as_slice());
+    assert!(rt; bytes.as_slice() == [1, 2].as_slice());
     Ok(())
 }
 
-/// All of a source, or why a read gave nothing. Want of memory, which may come at any time, ends the test.
-fn whole<S: Source>(alloc: Global, source: &mut S) -> Result<Result<Vec<u8>, ReadEnd>, NoMemory> {
+/// How many bytes a source gives, or why a read gave nothing. Want of memory, which may come at any time, ends the test.
+fn count_read<S: Source>(
+    alloc: Global,
+    source: &mut S,
+) -> Result<Result<usize, ReadEnd>, NoMemory> {
     match read_bytes(alloc, source) {
+        Ok(bytes) => Ok(Ok(bytes.len())),
         Err(ReadEnd::NoMemory) => Err(NoMemory),
-        read => Ok(read),
+        Err(end) => Ok(Err(end)),
     }
 }
 
+/// Tries the bytes that a source gives.
 fn reads<S: Source>(
     rt: &impl Abort,
     alloc: Global,
@@ -82,7 +88,7 @@ fn reads<S: Source>(
     want: &[u8],
 ) -> Result<(), Fail> {
     let bytes = read_bytes(alloc, source)?;
-    assert_eq!(rt; bytes.as_slice(), want);
+    assert!(rt; bytes.as_slice() == want);
     Ok(())
 }
 
@@ -107,29 +113,29 @@ fn reads_all(rt: HostRuntime) -> Result<(), Fail> {
 #[test]
 fn reading_stops_at_a_fault(rt: HostRuntime) -> Result<(), Fail> {
     let mut source = MemorySource::new(rt.alloc(), b"abcd", 1, &[3])?;
-    assert_eq!(rt; whole(rt.alloc(), &mut source)?.err(), Some(ReadEnd::Fault));
+    assert!(rt; count_read(rt.alloc(), &mut source)? == Err(ReadEnd::Fault));
     // The two bytes before the fault are gone.
     reads(&rt, rt.alloc(), &mut source, b"cd")
 }
 
+/// What comes of reading so many bytes.
+fn count_read_of(alloc: Global, count: usize) -> Result<Result<usize, ReadEnd>, Fail> {
+    let bytes = vec![in alloc; 7u8; count]?;
+    let mut source = MemorySource::new(alloc, &bytes, 4096, &[])?;
+    Ok(count_read(alloc, &mut source)?)
+}
+
 #[test]
 fn reads_up_to_the_limit(rt: HostRuntime) -> Result<(), Fail> {
-    for (count, want) in [
-        (4_194_304, Ok(4_194_304)),
-        (4_194_305, Err(ReadEnd::TooLong)),
-    ] {
-        let bytes = vec![in rt.alloc(); 7u8; count]?;
-        let mut source = MemorySource::new(rt.alloc(), &bytes, 4096, &[])?;
-        let read = whole(rt.alloc(), &mut source)?;
-        assert_eq!(rt; read.map(|bytes| bytes.len()), want);
-    }
+    assert!(rt; count_read_of(rt.alloc(), 4_194_304)? == Ok(4_194_304));
+    assert!(rt; count_read_of(rt.alloc(), 4_194_305)? == Err(ReadEnd::TooLong));
     Ok(())
 }
 
 /// Tries what comes of writing one text after another.
 fn writes<K: Sink>(rt: &impl Abort, sink: &mut K, texts: &[(&[u8], Result<(), WriteFault>)]) {
-    for (text, wrote) in texts {
-        assert_eq!(rt; write_all(sink, text), *wrote);
+    for (row, (text, wrote)) in texts.iter().enumerate() {
+        holds(rt, row, write_all(sink, text) == *wrote);
     }
 }
 
@@ -145,7 +151,7 @@ fn writes_all(rt: HostRuntime) -> Result<(), Fail> {
     for (fails, texts, held) in &WRITES {
         let mut sink = MemorySink::new(rt.alloc(), 5, 2, fails)?;
         writes(&rt, &mut sink, texts);
-        assert_eq!(rt; sink.bytes(), *held);
+        assert!(rt; sink.bytes() == *held);
     }
     Ok(())
 }
@@ -236,14 +242,11 @@ static PUTS_OF_CALLS: [(&[u8], Took); 3] = [
 ];
 
 #[test]
-fn standard_sink_counts_faults(rt: HostRuntime) -> Result<(), Fail> {
+fn standard_sink_counts_faults(rt: HostRuntime) {
     takes(&rt, &mut StdSink::new(Script(CALLS)), &PUTS_OF_CALLS);
+    let printed = write_all(&mut StdSink::new(io::writer(&rt)), b"written\n");
+    assert!(rt; printed.is_ok());
     let mut out = Vec::new(rt.alloc());
     let written = write_all(&mut StdSink::new(&mut out), b"hello");
-    let printed = write_all(&mut StdSink::new(io::writer(&rt)), b"written\n");
-    assert_eq!(rt;
-        (out.as_slice(), written, printed),
-        (b"hello".as_slice(), Ok(()), Ok(()))
-    );
-    Ok(())
+    assert!(rt; written.is_ok() && out.as_slice() == b"hello".as_slice());
 }

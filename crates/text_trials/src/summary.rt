@@ -1,6 +1,6 @@
 use crate::written::written;
 use ctss_types::{
-    Account, Cause, Entry, EventKind, Item, Params, Record, Script, Sequence, name_word,
+    Account, Cause, Entry, EventKind, Item, Items, Params, Record, Script, Sequence, name_word,
 };
 use report_text::Summary;
 use std::alloc::Global;
@@ -82,34 +82,46 @@ const ENTRIES: [Entry; 8] = [
     },
 ];
 
-#[test]
-fn sums_up_a_short_run(rt: HostRuntime) -> Result<(), Fail> {
-    let alloc = rt.alloc();
-    let first = Sequence::from_vec(vec![in alloc; Item::Quit, Item::Hang]?);
-    let second = Sequence::from_vec(vec![in alloc; Item::Hang]?);
-    let run = Record {
+/// A transcript.
+fn items(alloc: Global, items: &[Item]) -> Result<Items, Fail> {
+    Ok(Sequence::from_vec(Vec::from_slice(alloc, items)?))
+}
+
+/// The record of the entries, and three items of two users.
+fn record(alloc: Global) -> Result<Record, Fail> {
+    let mut run = Record {
         entries: Sequence::from_vec(Vec::from_clones(alloc, &ENTRIES)?),
-        transcripts: Sequence::from_vec(vec![in alloc; first, second]?),
+        transcripts: Sequence::new(alloc),
         files: Sequence::new(alloc),
         common: Sequence::new(alloc),
         clock: 300,
     };
-    let script = script(alloc)?;
+    run.transcripts
+        .push(items(alloc, &[Item::Quit, Item::Hang])?)?;
+    run.transcripts.push(items(alloc, &[Item::Hang])?)?;
+    Ok(run)
+}
+
+const SUMMARY: &[u8] = b"LOAD 999999\n\
+    USERS 2\n\
+    ITEMS 3\n\
+    SERVES 4\n\
+    SWAPS 1\n\
+    DUMPED 5\n\
+    READ 7\n\
+    STEPS 19\n\
+    END 300\n";
+
+#[test]
+fn sums_up_a_short_run(rt: HostRuntime) -> Result<(), Fail> {
+    let script = script(rt.alloc())?;
+    let run = record(rt.alloc())?;
     let summary = Summary {
         n: 999_999,
         script: &script,
         run: &run,
     };
-    let sink = written(&rt, alloc, &summary)?;
-    let want: &[u8] = b"LOAD 999999\n\
-        USERS 2\n\
-        ITEMS 3\n\
-        SERVES 4\n\
-        SWAPS 1\n\
-        DUMPED 5\n\
-        READ 7\n\
-        STEPS 19\n\
-        END 300\n";
-    assert_eq!(rt; sink.bytes(), want);
+    let sink = written(&rt, rt.alloc(), &summary)?;
+    assert!(rt; sink.bytes() == SUMMARY);
     Ok(())
 }

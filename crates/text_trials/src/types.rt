@@ -1,39 +1,50 @@
+use crate::rows::holds;
 use ctss_types::{
     Cause, ConsoleNo, EventKind, FileName, LineFault, LineText, Refusal, RunFault, Sequence,
-    StepFault, UserNo, first_word, name_text, name_word,
+    StepFault, UserNo, WordList, first_word, name_text, name_word,
 };
+use std::process::Abort;
 use std::test::Fail;
 use word36::Word;
 
+/// Numbers, and those of them that a user or a console has.
+static USERS: [(u8, Option<u8>); 3] = [(0, None), (30, Some(30)), (31, None)];
+
+static CONSOLES: [(u8, Option<u8>); 2] = [(32, Some(32)), (33, None)];
+
 #[test]
 fn numbers_have_their_ranges(rt: HostRuntime) {
-    let users = [
-        UserNo::new(0).map(UserNo::number),
-        UserNo::new(30).map(UserNo::number),
-        UserNo::new(31).map(UserNo::number),
-    ];
-    let consoles = [
-        ConsoleNo::new(32).map(ConsoleNo::number),
-        ConsoleNo::new(33).map(ConsoleNo::number),
-    ];
-    assert_eq!(rt;
-        (users, consoles),
-        ([None, Some(30), None], [Some(32), None])
-    );
+    for (row, (number, want)) in USERS.iter().enumerate() {
+        holds(&rt, row, UserNo::new(*number).map(UserNo::number) == *want);
+    }
+    for (row, (number, want)) in CONSOLES.iter().enumerate() {
+        holds(
+            &rt,
+            row,
+            ConsoleNo::new(*number).map(ConsoleNo::number) == *want,
+        );
+    }
 }
 
 #[test]
 fn lines_drop_trailing_blanks(rt: HostRuntime) -> Result<(), Fail> {
     let line = LineText::from_bytes(b"LOGIN ALFA  ")?;
-    assert_eq!(rt; line.len(), 10);
-    let faults = [
-        LineText::from_bytes(&[b'A'; 85]).err(),
-        LineText::from_bytes(b"login").err(),
-    ];
-    assert_eq!(rt;
-        (line.at(6), faults),
-        (b'A', [Some(LineFault::TooLong), Some(LineFault::NotBcd)])
-    );
+    assert!(rt; (line.len(), line.at(6)) == (10, b'A'));
+    Ok(())
+}
+
+#[test]
+fn texts_that_are_no_lines(rt: HostRuntime) {
+    assert!(rt; LineText::from_bytes(&[b'A'; 85]) == Err(LineFault::TooLong));
+    assert!(rt; LineText::from_bytes(b"login") == Err(LineFault::NotBcd));
+}
+
+/// Adds a word to words, which differ from these before and not after.
+fn add(rt: &impl Abort, words: &mut WordList, word: Word) -> Result<(), Fail> {
+    let before = words.clone()?;
+    assert!(rt; before == *words);
+    words.push(word)?;
+    assert!(rt; before != *words);
     Ok(())
 }
 
@@ -41,39 +52,33 @@ fn lines_drop_trailing_blanks(rt: HostRuntime) -> Result<(), Fail> {
 fn sequences_compare_by_their_items(rt: HostRuntime) -> Result<(), Fail> {
     let mut words = Sequence::new(rt.alloc());
     words.push(Word::signed(true, 7))?;
-    let copy = words.clone()?;
-    let same = copy == words;
-    words.push(Word::signed(false, 0))?;
-    assert_eq!(rt; (same, copy != words, words.len()), (true, true, 2));
+    add(&rt, &mut words, Word::signed(false, 0))?;
+    assert!(rt; words.len() == 2);
     Ok(())
 }
 
 #[test]
-fn words_and_names(rt: HostRuntime) {
+fn words_stand_between_blanks(rt: HostRuntime) {
     let (first, rest) = first_word(b"  LOGIN ALFA ");
     let (second, rest) = first_word(rest);
     let (none, _) = first_word(rest);
-    let words = [b"LOGIN".as_slice(), b"ALFA".as_slice(), b"".as_slice()];
-    assert!(rt; [first, second, none] == words);
+    assert!(rt; first == b"LOGIN".as_slice());
+    assert!(rt; second == b"ALFA".as_slice());
+    assert!(rt; none.is_empty());
+}
 
-    let hello = name_word(b"HELLO");
-    let name = FileName::new(hello, name_word(b"MAD"));
-    let names = (
-        name_text(hello),
-        name_text(name_word(b"")),
-        name_text(name.second),
-    );
-    let joined = LineText::joined(b"R ", b"1");
-    let texts = (
-        names.0.as_str(),
-        names.1.as_str(),
-        names.2.as_str(),
-        joined.as_str(),
-    );
-    assert_eq!(rt;
-        (hello.bits(), texts),
-        (0o302543434660, ("HELLO", "", "MAD", "R 1"))
-    );
+/// Texts of at most six characters, which are names.
+static NAMES: [&str; 3] = ["HELLO", "", "MAD"];
+
+#[test]
+fn names_are_words(rt: HostRuntime) {
+    assert!(rt; name_word(b"HELLO").bits() == 0o302543434660);
+    for (row, text) in NAMES.iter().enumerate() {
+        assert!(rt; text.len() <= 6);
+        let name = FileName::new(Word::default(), name_word(text.as_bytes()));
+        holds(&rt, row, name_text(name.second).as_str() == *text);
+    }
+    assert!(rt; LineText::joined(b"R ", b"1").as_str() == "R 1");
 }
 
 #[test]
@@ -98,6 +103,6 @@ fn faults_and_kinds_have_their_texts(rt: HostRuntime) -> Result<(), Fail> {
         SPENT\n\
         30\n";
     let numbers = [Refusal::NoFile as u8, Refusal::BadCount as u8];
-    assert_eq!(rt; (texts.as_str(), numbers), (want, [1, 7]));
+    assert!(rt; texts.as_str() == want && numbers == [1, 7]);
     Ok(())
 }

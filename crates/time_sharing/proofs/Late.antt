@@ -1,7 +1,6 @@
 -- Events that come at the limit or after it change nothing before it.
-use Rattle.std.proofs.Common.{inl, inr, ◌*◌, ◌≡◌, ℕ, zero, suc, ◌+◌, ◌-◌, ◌<◌, ◌≤◌, Bool, true, false, nat_lt, nat_le, nat_eq, List, [], ◌∷◌, ◌++◌, Option, Some, None, refl, sym, ap, ◌∙◌, arith, if◌then◌else◌, ltb-true, leb-true, length, length-append}
-use Rattle.std.proofs.lemmas.Bool.{cases_Bool}
-use Rattle.time_sharing.specs.Machine.{Machine, CutKind, Quit, Hang, Spent}
+use Rattle.std.proofs.Common.{◌≡◌, ℕ, zero, suc, ◌<◌, ◌≤◌, Bool, true, false, nat_lt, nat_le, nat_eq, List, [], ◌∷◌, ◌++◌, Option, Some, None, refl, sym, ap, ◌∙◌, arith, if◌then◌else◌, ltb-true, length-append}
+use Rattle.time_sharing.specs.Machine.{Machine}
 use Rattle.time_sharing.specs.System as system
 use Rattle.time_sharing.specs.System.{SystemState, World, Timed, Service, Console, Off, On, Password, Session, Dials, Types, Quits, Hangs, state_of, next, next_by, next_tick, otherwise, quiet_by, quiet}
 use Rattle.time_sharing.specs.Repeat.{repeat}

@@ -1,7 +1,7 @@
 -- Two states of one machine of rows that differ in their counts and in what was transcript before step alike.
-use Rattle.std.proofs.Common.{◌≡◌, ℕ, zero, suc, ◌+◌, ◌-◌, Bool, true, false, cond, List, [], ◌∷◌, ◌++◌, Option, Some, None, refl, sym, ap, subst, ◌∙◌, arith, append_assoc}
-use Rattle.time_sharing.specs.Machine.{Machine, Item, Line, Reply}
-use Rattle.time_sharing.specs.Rows.{Rows, Private, Outcome, machine, done, result_of, own_at_command_of, line_of, one_less, in_line, out_all}
+use Rattle.std.proofs.Common.{◌≡◌, ℕ, suc, ◌+◌, ◌-◌, true, false, cond, List, ◌++◌, refl, ap, ◌∙◌, arith}
+use Rattle.time_sharing.specs.Machine.{Item, Reply}
+use Rattle.time_sharing.specs.Rows.{Rows, Private, machine, done, result_of, own_at_command_of, line_of, one_less, in_line, out_all}
 
 module _ {A : Type 0} (rows : Rows A) where
   -- q with d more own steps, and with xs transcript

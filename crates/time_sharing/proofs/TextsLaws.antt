@@ -1,5 +1,5 @@
 -- Watching changes nothing of the machine, and no text is taken back.
-use Rattle.std.proofs.Common.{◌≡◌, ℕ, zero, suc, Bool, true, false, nat_lt, List, [], ◌∷◌, refl, ap, ◌∙◌}
+use Rattle.std.proofs.Common.{◌≡◌, ℕ, zero, suc, Bool, true, false, nat_lt, refl}
 use Rattle.time_sharing.specs.Machine.{Machine}
 use Rattle.time_sharing.specs.System.{SystemState, World, next}
 use Rattle.time_sharing.specs.Repeat.{repeat}

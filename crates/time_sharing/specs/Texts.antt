@@ -1,10 +1,10 @@
 -- claim: what the consoles show: seen from the steps of the machine of all users, which it doesn't change.
-use Rattle.std.specs.Prelude.{◌≡◌, ℕ, zero, suc, List, [], ◌∷◌, ◌++◌, nat_eq, if◌then◌else◌, drop, length, codes, replicate}
+use Rattle.std.specs.Prelude.{ℕ, suc, List, [], ◌∷◌, ◌++◌, nat_eq, if◌then◌else◌, drop, length, codes, replicate}
 use Rattle.std.specs.List.{flat_map}
 use Rattle.time_sharing.specs.Machine.{Machine, Line, Item, In, Out, Quitted, Hung}
-use Rattle.time_sharing.specs.System.{SystemState, World, Console, Off, On, Password, Session, Entry, Taken, Login, Refused, Idle, Swap, Rise, Serve, Clock, Common, Timed, at, state_of, next}
+use Rattle.time_sharing.specs.System.{SystemState, World, Console, Off, On, Password, Session, Entry, Taken, Login, Refused, Idle, Swap, Rise, Serve, Clock, Common, at, state_of, next}
 use Rattle.time_sharing.specs.Repeat.{repeat}
-use Rattle.time_sharing.specs.Record.{clock_is_below, measure, start}
+use Rattle.time_sharing.specs.Record.{clock_is_below, measure}
 
 -- the lines that items write
 abbrev pub written : List Item → List Line

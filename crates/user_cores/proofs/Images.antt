@@ -5,11 +5,11 @@ use Rattle.std.proofs.Common.{◌≡◌, ◌≢◌, inl, inr, ℕ, ◌+◌, ◌*
 use Rattle.std.proofs.lemmas.Bool.{cases_eq, false≢true}
 use Rattle.core_bank.specs.Bank.{block_at}
 use Rattle.drum_slots.specs.declared.slots.Slots.{Slots}
-use Rattle.onion_swap.specs.Places.{Layout, owner_of, base_of}
+use Rattle.onion_swap.specs.Places.{Layout, base_of}
 use Rattle.plan_model.specs.Loads.{is_loaded}
 use Rattle.image_map.specs.Blocks.{first}
 use Rattle.image_map.specs.Windows.{window}
-use Rattle.image_map.specs.Images.{size_of, image_in, where_told, resized, IsResident}
+use Rattle.image_map.specs.Images.{size_of, image_in, where_told, resized}
 use Rattle.image_map.specs.Places.{places_of}
 use Rattle.image_map.proofs.Residents.{image_resident, image_stays, resident_of}
 use Rattle.user_model.specs.Inner.{recut, zeros}

@@ -1,6 +1,6 @@
 use Rattle.std.proofs.Common.{◌≡◌, ℕ, List, ap, subst}
 use Rattle.medium.specs.Rows.{PagesState}
-use Rattle.ctss_top.specs.Answer.{Answers}
+use Rattle.ctss_modes.specs.Answer.{Answers}
 use Rattle.ctss_main.specs.Program.{handed, with_media}
 use Rattle.ctss_main.proofs.Answered.{no_memory, is_answered}
 use Rattle.ctss_main.proofs.program.run_program.Goals as goal

@@ -1,4 +1,4 @@
-use Rattle.std.specs.Prelude.{Option, Ok, take}
+use Rattle.std.specs.Prelude.{Option, Ok}
 use Rattle.std.specs.List.{All}
 use Rattle.std.proofs.lemmas.List.{get_or_default}
 use Rattle.std.proofs.Common.{◌≡◌, ◌<◌, ◌≤◌, ◌+◌, ◌*◌, ℕ, List, length, set, get_or, ◌∙◌, sym, ap, subst, arith}
@@ -10,7 +10,7 @@ use Rattle.file_tracks.specs.Stored.{body_on, files_on, IsWhole, IsDirectory, Le
 use Rattle.file_tracks.specs.Seen.{tells_of}
 use Rattle.file_tracks.specs.declared.table.Filed.{Filed}
 use Rattle.file_tracks.proofs.Puts.{within_used, old_bits, put_works, put_others, put_any, put_passes}
-use Rattle.file_tracks.proofs.Refusals.{any_refused, any_none, reaches, tells_still, put_kept}
+use Rattle.file_tracks.proofs.Refusals.{any_refused, any_same, reaches, tells_still, put_kept}
 use Rattle.file_tracks.proofs.writing.replace_in.Goals as goal
 
 pub used_after-requires-clause-before : goal.used_after-requires-clause-before
@@ -21,11 +21,11 @@ used_after-requires-clause-before g c =
     let e = c.len-before.ensures in
     omega (arith, a, b, e)
 
-pub swap_tracks-requires-clause-bits : goal.swap_tracks-requires-clause-bits
-swap_tracks-requires-clause-bits g c =
+pub rewritten-requires-clause-bits : goal.rewritten-requires-clause-bits
+rewritten-requires-clause-bits g c =
     let taken = c.args.store.now.tracks.taken.items in
-    let ts = c.deref.ensures.value ∙ ap (λ (x : Filed). x.tracks.items) c.index_mut-file.ensures.value in
-    λ t. subst (λ (us : List ℕ). count_in t us ≤ bit taken t) (sym ts) (old_bits _ _ _ _ _ c.requires.usable c.args.at c.index_mut-file.result.now c.requires.at t)
+    let ts = c.deref.ensures.value ∙ ap (λ (x : Filed). x.tracks.items) c.index-file.ensures in
+    λ t. subst (λ (us : List ℕ). count_in t us ≤ bit taken t) (sym ts) (old_bits _ _ _ _ _ c.requires.usable c.args.at c.index-file.result.now c.requires.at t)
 
 pub returns-then-file-ge2-clause-any : goal.returns-then-file-ge2-clause-any
 returns-then-file-ge2-clause-any g c = λ ok.
@@ -50,94 +50,99 @@ returns-in_default-clause-any g c = λ ok.
     (put_passes o taken quota used c.tracks_for-after.result fs c.args.at f c.args.words.now c.args.name c.requires.usable c.requires.at c.index-file.ensures c.requires.found
     (omega (arith, c.if-file-ge2.false)) c.tracks_for-after.ensures.value (omega (arith, over, e)))
 
-pub returns-in_default-padded-clause-any : goal.returns-in_default-padded-clause-any
-returns-in_default-padded-clause-any g c = λ ok.
-    any_none (put c.args.name c.args.words.now c.args.table.now.quota) (g.F.Medium.contents c.args.store.now.disk.now) (length c.args.store.now.tracks.taken.items) c.args.table.now.files.items
-
-pub returns-in_default-room_for_tracks-clause-any : goal.returns-in_default-room_for_tracks-clause-any
-returns-in_default-room_for_tracks-clause-any g c = λ ok.
-    any_none (put c.args.name c.args.words.now c.args.table.now.quota) (g.F.Medium.contents c.args.store.now.disk.now) (length c.args.store.now.tracks.taken.items) c.args.table.now.files.items
+pub returns-in-Err-NoMemory-clause-any : goal.returns-in-Err-NoMemory-clause-any
+returns-in-Err-NoMemory-clause-any g c = λ ok.
+    any_same (put c.args.name c.args.words.now c.args.table.now.quota) (g.F.Medium.contents c.args.store.now.disk.now) (g.F.Medium.contents c.rewritten.new.store.disk.now) (length c.args.store.now.tracks.taken.items) c.args.table.now.files.items
+    (c.rewritten.ensures.contents (rw c.in-Err-NoMemory.field-0-is at c.in-Err-NoMemory.is))
 
 pub returns-clause-any : goal.returns-clause-any
 returns-clause-any g c = λ ok was may few whole.
     let o = g.F.Medium.contents c.args.store.now.disk.now in
     let taken = c.args.store.now.tracks.taken.items in
-    let taken' = c.swap_tracks.new.store.tracks.taken.items in
+    let taken' = c.rewritten.new.store.tracks.taken.items in
     let quota = c.args.table.now.quota in
     let used = c.args.table.now.used in
     let fs = c.args.table.now.files.items in
     let at = c.args.at in
     let f = c.index_mut-file.result.now in
-    let v = c.in-Ok-swap_tracks.tracks in
+    let v = c.in-Ok.tracks in
     let ws = c.args.words.now in
-    let bits = c.deref-2.result.now in
     let n = c.tracks_for-after.result in
-    let e = c.in-Ok-swap_tracks.ensures in
+    let e = c.in-Ok.ensures in
+    let w = e.written in
     let is = c.index_mut-file.ensures.value in
-    let same : c.index-file.result.now ≡ f = c.index-file.ensures ∙ get_or_default fs at c.index-file.result.now f c.requires.at ∙ sym c.index_mut-file.ensures.value in
-    let swaps : (t : ℕ) → count_in t v.items + bit taken t ≡ count_in t f.tracks.items + bit taken' t = λ t. e.bits t ∙ ap (λ (ts : List ℕ). count_in t ts + bit taken' t) c.deref.ensures.value in
-    let plen : length bits ≡ 432 * n = ap length c.deref-2.ensures.value ∙ c.in-Ok.ensures.len in
-    let cut : take (length ws) bits ≡ ws = ap (take (length ws)) c.deref-2.ensures.value ∙ c.in-Ok.ensures.words in
+    let same : c.index-file.result.now ≡ f = c.index-file.ensures ∙ get_or_default fs at c.index-file.result.now f c.requires.at ∙ sym is in
+    let ts : c.deref.result.now ≡ f.tracks.items = c.deref.ensures.value ∙ ap (λ (x : Filed). x.tracks.items) same in
+    let olds = ap length ts in
+    let swaps : (t : ℕ) → count_in t v.items + bit taken t ≡ count_in t f.tracks.items + bit taken' t = λ t. e.bits t ∙ ap (λ (us : List ℕ). count_in t us + bit taken' t) ts in
+    let plen : length w.bits ≡ 432 * n = w.whole ∙ ap (λ (k : ℕ). 432 * k) e.len in
     let sum : c.in-Some.used + length f.tracks.items ≡ used + n =
     (let a = c.in-Some.ensures.0 in let b = c.len-before.ensures in let d = ap (λ (x : Filed). length x.tracks.items) same in omega (arith, a, b, d)) in
-    let counts : count_taken taken' + length f.tracks.items ≡ count_taken taken + n = ap (λ (ts : List ℕ). count_taken taken' + length ts) (sym c.deref.ensures.value) ∙ e.counts in
-    let free : f.mode < 2 = (let a = c.if-file-ge2.false in let d = ap (λ (x : Filed). x.mode) same in omega (arith, a, d)) in
+    let counts : count_taken taken' + length f.tracks.items ≡ count_taken taken + n = (let a = e.counts in omega (arith, a, olds)) in
+    let reach = reaches o (g.F.Medium.record_count c.args.store.now.disk.now) (length taken) c.requires.serves.shape c.requires.serves.within in
     let new : Filed = record { name = f.name; mode = f.mode; words = length ws; tracks = v } in
+    let free : f.mode < 2 = (let a = c.if-file-ge2.false in let d = ap (λ (x : Filed). x.mode) same in omega (arith, a, d)) in
     subst (λ (p : Option (List (List ℕ))). (now : List (List ℕ)) × (MayBe p now × (All (IsWhole now) (set fs at new) × (put c.args.name ws quota (files_on was fs) ≡ Ok (files_on now (set fs at new))))))
-    (sym e.contents)
-    (put_any o taken taken' quota used c.in-Some.used n fs at f v ws bits c.requires.usable c.requires.at is (reaches o (g.F.Medium.record_count c.args.store.now.disk.now) (length taken) c.requires.serves.shape c.requires.serves.within) swaps e.many e.len c.tracks_for-after.ensures.value plen cut sum c.in-Some.ensures.1 counts c.args.name c.requires.found free was may few whole)
+    (sym w.contents)
+    (put_any o taken taken' quota used c.in-Some.used n fs at f v ws w.bits c.requires.usable c.requires.at is reach swaps e.many e.len c.tracks_for-after.ensures.value plen w.front sum c.in-Some.ensures.1 counts c.args.name c.requires.found free was may few whole)
 
 pub returns-clause-others : goal.returns-clause-others
 returns-clause-others g c = λ ok others beside.
     let o = g.F.Medium.contents c.args.store.now.disk.now in
     let taken = c.args.store.now.tracks.taken.items in
-    let taken' = c.swap_tracks.new.store.tracks.taken.items in
+    let taken' = c.rewritten.new.store.tracks.taken.items in
     let quota = c.args.table.now.quota in
     let used = c.args.table.now.used in
     let fs = c.args.table.now.files.items in
     let at = c.args.at in
     let f = c.index_mut-file.result.now in
-    let v = c.in-Ok-swap_tracks.tracks in
+    let v = c.in-Ok.tracks in
     let ws = c.args.words.now in
-    let bits = c.deref-2.result.now in
     let n = c.tracks_for-after.result in
-    let count = g.F.Medium.record_count c.args.store.now.disk.now in
-    let e = c.in-Ok-swap_tracks.ensures in
-    let same : c.index-file.result.now ≡ f = c.index-file.ensures ∙ get_or_default fs at c.index-file.result.now f c.requires.at ∙ sym c.index_mut-file.ensures.value in
-    let swaps : (t : ℕ) → count_in t v.items + bit taken t ≡ count_in t f.tracks.items + bit taken' t = λ t. e.bits t ∙ ap (λ (ts : List ℕ). count_in t ts + bit taken' t) c.deref.ensures.value in
-    let plen : length bits ≡ 432 * n = ap length c.deref-2.ensures.value ∙ c.in-Ok.ensures.len in
-    let cut : take (length ws) bits ≡ ws = ap (take (length ws)) c.deref-2.ensures.value ∙ c.in-Ok.ensures.words in
+    let e = c.in-Ok.ensures in
+    let w = e.written in
+    let is = c.index_mut-file.ensures.value in
+    let same : c.index-file.result.now ≡ f = c.index-file.ensures ∙ get_or_default fs at c.index-file.result.now f c.requires.at ∙ sym is in
+    let ts : c.deref.result.now ≡ f.tracks.items = c.deref.ensures.value ∙ ap (λ (x : Filed). x.tracks.items) same in
+    let olds = ap length ts in
+    let swaps : (t : ℕ) → count_in t v.items + bit taken t ≡ count_in t f.tracks.items + bit taken' t = λ t. e.bits t ∙ ap (λ (us : List ℕ). count_in t us + bit taken' t) ts in
+    let plen : length w.bits ≡ 432 * n = w.whole ∙ ap (λ (k : ℕ). 432 * k) e.len in
     let sum : c.in-Some.used + length f.tracks.items ≡ used + n =
     (let a = c.in-Some.ensures.0 in let b = c.len-before.ensures in let d = ap (λ (x : Filed). length x.tracks.items) same in omega (arith, a, b, d)) in
-    let counts : count_taken taken' + length f.tracks.items ≡ count_taken taken + n = ap (λ (ts : List ℕ). count_taken taken' + length ts) (sym c.deref.ensures.value) ∙ e.counts in
-    subst (λ (p : Option (List (List ℕ))). LeavesOthers o p taken taken' fs (set fs at (record { name = f.name; mode = f.mode; words = length ws; tracks = v })) others) (sym e.contents)
-    (put_others o taken taken' quota used c.in-Some.used n fs at f v ws bits c.requires.usable c.requires.at c.index_mut-file.ensures.value (reaches o count (length taken) c.requires.serves.shape c.requires.serves.within) swaps e.many e.len c.tracks_for-after.ensures.value plen cut sum c.in-Some.ensures.1 counts others beside)
+    let counts : count_taken taken' + length f.tracks.items ≡ count_taken taken + n = (let a = e.counts in omega (arith, a, olds)) in
+    let reach = reaches o (g.F.Medium.record_count c.args.store.now.disk.now) (length taken) c.requires.serves.shape c.requires.serves.within in
+    let new : Filed = record { name = f.name; mode = f.mode; words = length ws; tracks = v } in
+    subst (λ (p : Option (List (List ℕ))). LeavesOthers o p taken taken' fs (set fs at new) others) (sym w.contents)
+    (put_others o taken taken' quota used c.in-Some.used n fs at f v ws w.bits c.requires.usable c.requires.at is reach swaps e.many e.len c.tracks_for-after.ensures.value plen w.front sum c.in-Some.ensures.1 counts others beside)
 
 pub returns-clause-usable : goal.returns-clause-usable
 returns-clause-usable g c = λ ok.
     let o = g.F.Medium.contents c.args.store.now.disk.now in
     let taken = c.args.store.now.tracks.taken.items in
-    let taken' = c.swap_tracks.new.store.tracks.taken.items in
+    let taken' = c.rewritten.new.store.tracks.taken.items in
     let quota = c.args.table.now.quota in
     let used = c.args.table.now.used in
     let fs = c.args.table.now.files.items in
     let at = c.args.at in
     let f = c.index_mut-file.result.now in
-    let v = c.in-Ok-swap_tracks.tracks in
+    let v = c.in-Ok.tracks in
     let ws = c.args.words.now in
-    let bits = c.deref-2.result.now in
     let n = c.tracks_for-after.result in
-    let count = g.F.Medium.record_count c.args.store.now.disk.now in
-    let e = c.in-Ok-swap_tracks.ensures in
-    let same : c.index-file.result.now ≡ f = c.index-file.ensures ∙ get_or_default fs at c.index-file.result.now f c.requires.at ∙ sym c.index_mut-file.ensures.value in
-    let swaps : (t : ℕ) → count_in t v.items + bit taken t ≡ count_in t f.tracks.items + bit taken' t = λ t. e.bits t ∙ ap (λ (ts : List ℕ). count_in t ts + bit taken' t) c.deref.ensures.value in
-    let plen : length bits ≡ 432 * n = ap length c.deref-2.ensures.value ∙ c.in-Ok.ensures.len in
-    let cut : take (length ws) bits ≡ ws = ap (take (length ws)) c.deref-2.ensures.value ∙ c.in-Ok.ensures.words in
+    let e = c.in-Ok.ensures in
+    let w = e.written in
+    let is = c.index_mut-file.ensures.value in
+    let same : c.index-file.result.now ≡ f = c.index-file.ensures ∙ get_or_default fs at c.index-file.result.now f c.requires.at ∙ sym is in
+    let ts : c.deref.result.now ≡ f.tracks.items = c.deref.ensures.value ∙ ap (λ (x : Filed). x.tracks.items) same in
+    let olds = ap length ts in
+    let swaps : (t : ℕ) → count_in t v.items + bit taken t ≡ count_in t f.tracks.items + bit taken' t = λ t. e.bits t ∙ ap (λ (us : List ℕ). count_in t us + bit taken' t) ts in
+    let plen : length w.bits ≡ 432 * n = w.whole ∙ ap (λ (k : ℕ). 432 * k) e.len in
     let sum : c.in-Some.used + length f.tracks.items ≡ used + n =
     (let a = c.in-Some.ensures.0 in let b = c.len-before.ensures in let d = ap (λ (x : Filed). length x.tracks.items) same in omega (arith, a, b, d)) in
-    let counts : count_taken taken' + length f.tracks.items ≡ count_taken taken + n = ap (λ (ts : List ℕ). count_taken taken' + length ts) (sym c.deref.ensures.value) ∙ e.counts in
-    subst (λ (p : Option (List (List ℕ))). IsDirectory p taken' quota c.in-Some.used (set fs at (record { name = f.name; mode = f.mode; words = length ws; tracks = v }))) (sym e.contents)
-    (put_works o taken taken' quota used c.in-Some.used n fs at f v ws bits c.requires.usable c.requires.at c.index_mut-file.ensures.value (reaches o count (length taken) c.requires.serves.shape c.requires.serves.within) swaps e.many e.len c.tracks_for-after.ensures.value plen cut sum c.in-Some.ensures.1 counts)
+    let counts : count_taken taken' + length f.tracks.items ≡ count_taken taken + n = (let a = e.counts in omega (arith, a, olds)) in
+    let reach = reaches o (g.F.Medium.record_count c.args.store.now.disk.now) (length taken) c.requires.serves.shape c.requires.serves.within in
+    let new : Filed = record { name = f.name; mode = f.mode; words = length ws; tracks = v } in
+    subst (λ (p : Option (List (List ℕ))). IsDirectory p taken' quota c.in-Some.used (set fs at new)) (sym w.contents)
+    (put_works o taken taken' quota used c.in-Some.used n fs at f v ws w.bits c.requires.usable c.requires.at is reach swaps e.many e.len c.tracks_for-after.ensures.value plen w.front sum c.in-Some.ensures.1 counts)
 
 pub returns-clause-telling : goal.returns-clause-telling
-returns-clause-telling g c = λ ok. ap tells_of c.in-Ok-swap_tracks.ensures.contents ∙ tells_still _ c.in-Ok-swap_tracks.tracks.items c.deref-2.result.now
+returns-clause-telling g c = λ ok. ap tells_of c.in-Ok.ensures.written.contents ∙ tells_still _ c.in-Ok.tracks.items c.in-Ok.ensures.written.bits

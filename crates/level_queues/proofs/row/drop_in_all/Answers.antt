@@ -1,5 +1,4 @@
-use Rattle.std.proofs.Common.{map}
-use Rattle.plan_model.specs.Levels.{without_user, one_less}
+use Rattle.plan_model.specs.Levels.{without_user}
 use Rattle.level_queues.proofs.Counts.{over_at}
 use Rattle.level_queues.proofs.row.drop_in_all.Goals as goal
 

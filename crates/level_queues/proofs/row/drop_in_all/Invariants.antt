@@ -1,5 +1,5 @@
 use Rattle.std.proofs.Common.{◌≡◌, ◌++◌, map, take, drop}
-use Rattle.plan_model.specs.Levels.{without_user, one_less}
+use Rattle.plan_model.specs.Levels.{without_user}
 use Rattle.level_queues.proofs.row.drop_in_all.Given as goal
 
 abbrev pub invariant-loop-row : goal.invariant-loop-row

@@ -1,4 +1,4 @@
-use Rattle.std.proofs.Common.{rules, arith}
+use Rattle.std.proofs.Common.{rules}
 use Rattle.level_queues.proofs.Spending.{spent_here, spent_past}
 use Rattle.level_queues.proofs.row.spend_each.Goals as goal
 

@@ -1,4 +1,4 @@
-use Rattle.std.proofs.Common.{rules, refl, sym}
+use Rattle.std.proofs.Common.{rules, refl}
 use Rattle.level_queues.proofs.Spending.{in_below, row_once, row_here, row_on, rows_past}
 use Rattle.level_queues.proofs.row.spend_in_all.Goals as goal
 

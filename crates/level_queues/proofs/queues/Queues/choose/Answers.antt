@@ -1,4 +1,4 @@
-use Rattle.std.proofs.Common.{◌≡◌, ℕ, Some, sym, ap, ◌∙◌}
+use Rattle.std.proofs.Common.{Some, sym, ap, ◌∙◌}
 use Rattle.ctss_types.specs.declared.session.Waiting.{Waiting}
 use Rattle.plan_model.specs.Levels.{since_in}
 use Rattle.level_queues.proofs.queues.Queues.choose.Goals as goal

@@ -1,5 +1,3 @@
-use Rattle.std.proofs.Common.{◌≡◌, ◌≤◌, ℕ}
-use Rattle.ctss_types.specs.declared.session.Waiting.{Waiting}
 use Rattle.level_queues.proofs.Counts.{first_known_if}
 use Rattle.level_queues.proofs.queues.Queues.first.Goals as goal
 

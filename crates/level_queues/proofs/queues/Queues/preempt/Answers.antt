@@ -1,4 +1,4 @@
-use Rattle.std.proofs.Common.{rules, arith}
+use Rattle.std.proofs.Common.{rules}
 use Rattle.level_queues.proofs.Rising.{sound_now, empty_now, rise_now}
 use Rattle.level_queues.proofs.queues.Queues.preempt.Goals as goal
 

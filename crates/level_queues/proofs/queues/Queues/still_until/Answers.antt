@@ -1,5 +1,4 @@
-use Rattle.std.proofs.Common.{rules, ◌≡◌, ◌<◌, ℕ, true, subst, arith}
-use Rattle.plan_model.specs.Levels.{Levels}
+use Rattle.std.proofs.Common.{rules, subst}
 use Rattle.plan_model.specs.Spent.{NobodyRises}
 use Rattle.level_queues.proofs.Rising.{never, before, not_before_all}
 use Rattle.level_queues.proofs.queues.Queues.still_until.Goals as goal

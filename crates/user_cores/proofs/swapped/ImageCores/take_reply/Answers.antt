@@ -1,4 +1,4 @@
-use Rattle.std.proofs.Common.{◌≡◌, ◌≤◌, ◌+◌, ◌*◌, ℕ, List, sym, ◌∙◌, ap, subst, take, drop}
+use Rattle.std.proofs.Common.{◌≡◌, ◌≤◌, ◌+◌, ◌*◌, ℕ, List, sym, ◌∙◌, subst, take, drop}
 use Rattle.image_map.specs.State.{size, base}
 use Rattle.image_map.specs.Image.{state}
 use Rattle.user_cores.proofs.Usable.{works_in}

@@ -1,0 +1,9 @@
+pub mod Runs
+pub mod Playing
+pub mod Says
+pub mod Cards
+pub mod Lines
+pub mod Allowed
+pub mod Complete
+pub mod Answering
+pub mod Unread

@@ -1,0 +1,109 @@
+//! The record of a script, over drum and disk.
+ghost use Rattle.std.specs.Prelude.{◌≡◌, IfOk, OnOk};
+ghost use Rattle.std.specs.List.{All};
+ghost use Rattle.drum_slots.specs.Kept.{Serves};
+ghost use Rattle.track_store.specs.Tracks.{Serves as Holds};
+ghost use Rattle.track_directories.specs.Tables.{disk_of};
+ghost use Rattle.image_map.specs.Image.{state, seen};
+ghost use Rattle.plan_model.specs.Loads.{Places, no_places};
+ghost use Rattle.text_model.specs.Lawful.{IsLawful};
+ghost use Rattle.time_sharing.specs.System.{Timed};
+ghost use Rattle.system_model.specs.Run.{with_all_events};
+ghost use Rattle.system_model.specs.Sound.{HasSeat};
+ghost use Rattle.supervisor.specs.Seen.{run_with};
+ghost use Rattle.supervisor.specs.Steps.{Lasts};
+ghost use Rattle.supervisor.specs.Whole.{whole_of};
+ghost use Rattle.live_run.specs.Media.{media_seen};
+ghost use Rattle.ctss_modes.specs.Played.{IsPlayed, IsScriptRun};
+
+use ctss_types::{NoMemory, RunFault, Script, Timed};
+use image_map::Image;
+use live_run::{Begun, Played, begin, finish};
+use medium::Medium;
+use std::alloc::Global;
+use supervisor::Supervisor;
+use track_directories::TrackDirectories;
+use user_cores::Behind;
+
+/// Events are given to a supervisor, in their order.
+fn give_all(supervisor: &mut Supervisor, events: &[Timed]) -> Result<(), NoMemory>
+    requires seats { All (λ (e : Timed). HasSeat e (run_with no_places supervisor.old)) events.now }
+    ensures given { (places : Places)
+        → OnOk result (run_with places supervisor.new ≡ with_all_events events.now (run_with places supervisor.old)) }
+    ensures texts { supervisor.new.texts ≡ supervisor.old.texts }
+{
+    for event in events {
+        supervisor.take(*event)?;
+    }
+    Ok(())
+}
+
+/// A supervisor and what lies behind its users' sessions, behind the run of its script, and how that ended.
+#[derive(Drop)]
+pub struct ScriptRun<'a, 'd, D: Medium, F: Medium> {
+    pub supervisor: Supervisor,
+    pub behind: Behind<Image<'a, D>, TrackDirectories<'d, F>>,
+    pub ended: Result<(), RunFault>,
+}
+
+/// The run of a script: all its events are given, and it goes to the script's end, unless drum or disk fails or memory lacks. Where the
+/// first files can't be written it never begins.
+pub fn run_script<'a, 'd, D: Medium, F: Medium>(
+    alloc: Global,
+    script: &Script,
+    drum: &'a mut D,
+    disk: &'d mut F,
+) -> Result<ScriptRun<'a, 'd, D, F>, NoMemory>
+    requires lawful { IsLawful script.now }
+    requires drum { Serves (D.contents drum.old) (D.record_count drum.old) (D.words_each drum.old) 3840 }
+    requires disk { Holds (F.contents disk.old) (F.record_count disk.old) (F.words_each disk.old) 10000 }
+    ensures drum { IfOk result (λ p. (state p.behind.cores).drum.name ≡ (seen D.Medium drum.entry).name) }
+    ensures disk { IfOk result (λ p. (disk_of p.behind.files).ghost_name ≡ disk.entry.ghost_name) }
+    ensures usable { IfOk result (λ p. Lasts p.ended
+        (⟦<Behind<Image<'a, D>, TrackDirectories<'d, F>> as user_cores::Backing>⟧.Usable p.behind)) }
+    ensures ran { IfOk result (λ p. IsScriptRun script.now (media_seen D.Medium F.Medium drum.old disk.old) p.ended
+        (whole_of p.supervisor
+        (⟦<Behind<Image<'a, D>, TrackDirectories<'d, F>> as user_cores::Backing>⟧.state p.behind))) }
+{
+    let Begun { run, wrote } = begin(alloc, script, drum, disk)?;
+    let (mut supervisor, mut behind) = run.into_parts();
+    if wrote.is_err() {
+        return Ok(ScriptRun {
+            supervisor,
+            behind,
+            ended: Err(RunFault::Disk),
+        });
+    }
+    give_all(&mut supervisor, script.events.as_slice())?;
+    let ended = supervisor.advance(&mut behind, script.end);
+    Ok(ScriptRun {
+        supervisor,
+        behind,
+        ended,
+    })
+}
+
+/// The record of a script, unless drum or disk fails.
+pub fn record_script<D: Medium, F: Medium>(
+    alloc: Global,
+    script: &Script,
+    drum: &mut D,
+    disk: &mut F,
+) -> Result<Played, NoMemory>
+    requires lawful { IsLawful script.now }
+    requires drum { Serves (D.contents drum.old) (D.record_count drum.old) (D.words_each drum.old) 3840 }
+    requires disk { Holds (F.contents disk.old) (F.record_count disk.old) (F.words_each disk.old) 10000 }
+    ensures { IfOk result (IsPlayed script.now (media_seen D.Medium F.Medium drum.old disk.old)
+        (media_seen D.Medium F.Medium drum.new disk.new)) }
+{
+    let ScriptRun {
+        supervisor,
+        mut behind,
+        ended,
+    } = run_script(alloc, script, drum, disk)?;
+    let played = finish(alloc, supervisor, &mut behind, ended);
+    let (cores, files) = behind.into_parts();
+    let _ = cores.back();
+    let _ = files.back();
+    played
+}

@@ -1,0 +1,34 @@
+-- proof: words that were written into the tracks of a file.
+use Rattle.std.specs.Prelude.{◌≡◌, ℕ, ◌+◌, ◌-◌, ◌*◌, ◌/◌, ◌++◌, List, length, take, drop, min, replicate, Option}
+use Rattle.faults.specs.Faults.{WhereTold}
+use Rattle.file_model.specs.Files.{overwritten}
+use Rattle.track_store.specs.Words.{joined, with_words}
+
+-- words were written into these tracks, with something behind them
+pub record AreWritten (words tracks : List ℕ) (old new : Option (List (List ℕ))) : Type 0 where
+  pub bits : List ℕ
+  pub whole : length bits ≡ 432 * length tracks
+  pub front : take (length words) bits ≡ words
+  pub contents : new ≡ with_words old tracks bits
+
+-- the first track that words from a place on take
+abbrev pub from_track : ℕ → ℕ
+from_track place = place / 432
+
+-- the track behind the last one that so many words from a place on take
+abbrev pub to_track : ℕ → ℕ → ℕ
+to_track place count = (place + count + 431) / 432
+
+-- what tracks from one on to another hold, and zeros where there are fewer tracks
+abbrev pub held : List (List ℕ) → List ℕ → ℕ → ℕ → List ℕ
+held contents tracks from to =
+    joined contents (take (min to (length tracks) - from) (drop from tracks))
+    ++ replicate (432 * (to - from) - 432 * length (take (min to (length tracks) - from) (drop from tracks))) 0
+
+-- words were laid from a place on over what tracks held, and written into these tracks, which begin with those
+pub record AreWrittenOver (place : ℕ) (words had has : List ℕ) (old new : Option (List (List ℕ))) : Type 0 where
+  pub bits : List ℕ
+  pub whole : length bits ≡ 432 * (to_track place (length words) - from_track place)
+  pub told : WhereTold old (λ contents. bits ≡ overwritten (place - 432 * from_track place) words
+      (held contents had (from_track place) (to_track place (length words))))
+  pub contents : new ≡ with_words old (take (to_track place (length words) - from_track place) (drop (from_track place) has)) bits

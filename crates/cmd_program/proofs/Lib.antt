@@ -1,3 +1,4 @@
 pub mod Stores
 pub mod Heads
 pub mod Digits
+pub mod Links

@@ -2,11 +2,11 @@
 //! are `Requests` and `Commands` of user_model.
 #![tactic(auto)]
 
-ghost use Rattle.std.specs.Prelude.{◌≡◌, ◌≤◌, ◌∷◌, [], length, drop, nat_eq, true, MatchOption, None, Some};
+ghost use Rattle.std.specs.Prelude.{◌≡◌, ◌≤◌, ◌∷◌, [], length, drop, nat_eq, nat_le, true, MatchOption, None, Some};
 ghost use Rattle.std.specs.List.{list_all};
 ghost use Rattle.std.specs.Option.{unwrap_or};
 ghost use Rattle.ctss_types.specs.Words.{words_of};
-ghost use Rattle.user_model.specs.Requests.{word_name, file_in, digit_in, alone, rename_of, chmode_of, is_octal_digit, octal_from, place_in, post_mortem_of, copy_by, command_by, command_of};
+ghost use Rattle.user_model.specs.Requests.{word_name, file_in, digit_in, alone, rename_of, chmode_of, is_octal_digit, octal_from, place_in, post_mortem_of, copy_by, linking_of, run_of, command_by, command_of};
 ghost use Rattle.user_model.specs.Commands.{is_dormant};
 ghost use Rattle.command_table.specs.Words.{file_first, one_name, one_file};
 
@@ -71,6 +71,8 @@ fn command_by(name: &[u8], rest: &[u8]) -> Option<Command>
         copy(rest)
     } else if name == b"FAP".as_slice() {
         one_name(rest).map(Command::Assemble)
+    } else if name == b"LINK".as_slice() {
+        link(rest)
     } else if name == b"START".as_slice() {
         alone(Command::Start, rest)
     } else if name == b"SAVE".as_slice() {
@@ -79,6 +81,10 @@ fn command_by(name: &[u8], rest: &[u8]) -> Option<Command>
         one_name(rest).map(Command::Resume)
     } else if name == b"PM".as_slice() {
         post_mortem(rest)
+    } else if name == b"FAPDBG".as_slice() {
+        alone(Command::Debug, rest)
+    } else if name == b"RUNCOM".as_slice() {
+        run_file(rest)
     } else {
         Some(Command::Unknown)
     }
@@ -169,6 +175,48 @@ fn post_mortem(rest: &[u8]) -> Option<Command>
         Some(Command::WordAt { place })
     } else {
         None
+    }
+}
+
+/// LINK, with a deck's name and the names of one to eight modules behind it.
+fn link(rest: &[u8]) -> Option<Command>
+    ensures { unwrap_or result Command.BadArguments ≡ linking_of (words_of rest.now) }
+{
+    let (word, behind) = next_word(rest)?;
+    if is_over(behind) || !are_at_most(behind, 8) || !are_short(behind) {
+        return None;
+    }
+    Some(Command::Link(word_name(word)?))
+}
+
+/// RUNCOM, with a command file's name and at most nine arguments behind it.
+fn run_file(rest: &[u8]) -> Option<Command>
+    ensures { unwrap_or result Command.BadArguments ≡ run_of (words_of rest.now) }
+{
+    let (word, behind) = next_word(rest)?;
+    if !are_at_most(behind, 9) {
+        return None;
+    }
+    Some(Command::RunFile(word_name(word)?))
+}
+
+/// Whether a text has at most so many words.
+fn are_at_most(text: &[u8], most: u8) -> bool
+    ensures { result ≡ nat_le (length (words_of text.now)) most }
+{
+    match next_word(text) {
+        None => true,
+        Some((_, rest)) => most > 0 && are_at_most(rest, most - 1),
+    }
+}
+
+/// Whether each word of a text is as short as a name.
+fn are_short(text: &[u8]) -> bool
+    ensures { result ≡ list_all (λ w. nat_le (length w) 6) (words_of text.now) }
+{
+    match next_word(text) {
+        None => true,
+        Some((word, rest)) => word.len() <= 6 && are_short(rest),
     }
 }
 

@@ -58,7 +58,15 @@ impl Bank {
         requires { at < 32768 }
         ensures { result ≡ slice_index self.now at }
     {
-        self.memory.words()[at as usize]
+        self.word(usize::from(at))
+    }
+
+    /// The word at a place that is as wide as an index.
+    pub fn word(&self, at: usize) -> u64
+        requires { at < 32768 }
+        ensures { result ≡ slice_index self.now at }
+    {
+        self.memory.words()[at]
     }
 
     /// Puts a word at an address.
@@ -68,7 +76,17 @@ impl Bank {
         ensures value { self.new ≡ slice_set self.old at word }
         ensures words { AreWords self.old → AreWords self.new }
     {
-        self.memory.all_mut()[at as usize] = word;
+        self.put(usize::from(at), word);
+    }
+
+    /// Puts a word at a place that is as wide as an index.
+    pub fn put(&mut self, at: usize, word: u64)
+        requires inside { at < 32768 }
+        requires word { word < 2 ^ 36 }
+        ensures value { self.new ≡ slice_set self.old at word }
+        ensures words { AreWords self.old → AreWords self.new }
+    {
+        self.memory.all_mut()[at] = word;
     }
 
     /// The words of a block.

@@ -1,7 +1,7 @@
 -- Lines written, as items.
-use Rattle.std.proofs.Common.{◌≡◌, ◌≤◌, ℕ, zero, suc, List, [], ◌∷◌, ◌++◌, length, map, take, arith, append_assoc, refl, ap}
+use Rattle.std.proofs.Common.{◌≡◌, ◌≤◌, ℕ, zero, suc, List, [], ◌∷◌, ◌++◌, length, map, take, arith, append_assoc, refl, ap, true, not, nat_eq}
 use Rattle.time_sharing.specs.Machine.{Line, Item, In, Out}
-use Rattle.time_sharing.specs.Rows.{out_all}
+use Rattle.time_sharing.specs.Rows.{out_all, some_line}
 
 pub out_whole : (n : ℕ) (lines : List Line) → length lines ≤ n → map Out (take n lines) ≡ out_all lines
 out_whole zero [] h = refl
@@ -16,3 +16,8 @@ out_behind (x ∷ lines) l = ap (λ (items : List Item). Out x ∷ items) (out_b
 pub command_lines : (old one two three new : List Item) (l t r : Line) (lines : List Line) → one ≡ old ++ In l ∷ [] → two ≡ one ++ Out t ∷ [] → three ≡ two ++ out_all lines → new ≡ three ++ Out r ∷ []
     → new ≡ old ++ In l ∷ Out t ∷ out_all (lines ++ r ∷ [])
 command_lines old one two three new l t r lines a b c d = rw (out_behind lines r, d, c, b, a) (simp append_assoc)
+
+-- a line stands before others
+pub unread_some : (xs ys : List Line) → not (nat_eq (length xs) 0) ≡ true → some_line (xs ++ ys) ≡ true
+unread_some [] ys h = cc
+unread_some (x ∷ xs) ys h = refl

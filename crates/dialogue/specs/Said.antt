@@ -8,3 +8,5 @@ pub record Said : Type 0 where
   pub capacity : ℕ
   pub unread : List Line
   pub lines : ℕ
+  -- how many of the unread lines are a command file's; these stand first
+  pub fed : ℕ

@@ -3,7 +3,7 @@
 //! What is written needs room: `reserve` takes it, and the calls that write ask for it, so that they can't fail.
 #![tactic(auto)]
 
-ghost use Rattle.std.specs.Prelude.{◌≡◌, ◌<◌, ◌≤◌, ◌+◌, ◌^◌, ◌++◌, ◌∷◌, ◌↔◌, [], true, drop, length, option_to_list, slice_get, IfOk, OnOk, OnErr, vec_len, vec_capacity};
+ghost use Rattle.std.specs.Prelude.{◌≡◌, ◌<◌, ◌≤◌, ◌+◌, ◌-◌, ◌^◌, ◌++◌, ◌∷◌, ◌↔◌, [], true, drop, length, option_to_list, slice_get, IfOk, OnOk, OnErr, vec_len, vec_capacity};
 ghost use Rattle.std.specs.List.{list_all};
 ghost use Rattle.bcd48.specs.Characters.{is_character};
 ghost use Rattle.dialogue.specs.Said.{Said};
@@ -14,11 +14,14 @@ ghost use Rattle.user_model.specs.Texts.{time_text, ready_text, stop_text, logge
 
 mod notes;
 
-use crate::notes::{note, note_command, note_end, note_lines, note_ready, note_stop, note_taken};
+use crate::notes::{
+    note, note_command, note_end, note_lines, note_read, note_ready, note_stop, note_taken,
+};
 use ctss_types::{Item, Items, LineText, NoMemory, Sequence};
 use line_buffer::Lines;
 pub use line_buffer::Put;
 use program_model::ProgramState;
+use runcom::CommandLines;
 use session_text::{logged_in_text, logged_out_text, ready_text};
 use std::alloc::Global;
 use std::marker::Model;
@@ -28,11 +31,12 @@ use word36::Word;
 #[derive(Drop)]
 pub struct Dialogue {
     items: Vec<Item>,
+    commands: CommandLines,
     lines: Lines,
 }
 
 impl Model for Dialogue {
-    ghost use Rattle.std.specs.Prelude.{vec_capacity};
+    ghost use Rattle.std.specs.Prelude.{◌++◌, length, vec_capacity};
     ghost use Rattle.dialogue.specs.Said.{Said};
 
     ghost Value = { Said };
@@ -40,19 +44,22 @@ impl Model for Dialogue {
     ghost view = { λ d. record {
       transcript = d.items.items;
       capacity = vec_capacity d.items;
-      unread = d.lines.lines;
+      unread = d.commands ++ d.lines.lines;
       lines = d.lines.count;
+      fed = length d.commands;
     } };
 }
 
 impl Dialogue {
     /// Nothing said yet. It takes the room for the lines typed ahead.
     pub fn new(alloc: Global) -> Result<Dialogue, NoMemory>
-        ensures { IfOk result (λ d. d ≡ record d { transcript = []; unread = []; lines = 0 }) }
+        ensures { IfOk result (λ d. d ≡ record d { transcript = []; unread = []; lines = 0; fed = 0 }) }
     {
+        let commands = CommandLines::new(alloc)?;
         let lines = Lines::new(alloc)?;
         Ok(Dialogue {
             items: Vec::new(alloc),
+            commands,
             lines,
         })
     }
@@ -87,14 +94,44 @@ impl Dialogue {
     pub fn has_line(&self) -> bool
         ensures { result ≡ some_line self.now.unread }
     {
-        !self.lines.is_empty()
+        !self.commands.is_empty() || !self.lines.is_empty()
     }
 
     /// The first unread line, which stays.
     pub fn first_line(&self) -> Option<LineText>
         ensures { result ≡ slice_get self.now.unread 0 }
     {
-        self.lines.first()
+        match self.commands.first() {
+            Some(line) => Some(line),
+            None => self.lines.first(),
+        }
+    }
+
+    /// How many lines of command files are unread.
+    pub fn fed_count(&self) -> u16
+        ensures value { result ≡ self.now.fed }
+        ensures most { result ≤ 256 }
+    {
+        self.commands.len()
+    }
+
+    /// The first unread line is read now.
+    fn take_line(&mut self)
+        ensures { self.new ≡ record self.old { unread = drop 1 self.old.unread; fed = self.old.fed - 1 } }
+    {
+        if self.commands.is_empty() {
+            let _ = self.lines.take();
+        } else {
+            let _ = self.commands.take();
+        }
+    }
+
+    /// The unread lines go.
+    fn drop_lines(&mut self)
+        ensures { self.new ≡ record self.old { unread = []; fed = 0 } }
+    {
+        self.commands.drop_all();
+        self.lines.drop_all();
     }
 
     /// A line is typed, unless it is one too many in the session. It shows when it is read.
@@ -125,11 +162,13 @@ impl Dialogue {
           capacity = self.new.capacity;
           unread = [];
           lines = 0;
+          fed = 0;
         }) }
         ensures err { OnErr result (self.new ≡ record self.old { capacity = self.new.capacity }) }
     {
         self.items.reserve(1)?;
         note(&mut self.items, Item::Out(logged_in_text(name)));
+        self.commands.drop_all();
         self.lines.restart();
         Ok(())
     }
@@ -140,6 +179,7 @@ impl Dialogue {
           transcript = self.old.transcript ++ Quitted ∷ out_all (quit_text state n);
           capacity = self.new.capacity;
           unread = [];
+          fed = 0;
         }) }
         ensures err { OnErr result (self.new ≡ record self.old { capacity = self.new.capacity }) }
     {
@@ -149,7 +189,7 @@ impl Dialogue {
         if state == ProgramState::Working {
             note_ready(&mut self.items, n);
         }
-        self.lines.drop_all();
+        self.drop_lines();
         Ok(())
     }
 
@@ -159,12 +199,13 @@ impl Dialogue {
           transcript = self.old.transcript ++ Hung ∷ [];
           capacity = self.new.capacity;
           unread = [];
+          fed = 0;
         }) }
         ensures err { OnErr result (self.new ≡ record self.old { capacity = self.new.capacity }) }
     {
         self.items.reserve(1)?;
         note(&mut self.items, Item::Hang);
-        self.lines.drop_all();
+        self.drop_lines();
         Ok(())
     }
 
@@ -175,11 +216,12 @@ impl Dialogue {
           transcript = self.old.transcript ++ In line ∷ Out (time_text now) ∷ Out (logged_out_text name) ∷ [];
           capacity = self.new.capacity;
           unread = [];
+          fed = 0;
         } }
     {
         note_taken(&mut self.items, line, now);
         note(&mut self.items, Item::Out(logged_out_text(name)));
-        self.lines.drop_all();
+        self.drop_lines();
     }
 
     /// The first unread line is read by a program, or typed into a file.
@@ -189,9 +231,10 @@ impl Dialogue {
           transcript = self.old.transcript ++ In line ∷ [];
           capacity = self.new.capacity;
           unread = drop 1 self.old.unread;
+          fed = self.old.fed - 1;
         } }
     {
-        let _ = self.lines.take();
+        self.take_line();
         note(&mut self.items, Item::In(line));
     }
 
@@ -226,9 +269,10 @@ impl Dialogue {
           transcript = self.old.transcript ++ In line ∷ Out (time_text now) ∷ [];
           capacity = self.new.capacity;
           unread = drop 1 self.old.unread;
+          fed = self.old.fed - 1;
         } }
     {
-        let _ = self.lines.take();
+        self.take_line();
         note_taken(&mut self.items, line, now);
     }
 
@@ -240,9 +284,10 @@ impl Dialogue {
               ++ In line ∷ Out (time_text now) ∷ out_all (option_to_list text ++ ready_text 1 ∷ []);
           capacity = self.new.capacity;
           unread = drop 1 self.old.unread;
+          fed = self.old.fed - 1;
         } }
     {
-        let _ = self.lines.take();
+        self.take_line();
         note_command(&mut self.items, line, text, now);
     }
 
@@ -253,9 +298,10 @@ impl Dialogue {
           transcript = self.old.transcript ++ In line ∷ Out (time_text now) ∷ out_all (lines.now ++ ready_text 1 ∷ []);
           capacity = self.new.capacity;
           unread = drop 1 self.old.unread;
+          fed = self.old.fed - 1;
         } }
     {
-        let _ = self.lines.take();
+        self.take_line();
         note_lines(&mut self.items, line, lines, now);
     }
 
@@ -266,9 +312,39 @@ impl Dialogue {
           transcript = self.old.transcript ++ In line ∷ out_all (option_to_list text ++ ready_text n ∷ []);
           capacity = self.new.capacity;
           unread = drop 1 self.old.unread;
+          fed = self.old.fed - 1;
         } }
     {
-        let _ = self.lines.take();
+        self.take_line();
         note_end(&mut self.items, line, text, n);
+    }
+
+    /// The first unread line is taken by the debugger: the line and these texts.
+    pub fn answer_debugger(&mut self, line: LineText, lines: &[LineText])
+        requires room { length self.old.transcript + (length lines.now + 2) ≤ self.old.capacity }
+        ensures { self.new ≡ record self.old {
+          transcript = self.old.transcript ++ In line ∷ out_all lines.now;
+          capacity = self.new.capacity;
+          unread = drop 1 self.old.unread;
+          fed = self.old.fed - 1;
+        } }
+    {
+        self.take_line();
+        note_read(&mut self.items, line, lines);
+    }
+
+    /// The first unread line is taken as a command, and lines of a command file stand before those left: the line, the time and R 1.
+    pub fn feed(&mut self, line: LineText, lines: &[LineText], now: u64)
+        requires room { length self.old.transcript + 4 ≤ self.old.capacity }
+        requires few { length lines.now + (self.old.fed - 1) ≤ 256 }
+        ensures { self.new ≡ record self.old {
+          transcript = self.old.transcript ++ In line ∷ Out (time_text now) ∷ Out (ready_text 1) ∷ [];
+          capacity = self.new.capacity;
+          unread = lines.now ++ drop 1 self.old.unread;
+          fed = length lines.now + (self.old.fed - 1);
+        } }
+    {
+        self.answer(line, None, now);
+        self.commands.put_front(lines);
     }
 }

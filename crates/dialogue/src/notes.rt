@@ -99,3 +99,12 @@ pub(crate) fn note_end(items: &mut Vec<Item>, line: LineText, text: Option<LineT
     }
     note(items, Item::Out(ready_text(n)));
 }
+
+/// A line that the debugger took, and these texts.
+pub(crate) fn note_read(items: &mut Vec<Item>, line: LineText, lines: &[LineText])
+    requires { vec_len items.old + length lines.now + 1 < vec_capacity items.old }
+    ensures { items.new.items ≡ items.old.items ++ In line ∷ out_all lines.now }
+{
+    note(items, Item::In(line));
+    note_all(items, lines);
+}

@@ -42,7 +42,7 @@ given_is names place (Some says.nothing) = refl
 given_is names place (Some (says.value ts)) = refl
 given_is names place (Some (says.words ws)) = refl
 
-said_words : (whole : Whole) (k : Known) (o : Operation) (card : List ℕ)
+pub said_words : (whole : Whole) (k : Known) (o : Operation) (card : List ℕ)
     → words_said whole o (flag_of card) (option_map (said whole.names k.place) (says.field_for o card)) ≡ decks.words_by whole k (Some o) card
 said_words whole k (machine o) card = ap (λ (w : ℕ). w ∷ []) (machine_is whole k.place o (flag_of card) (says.field_for (machine o) card))
 said_words whole k pze card = ap (λ (w : ℕ). w ∷ []) (plain_is whole k.place (says.field_for pze card))
@@ -64,7 +64,7 @@ words_are whole visible place o card = rw (all_names whole) (said_words whole (k
 
 -- what it means that a card has no fault
 
-least_zero : (a b c d e : Bool) → least a b c d e ≡ 0 → (b ≡ false) × (e ≡ false)
+pub least_zero : (a b c d e : Bool) → least a b c d e ≡ 0 → (b ≡ false) × (e ≡ false)
 least_zero true b c d e h = absurd (omega (arith, h))
 least_zero false true c d e h = absurd (omega (arith, h))
 least_zero false false true d e h = absurd (omega (arith, h))
@@ -72,7 +72,7 @@ least_zero false false false true e h = absurd (omega (arith, h))
 least_zero false false false false true h = absurd (omega (arith, h))
 least_zero false false false false false h = (refl, refl)
 
-left_false : (a b : Bool) → (a || b) ≡ false → a ≡ false
+pub left_false : (a b : Bool) → (a || b) ≡ false → a ≡ false
 left_false false b h = refl
 left_false true b h = absurd (true≢false h)
 

@@ -4,7 +4,8 @@ use Rattle.std.proofs.lemmas.List.{append-nil}
 use Rattle.fap_read.specs.declared.card.Card.{Card}
 use Rattle.fap_model.specs.Places.{Known, value_in, known_behind, known_after}
 use Rattle.fap_model.specs.Decks.{Whole, operation_in, words_by, fault_of, fault_entry, faults_from}
-use Rattle.fap_assemble.specs.Runs.{Open, words_in, cards_in}
+use Rattle.bss_loader.specs.Runs.{Open, words_in}
+use Rattle.fap_assemble.specs.Runs.{cards_in}
 use Rattle.fap_assemble.specs.Fields.{known_at}
 use Rattle.fap_assemble.specs.Steps.{definition, place_by, value_by, new_symbols, texts}
 use Rattle.fap_assemble.specs.Passes.{symbol_entered}
@@ -12,10 +13,10 @@ use Rattle.fap_assemble.specs.Follows.{Follows}
 use Rattle.fap_assemble.proofs.Passes.{parts_behind, texts_at}
 
 -- the list begins with the other
-abbrev Grows : List (ℕ × ℕ) → List (ℕ × ℕ) → Type 0
+abbrev pub Grows : List (ℕ × ℕ) → List (ℕ × ℕ) → Type 0
 Grows xs ys = (more : List (ℕ × ℕ)) × (ys ≡ xs ++ more)
 
-entered_grows : (xs : List (ℕ × ℕ)) (name : Option ℕ) (v : ℕ) → Grows xs (symbol_entered xs name v)
+pub entered_grows : (xs : List (ℕ × ℕ)) (name : Option ℕ) (v : ℕ) → Grows xs (symbol_entered xs name v)
 entered_grows xs None v = ([], sym (append-nil xs))
 entered_grows xs (Some name) v = by (is_none (value_in xs name))
   where
@@ -28,14 +29,14 @@ behind_grows k card =
     let parts = parts_behind k card in
     subst (λ (n : Known). Grows k.symbols n.symbols) (sym parts) (entered_grows k.symbols (definition card) (value_by (operation_in card) k card))
 
-grows_on : (xs ys zs : List (ℕ × ℕ)) → Grows xs ys → Grows ys zs → Grows xs zs
+pub grows_on : (xs ys zs : List (ℕ × ℕ)) → Grows xs ys → Grows ys zs → Grows xs zs
 grows_on xs ys zs a b = (a.0 ++ b.0, b.1 ∙ ap (λ (l : List (ℕ × ℕ)). l ++ b.0) a.1 ∙ append_assoc xs a.0 b.0)
 
 all_grow : (k : Known) (cards : List (List ℕ)) → Grows k.symbols (known_after k cards).symbols
 all_grow k [] = ([], sym (append-nil k.symbols))
 all_grow k (card ∷ cards) = grows_on k.symbols (known_behind k card).symbols (known_after k (card ∷ cards)).symbols (behind_grows k card) (all_grow (known_behind k card) cards)
 
-entered_length : (xs : List (ℕ × ℕ)) (name : Option ℕ) (v : ℕ) → length (symbol_entered xs name v) ≡ length xs + new_symbols xs name
+pub entered_length : (xs : List (ℕ × ℕ)) (name : Option ℕ) (v : ℕ) → length (symbol_entered xs name v) ≡ length xs + new_symbols xs name
 entered_length xs None v = omega arith
 entered_length xs (Some name) v = by (is_none (value_in xs name))
   where
@@ -43,7 +44,7 @@ entered_length xs (Some name) v = by (is_none (value_in xs name))
     by true = length-append xs ((name, v) ∷ [])
     by false = omega arith
 
-front_of : (xs more ys : List (ℕ × ℕ)) (n : ℕ) → ys ≡ xs ++ more → n ≡ length xs → take n ys ≡ xs
+pub front_of : (xs more ys : List (ℕ × ℕ)) (n : ℕ) → ys ≡ xs ++ more → n ≡ length xs → take n ys ≡ xs
 front_of xs more ys n e h = rw (e, h) (front xs)
   where
     front : (zs : List (ℕ × ℕ)) → take (length zs) (zs ++ more) ≡ zs
@@ -116,7 +117,7 @@ faults_at w cards i c text k next n m fault fs gs all lt is e h f g s number =
 
 -- cards without a fault, and their words
 
-no_entry : (n f : ℕ) (more : List (ℕ × ℕ)) → fault_entry n f ++ more ≡ [] → (f ≡ 0) × (more ≡ [])
+pub no_entry : (n f : ℕ) (more : List (ℕ × ℕ)) → fault_entry n f ++ more ≡ [] → (f ≡ 0) × (more ≡ [])
 no_entry n zero more h = (refl, h)
 no_entry n (suc f) more h = absurd (some_none h)
   where

@@ -1,4 +1,5 @@
 pub mod Lookup
+pub mod Rosters
 pub mod Runs
 pub mod Expressions
 pub mod Fields
@@ -8,3 +9,12 @@ pub mod Wholes
 pub mod Follows
 pub mod CardWords
 pub mod Reading
+pub mod Weighing
+pub mod FieldKinds
+pub mod Moving
+pub mod Judging
+pub mod ModuleFollows
+pub mod CellWords
+pub mod CellPasses
+pub mod KindsFew
+pub mod ModuleEnds

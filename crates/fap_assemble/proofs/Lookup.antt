@@ -127,3 +127,6 @@ pub index_missing : (xs : List ℕ) (w : ℕ) → position (nat_eq w) xs ≡ Non
 index_missing xs w h =
     let all : length xs ≤ position_or_len (nat_eq w) xs = grind (arith, nat_tests) in
     omega (arith, index_is 0 xs w, within xs w)
+
+pub index_within : (xs : List ℕ) (w : ℕ) → index_from 0 xs w ≤ length xs
+index_within xs w = omega (arith, index_is 0 xs w, within xs w)

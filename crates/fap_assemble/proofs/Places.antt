@@ -36,7 +36,7 @@ none_at names p q r s (t ∷ ts) =
     term_none names p q t.1 (λ v. value_from names p (with_term r t.0 v) ts) (λ v. value_from names q (with_term s t.0 v) ts)
     (λ v w. none_at names p q (with_term r t.0 v) (with_term s t.0 w) ts)
 
-none_is : (names : List (ℕ × ℕ)) (p : ℕ) (ts : List Signed) → is_none (value_of names p ts) ≡ is_none (value_of names 0 ts)
+pub none_is : (names : List (ℕ × ℕ)) (p : ℕ) (ts : List Signed) → is_none (value_of names p ts) ≡ is_none (value_of names 0 ts)
 none_is names p ts = none_at names p 0 0 0 ts
 
 pub defined_is : (names : List (ℕ × ℕ)) (p : ℕ) (f : Option says.Field) → is_defined (option_map (said names p) f) ≡ field_is_defined names f

@@ -12,7 +12,8 @@ use Rattle.fap_model.specs.Decks.{Whole, Segment, deck, faulty, is_end, operatio
 use Rattle.fap_assemble.specs.declared.tables.Tables.{Tables}
 use Rattle.fap_assemble.specs.declared.field.Said.{Said}
 use Rattle.fap_assemble.specs.Fields.{said, number}
-use Rattle.fap_assemble.specs.Runs.{cards_in, words_in, closed}
+use Rattle.bss_loader.specs.Runs.{words_in, closed}
+use Rattle.fap_assemble.specs.Runs.{cards_in}
 use Rattle.fap_assemble.specs.Steps.{place_by, texts}
 use Rattle.fap_assemble.specs.Passes.{HasAll}
 use Rattle.fap_assemble.specs.Wholes.{whole_of_tables}
@@ -152,7 +153,7 @@ none_case : (c : Card) (cards : List Card) (b : Bool) → is_end (operation_in c
 none_case c cards true e ih = rw e (λ h. absurd (omega arith))
 none_case c cards false e ih = rw e (λ h. ih (omega arith))
 
-has_none : (cards : List Card) → length cards ≤ end_index cards → has_end (texts cards) ≡ false
+pub has_none : (cards : List Card) → length cards ≤ end_index cards → has_end (texts cards) ≡ false
 has_none [] h = refl
 has_none (c ∷ cards) h = none_case c cards (is_end (operation_in c.text)) refl (has_none cards) h
 
@@ -179,7 +180,7 @@ pub noted : (cards : List Card) (index n : ℕ) (old new : List CardFault) → i
     → new ≡ old ++ record { card = n; number = 6 } ∷ [] → numbered new ≡ numbered old ++ missing_end cards
 noted cards index n old new e h m s = rw (s, missing_one cards (omega (arith, e, h)), m) (numbered_push old (record { card = length cards + 1; number = 6 }))
 
-texts_length : (cards : List Card) → length (texts cards) ≡ length cards
+pub texts_length : (cards : List Card) → length (texts cards) ≡ length cards
 texts_length [] = refl
 texts_length (c ∷ cards) = ap (λ (n : ℕ). suc n) (texts_length cards)
 
@@ -189,17 +190,17 @@ all_faults cards whole read fs gs w r f g =
     let long : length (texts cards) ≡ length cards = texts_length cards in
     rw (g, f, w, r, long) refl
 
-no_both : (xs ys : List (ℕ × ℕ)) → xs ++ ys ≡ [] → (xs ≡ []) × (ys ≡ [])
+pub no_both : (xs ys : List (ℕ × ℕ)) → xs ++ ys ≡ [] → (xs ≡ []) × (ys ≡ [])
 no_both [] ys h = (refl, h)
 no_both (x ∷ xs) ys h = absurd (some_none h)
   where
     some_none : (x ∷ (xs ++ ys)) ≡ [] → ⊥
     some_none h = cc
 
-abbrev one_unless : Bool → ℕ → List (ℕ × ℕ)
+abbrev pub one_unless : Bool → ℕ → List (ℕ × ℕ)
 one_unless b n = if b then [] else (n, 6) ∷ []
 
-end_needed : (n : ℕ) (b : Bool) → one_unless b n ≡ [] → b ≡ true
+pub end_needed : (n : ℕ) (b : Bool) → one_unless b n ≡ [] → b ≡ true
 end_needed n true h = refl
 end_needed n false h = absurd (some_none h)
   where
@@ -219,7 +220,7 @@ sound_end cards h =
 
 -- the start
 
-said_start : (w : Whole) (k : Known) (f : Option says.Field) → number (option_map (said w.names k.place) f) ≡ start_in w k f
+pub said_start : (w : Whole) (k : Known) (f : Option says.Field) → number (option_map (said w.names k.place) f) ≡ start_in w k f
 said_start w k None = refl
 said_start w k (Some (says.placed a tag decrement)) = refl
 said_start w k (Some (says.half n)) = refl

@@ -11,7 +11,7 @@ use Rattle.fap_assemble.specs.declared.field.Said.{Said}
 use Rattle.fap_assemble.specs.Wholes.{is_start_outside, names_seen, card_fault}
 use Rattle.fap_assemble.proofs.Places.{fault_is}
 
-outside_is : (whole : Whole) (k : Known) (f : Option says.Field) → is_start_outside whole.blocks (option_map (said whole.names k.place) f) ≡ start_is_outside whole k f
+pub outside_is : (whole : Whole) (k : Known) (f : Option says.Field) → is_start_outside whole.blocks (option_map (said whole.names k.place) f) ≡ start_is_outside whole k f
 outside_is whole k None = refl
 outside_is whole k (Some (says.placed a tag decrement)) = refl
 outside_is whole k (Some (says.half n)) = refl

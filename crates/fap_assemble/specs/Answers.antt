@@ -3,6 +3,8 @@ use Rattle.std.specs.Prelude.{◌≡◌, ℕ, ◌+◌, not, if◌then◌else◌,
 use Rattle.std.specs.List.{prefix_len}
 use Rattle.fap_read.specs.declared.card.Card.{Card}
 use Rattle.fap_model.specs.Decks.{Assembled, deck, faulty, is_end, has_end, operation_in}
+use Rattle.link_model.specs.declared.types.Module.{Module}
+use Rattle.link_model.specs.ModuleCards.{ModuleMade, relocatable, faulty as module_faulty}
 use Rattle.fap_assemble.specs.declared.assembler.Deck.{Deck}
 use Rattle.fap_assemble.specs.declared.fault.AsmFault.{AsmFault}
 use Rattle.fap_assemble.specs.declared.fault.AsmFault.TheVariants.{Faults, NoMemory}
@@ -14,6 +16,12 @@ abbrev pub IsAssembled : Result Deck AsmFault → Assembled → Type 0
 IsAssembled (Ok d) said = said ≡ deck d.words
 IsAssembled (Err (Faults fs)) said = said ≡ faulty (numbered fs)
 IsAssembled (Err NoMemory) said = Unit {0}
+
+-- the module that is said, or the faults that are said; want of memory says nothing
+abbrev pub IsModuleMade : Result Module AsmFault → ModuleMade → Type 0
+IsModuleMade (Ok m) said = said ≡ relocatable m
+IsModuleMade (Err (Faults fs)) said = said ≡ module_faulty (numbered fs)
+IsModuleMade (Err NoMemory) said = Unit {0}
 
 -- how many cards stand before the first END
 abbrev pub end_index : List Card → ℕ

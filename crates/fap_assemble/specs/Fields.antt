@@ -107,6 +107,10 @@ abbrev pub least : (misshapen wrong undefined known far : Bool) → ℕ
 least misshapen wrong undefined known far =
     if misshapen then 2 else (if wrong then 2 else (if undefined then 3 else (if known then 4 else (if far then 5 else 0))))
 
+abbrev pub fault_known : Operation → List ℕ → Option Said → (known : Bool) → (place more : ℕ) → (wrong : Bool) → ℕ
+fault_known o card s known place more wrong =
+    least (is_misshapen o card) (is_wrong s || wrong) (not (is_defined s)) known (nat_lt max_place (place + count o s + more))
+
 abbrev pub fault : ℕ → Bool → Known → Operation → List ℕ → Option Said → ℕ
 fault more wrong k o card s =
     least (is_misshapen o card) (is_wrong s || wrong) (not (is_defined s)) (symbol_is_known k (symbol_of card)) (nat_lt max_place (k.place + count o s + more))

@@ -1,5 +1,7 @@
 pub mod Runs
 pub mod Tables
+pub mod Rosters
+pub mod Names
 pub mod Expressions
 pub mod Fields
 pub mod Steps
@@ -8,3 +10,10 @@ pub mod Wholes
 pub mod Follows
 pub mod CardWords
 pub mod Answers
+pub mod Weighing
+pub mod FieldKinds
+pub mod Moving
+pub mod Judging
+pub mod ModuleFollows
+pub mod CellWords
+pub mod ModuleEnds

@@ -46,7 +46,7 @@ fn is_end_card(text: &[u8]) -> bool
 }
 
 /// How many cards stand before the first END.
-fn end_index(cards: &[Card]) -> usize
+pub(crate) fn end_index(cards: &[Card]) -> usize
     ensures value { result ≡ end_index cards.now }
     ensures within { result ≤ length cards.now }
 {
@@ -58,7 +58,7 @@ fn end_index(cards: &[Card]) -> usize
 
 /// The cards up to the first END with it, which are those that are read.
 #[tactic(auto, using(crate::proofs::Reading::read_to_end, crate::proofs::Reading::read_all))]
-fn cards_read(cards: &[Card], end: usize) -> &[Card]
+pub(crate) fn cards_read(cards: &[Card], end: usize) -> &[Card]
     requires { end ≡ end_index cards.now }
     ensures value { texts result.now ≡ cards_read (texts cards.now) }
     ensures few { length result.now ≤ length cards.now }
@@ -84,7 +84,11 @@ fn whole_of(alloc: Global, cards: &[Card], read: &[Card]) -> Result<Whole, NoMem
 }
 
 /// Notes a missing END as a fault of the card behind the last one.
-fn note_missing_end(faults: &mut FaultList, cards: &[Card], end: usize) -> Result<(), NoMemory>
+pub(crate) fn note_missing_end(
+    faults: &mut FaultList,
+    cards: &[Card],
+    end: usize,
+) -> Result<(), NoMemory>
     requires few { length cards.now < 2 ^ 32 - 1 }
     requires end { end ≡ end_index cards.now }
     ensures { OnOk result (numbered faults.new ≡ numbered faults.old ++ missing_end cards.now) }

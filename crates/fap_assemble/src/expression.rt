@@ -1,11 +1,12 @@
-ghost use Rattle.std.specs.Prelude.{◌≡◌, ◌<◌, ◌^◌, Some, IfSome, take};
+ghost use Rattle.std.specs.Prelude.{◌≡◌, ◌<◌, ◌^◌, Some, IfSome};
 ghost use Rattle.std.specs.Option.{option_map};
 ghost use Rattle.fap_model.specs.Terms.{expression};
 ghost use Rattle.fap_model.specs.Places.{term_value, value_of};
 ghost use Rattle.fap_read.specs.Peeled.{HasShortNumber};
+ghost use Rattle.fap_assemble.specs.Names.{names_in};
 ghost use Rattle.fap_assemble.specs.Expressions.{sum_with};
 
-use crate::symbols::Symbols;
+use crate::names::Names;
 use fap_model::Term;
 use fap_read::{first_term, term};
 
@@ -13,11 +14,11 @@ use fap_read::{first_term, term};
 const MODULUS: u32 = 32768;
 
 /// The value of a term.
-fn term_value(symbols: &Symbols, visible: usize, place: u64, term: Term) -> Option<u16>
-    ensures { result ≡ term_value (take visible symbols.now) place term }
+fn term_value(names: Names<'_>, place: u64, term: Term) -> Option<u16>
+    ensures { result ≡ term_value (names_in names.entry) place term }
 {
     match term {
-        Term::Named(name) => symbols.value(visible, name),
+        Term::Named(name) => names.value(name),
         Term::Number(number) => Some(number),
         Term::Here => Some((place % u64::from(MODULUS)) as u16),
     }
@@ -38,16 +39,11 @@ fn sum_with(sum: Option<u16>, minus: bool, value: Option<u16>) -> Option<u16>
     Some((next % MODULUS) as u16)
 }
 
-/// The value of an expression modulo 2^15, where `*` is the place; `Some(None)` where one of its symbols isn't among the
-/// first `visible`, and `None` where the text is no expression.
+/// The value of an expression modulo 2^15, where `*` is the place; `Some(None)` where one of its symbols isn't
+/// among the names, and `None` where the text is no expression.
 #[tactic(auto, using(crate::proofs::Expressions::empty_value))]
-pub(crate) fn value(
-    symbols: &Symbols,
-    visible: usize,
-    place: u64,
-    text: &[u8],
-) -> Option<Option<u16>>
-    ensures value { result ≡ option_map (λ ts. value_of (take visible symbols.now) place ts) (expression text.now) }
+pub(crate) fn value(names: Names<'_>, place: u64, text: &[u8]) -> Option<Option<u16>>
+    ensures value { result ≡ option_map (λ ts. value_of (names_in names.entry) place ts) (expression text.now) }
     ensures below { IfSome result (λ v. IfSome v (λ n. n < 2 ^ 15)) }
 {
     if text.is_empty() {
@@ -60,7 +56,7 @@ pub(crate) fn value(
         let Some(term) = term(first) else {
             return None;
         };
-        sum = sum_with(sum, minus, term_value(symbols, visible, place, term));
+        sum = sum_with(sum, minus, term_value(names, place, term));
         next = more;
     }
     Some(sum)

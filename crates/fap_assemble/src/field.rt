@@ -4,10 +4,12 @@ ghost use Rattle.fap_model.specs.Terms.{items_of};
 ghost use Rattle.fap_model.specs.Statements.{address_of, parts_of, field_for, literal_at};
 ghost use Rattle.fap_model.specs.Decks.{literal_by};
 ghost use Rattle.fap_model.specs.Places.{value_of};
+ghost use Rattle.fap_assemble.specs.Names.{names_in};
 ghost use Rattle.fap_assemble.specs.Fields.{address_said, said, joined, HasShortAddress, HasShortValues, IsShort, is_wrong, address_is_defined, is_defined, number, data_words, begins_literal};
 ghost use Rattle.fap_assemble.specs.declared.field.Said.TheVariants.{Words};
 
 use crate::expression::value;
+use crate::names::Names;
 use crate::symbols::Symbols;
 use ctss_types::{NoMemory, WordList};
 use fap_model::{Form, Operation};
@@ -37,7 +39,7 @@ pub(crate) enum Said {
 }
 
 /// Whether a text begins as a literal does.
-fn begins_literal(text: &[u8]) -> bool
+pub(crate) fn begins_literal(text: &[u8]) -> bool
     ensures { result ≡ begins_literal text.now }
 {
     match text {
@@ -70,14 +72,14 @@ pub(crate) fn literal(op: Operation, text: &[u8]) -> Option<Word>
 
 /// An address, where its text is one.
 #[tactic(auto, using(crate::proofs::Fields::address_seen))]
-fn address_in(symbols: &Symbols, visible: usize, place: u64, text: &[u8]) -> Option<Address>
-    ensures value { result ≡ option_map (address_said (take visible symbols.now) place) (address_of text.now) }
+fn address_in(names: Names<'_>, place: u64, text: &[u8]) -> Option<Address>
+    ensures value { result ≡ option_map (address_said (names_in names.entry) place) (address_of text.now) }
     ensures short { IfSome result HasShortAddress }
 {
     if begins_literal(text) {
         Some(Address::Literal(literal_word(text.split_at(1).1)?))
     } else {
-        Some(Address::Plain(value(symbols, visible, place, text)?))
+        Some(Address::Plain(value(names, place, text)?))
     }
 }
 
@@ -102,17 +104,17 @@ fn joined(
 
 /// Address, tag and decrement, of which there are at most so many.
 #[tactic(auto, using(crate::proofs::Fields::joined_parts, crate::proofs::Fields::many_parts))]
-fn parts(symbols: &Symbols, visible: usize, place: u64, most: u8, field: &[u8]) -> Option<Said>
-    ensures value { result ≡ option_map (said (take visible symbols.now) place) (parts_of most (items_of field.now)) }
+fn parts(names: Names<'_>, place: u64, most: u8, field: &[u8]) -> Option<Said>
+    ensures value { result ≡ option_map (said (names_in names.entry) place) (parts_of most (items_of field.now)) }
     ensures short { IfSome result HasShortValues }
 {
     if item_count(field) > usize::from(most) {
         return None;
     }
     joined(
-        address_in(symbols, visible, place, item_at(field, 0)),
-        value(symbols, visible, place, item_at(field, 1)),
-        value(symbols, visible, place, item_at(field, 2)),
+        address_in(names, place, item_at(field, 0)),
+        value(names, place, item_at(field, 1)),
+        value(names, place, item_at(field, 2)),
     )
 }
 
@@ -125,6 +127,32 @@ fn words(words: Option<WordList>) -> Option<Said>
 }
 
 /// What the field of a card with an operation says, where it is of its form.
+pub(crate) fn read_with(
+    alloc: Global,
+    op: Operation,
+    text: &[u8],
+    names: Names<'_>,
+    place: u64,
+) -> Result<Option<Said>, NoMemory>
+    ensures value { IfOk result (λ r. r ≡ option_map (said (names_in names.entry) place) (field_for op text.now)) }
+    ensures short { IfOk result (λ r. IfSome r HasShortValues) }
+{
+    Ok(match form(op) {
+        Form::Parts(most) => parts(names, place, most, field(text)),
+        Form::OctalHalf => half(text).map(|n| Said::Half(n)),
+        Form::Empty => {
+            if field(text).is_empty() {
+                Some(Said::Nothing)
+            } else {
+                None
+            }
+        }
+        Form::OneValue => value(names, place, field(text)).map(|v| Said::Value(v)),
+        _ => words(given_words(alloc, op, text)?),
+    })
+}
+
+/// The same where the first `visible` symbols of a table may be used.
 pub(crate) fn read(
     alloc: Global,
     op: Operation,
@@ -136,19 +164,12 @@ pub(crate) fn read(
     ensures value { IfOk result (λ r. r ≡ option_map (said (take visible symbols.now) place) (field_for op text.now)) }
     ensures short { IfOk result (λ r. IfSome r HasShortValues) }
 {
-    Ok(match form(op) {
-        Form::Parts(most) => parts(symbols, visible, place, most, field(text)),
-        Form::OctalHalf => half(text).map(|n| Said::Half(n)),
-        Form::Empty => {
-            if field(text).is_empty() {
-                Some(Said::Nothing)
-            } else {
-                None
-            }
-        }
-        Form::OneValue => value(symbols, visible, place, field(text)).map(|v| Said::Value(v)),
-        _ => words(given_words(alloc, op, text)?),
-    })
+    let names = Names {
+        externs: None,
+        symbols,
+        visible,
+    };
+    read_with(alloc, op, text, names, place)
 }
 
 /// Whether a field isn't of its form, or has a tag above 7.

@@ -13,7 +13,7 @@ use fap_read::Card;
 use std::alloc::Global;
 
 /// Notes a fault if there is one.
-fn note(faults: &mut FaultList, card: u32, number: u8) -> Result<(), NoMemory>
+pub(crate) fn note(faults: &mut FaultList, card: u32, number: u8) -> Result<(), NoMemory>
     ensures { OnOk result (numbered faults.new ≡ numbered faults.old ++ fault_entry card number) }
 {
     if number == 0 {

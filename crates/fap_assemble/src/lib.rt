@@ -2,17 +2,29 @@
 #![tactic(auto)]
 
 mod assembler;
+mod cells;
 mod expression;
 mod fault;
 mod field;
 mod judge;
+mod kind;
 mod literals;
+mod module_assembler;
+mod module_cards;
+mod module_judge;
+mod moves;
+mod names;
+mod past;
 mod place;
-mod segments;
+mod relocated;
+mod roster;
 mod symbols;
 mod tables;
+mod weigh;
 mod whole;
 mod words;
 
 pub use assembler::{Deck, assemble};
 pub use fault::{AsmFault, CardFault, FaultList};
+pub use module_assembler::assemble_module;
+pub use module_cards::is_module;

@@ -4,7 +4,7 @@ ghost use Rattle.fap_model.specs.Statements.{field_for};
 ghost use Rattle.fap_model.specs.Places.{takes_flag, is_equ, symbol_is_known, max_place, early_fault, size_of, next_place, symbol_value, known_behind};
 ghost use Rattle.fap_model.specs.Places.{said as said_by};
 ghost use Rattle.fap_model.specs.Decks.{operation_in, size_by};
-ghost use Rattle.fap_assemble.specs.Fields.{known_at, count, fitting, size, is_misshapen, least, fault, said_or};
+ghost use Rattle.fap_assemble.specs.Fields.{known_at, count, fitting, size, is_misshapen, least, fault_known, fault, said_or};
 ghost use Rattle.fap_assemble.specs.Steps.{definition, place_by, value_by, new_symbols};
 
 use crate::field::{Said, data_words, is_defined, is_wrong, number, read};
@@ -31,7 +31,7 @@ pub(crate) fn operation_in(text: &[u8]) -> Option<Operation>
 }
 
 /// How many words a field takes or reserves.
-fn count(op: Operation, said: &Option<Said>) -> usize
+pub(crate) fn count(op: Operation, said: &Option<Said>) -> usize
     ensures { result ≡ count op said.now }
 {
     match op {
@@ -138,8 +138,29 @@ fn least(misshapen: bool, wrong: bool, undefined: bool, known: bool, far: bool) 
     }
 }
 
-/// The least fault of a card with an operation, 0 where there is none. `more` words follow its own, and `wrong` is a fault
-/// of its field that only the whole list shows.
+/// The least fault of a card with an operation, 0 where there is none. `known` says whether an earlier card has its symbol,
+/// `more` words follow its own, and `wrong` is a fault of its field that only the whole list shows.
+pub(crate) fn fault_known(
+    op: Operation,
+    text: &[u8],
+    said: &Option<Said>,
+    known: bool,
+    place: u64,
+    more: usize,
+    wrong: bool,
+) -> u8
+    ensures { result ≡ fault_known op text.now said.now known place more wrong }
+{
+    least(
+        is_misshapen(op, text),
+        is_wrong(said) || wrong,
+        !is_defined(said),
+        known,
+        is_far(place, count(op, said), more),
+    )
+}
+
+/// The same, where the first `visible` symbols are those of earlier cards.
 pub(crate) fn fault(
     op: Operation,
     text: &[u8],
@@ -152,13 +173,8 @@ pub(crate) fn fault(
 ) -> u8
     ensures { result ≡ fault more wrong (known_at symbols.now visible place) op text.now said.now }
 {
-    least(
-        is_misshapen(op, text),
-        is_wrong(said) || wrong,
-        !is_defined(said),
-        is_known(text, symbols, visible, place),
-        is_far(place, count(op, said), more),
-    )
+    let known = is_known(text, symbols, visible, place);
+    fault_known(op, text, said, known, place, more, wrong)
 }
 
 /// The fault of a card whose field uses earlier symbols alone.
@@ -179,7 +195,7 @@ fn early_fault(
 
 /// The value that a field says.
 #[tactic(auto, using(crate::proofs::Places::number_is))]
-fn said_number(
+pub(crate) fn said_number(
     alloc: Global,
     op: Operation,
     text: &[u8],

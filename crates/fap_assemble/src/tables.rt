@@ -68,14 +68,14 @@ fn enter_symbol(symbols: &mut Symbols, name: Option<Word>, value: u16) -> Result
 }
 
 /// The literal that a card uses.
-fn literal_by(op: Option<Operation>, text: &[u8]) -> Option<Word>
+pub(crate) fn literal_by(op: Option<Operation>, text: &[u8]) -> Option<Word>
     ensures { result ≡ literal_by op text.now }
 {
     literal(op?, text)
 }
 
 /// Takes a literal if there is one.
-fn enter_literal(literals: &mut Literals, word: Option<Word>) -> Result<(), NoMemory>
+pub(crate) fn enter_literal(literals: &mut Literals, word: Option<Word>) -> Result<(), NoMemory>
     ensures value { OnOk result (literals.new ≡ with_literal literals.old word) }
     ensures few { OnOk result (length literals.new ≤ length literals.old + 1) }
 {

@@ -52,7 +52,7 @@ impl Whole {
 }
 
 /// The blocks of 256 words below a place, and at least one.
-fn blocks_for(reach: u64) -> u64
+pub(crate) fn blocks_for(reach: u64) -> u64
     requires { reach < 2 ^ 35 }
     ensures value { result ≡ blocks_for reach }
     ensures below { result < 2 ^ 30 }
@@ -61,7 +61,7 @@ fn blocks_for(reach: u64) -> u64
 }
 
 /// Whether a start lies outside the blocks.
-fn is_start_outside(blocks: u64, said: &Option<Said>) -> bool
+pub(crate) fn is_start_outside(blocks: u64, said: &Option<Said>) -> bool
     requires { blocks < 2 ^ 30 }
     ensures { result ≡ is_start_outside blocks said.now }
 {
@@ -110,7 +110,7 @@ fn end_fault(
 }
 
 /// How many symbols a field may use.
-fn names_seen(op: Operation, symbols: &Symbols, visible: usize) -> usize
+pub(crate) fn names_seen(op: Operation, symbols: &Symbols, visible: usize) -> usize
     ensures { result ≡ names_seen op symbols.now visible }
 {
     if looks_back(op) {

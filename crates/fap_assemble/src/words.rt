@@ -3,15 +3,16 @@ ghost use Rattle.opcode_table.specs.Words.{encoded};
 ghost use Rattle.fap_model.specs.Places.{known_after, nothing_known};
 ghost use Rattle.fap_model.specs.Decks.{instruction, operation_in, words_by, fault_of, faults_from};
 ghost use Rattle.fap_assemble.specs.Fields.{known_at, HasShortAddress, HasShortValues, is_wrong, address_value, machine_word, plain_word, given_words};
-ghost use Rattle.fap_assemble.specs.Runs.{words_in, cards_in, closed};
+ghost use Rattle.bss_loader.specs.Runs.{words_in, closed};
+ghost use Rattle.fap_assemble.specs.Runs.{cards_in};
 ghost use Rattle.fap_assemble.specs.Steps.{texts};
 ghost use Rattle.fap_assemble.specs.Wholes.{whole_in};
 ghost use Rattle.fap_assemble.specs.CardWords.{words_said};
 
 use crate::field::{Address, Said, is_wrong, read};
 use crate::place::{operation_in, place_behind, visible_behind};
-use crate::segments::Segments;
 use crate::whole::Whole;
+use bss_loader::Segments;
 use ctss_types::{NoMemory, WordList};
 use fap_model::Operation;
 use fap_read::{Card, flag};
@@ -53,7 +54,7 @@ fn instruction_word(op: Op, flag: bool, tag: u16, address: u16, decrement: u16) 
 }
 
 /// The word of an instruction with a field.
-fn machine_word(whole: &Whole, op: Op, flag: bool, said: &Option<Said>) -> Word
+pub(crate) fn machine_word(whole: &Whole, op: Op, flag: bool, said: &Option<Said>) -> Word
     requires right { is_wrong said.now ≡ false }
     requires short { IfSome said.now HasShortValues }
     requires place { whole.now.end_place < 2 ^ 33 }
@@ -80,7 +81,7 @@ fn machine_word(whole: &Whole, op: Op, flag: bool, said: &Option<Said>) -> Word
 }
 
 /// The word of a field with prefix zero.
-fn plain_word(whole: &Whole, said: &Option<Said>) -> Word
+pub(crate) fn plain_word(whole: &Whole, said: &Option<Said>) -> Word
     requires short { IfSome said.now HasShortValues }
     requires place { whole.now.end_place < 2 ^ 33 }
     requires few { length whole.now.literals < 2 ^ 33 }

@@ -7,3 +7,4 @@ pub mod Modes
 pub mod Whole
 pub mod Operations
 pub mod Results
+pub mod Joined

@@ -68,8 +68,8 @@ impl MemoryPort for Port<'_> {
     }
 
     fn load(&self, address: u16) -> Result<Word, Outside> {
-        match self.registers().map(address) {
-            Ok(at) => Ok(Word::of(self.bank.load(at))),
+        match self.registers().place(address) {
+            Ok(at) => Ok(Word::of(self.bank.word(at))),
             Err(_) => Err(Outside),
         }
     }
@@ -94,9 +94,9 @@ impl MemoryPort for Port<'_> {
             ≡ slice_set self.old.bank.now (address + 256 * self.old.base) word) }
         ensures same_bank { OnErr result (self.new.bank.now ≡ self.old.bank.now) }
     {
-        match self.registers().map(address) {
+        match self.registers().place(address) {
             Ok(at) => {
-                self.bank.store(at, word.bits());
+                self.bank.put(at, word.bits());
                 Ok(())
             }
             Err(_) => Err(Outside),

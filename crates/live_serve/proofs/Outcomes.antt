@@ -1,6 +1,6 @@
 -- What a run leaves behind the talk that was had over it.
 use Rattle.std.proofs.Common.{◌≡◌, ℕ, ◌*◌, ◌≤◌, true, false, List, [], ◌++◌, length, map, replicate, Ok, Err, refl, sym, ap, subst, ◌∙◌, arith}
-use Rattle.std.specs.Prelude.{OnOk, OnErr, IfOk, IfErr, is_err}
+use Rattle.std.specs.Prelude.{OnOk, OnErr, IfErr, is_err}
 use Rattle.std.specs.declared.result.Result.{Result}
 use Rattle.faults.specs.Faults.{Rose, WhereTold}
 use Rattle.file_tracks.specs.Lying.{LieOn}
@@ -37,12 +37,6 @@ use Rattle.ctss_types.specs.declared.fault.RunFault.TheVariants.{Drum, Disk}
 use Rattle.user_cores.specs.Backing.{BackState}
 use Rattle.live_serve.proofs.Behind.{disk_rises}
 use Rattle.live_serve.proofs.Ends.{live_record, stops_in_turn, lost_in_turn, lost_at_end}
-
-pub on_ok : {T E : Type 0} (r : Result T E) (x : T) (P : Type 0) → r ≡ Ok x → OnOk r P → P
-on_ok r x P is h = subst (λ (q : Result _ _). OnOk q P) is h
-
-pub if_err : {T E : Type 0} (r : Result T E) (f : E) (P : E → Type 0) → r ≡ Err f → IfErr r P → P f
-if_err r f P is h = subst (λ (q : Result _ _). IfErr q P) is h
 
 pub rose_as : (a b c d : ℕ) → a ≡ c → Rose a b → b ≡ d → Rose c d
 rose_as a b c d one rose two = subst (λ (n : ℕ). Rose c n) two (subst (λ (n : ℕ). Rose n b) one rose)
@@ -214,7 +208,3 @@ err_of (Err e) P is h = h
 pub ok_of : {T E : Type 0} (r : Result T E) (P : Type 0) → is_err r ≡ false → OnOk r P → P
 ok_of (Ok x) P is h = h
 ok_of (Err e) P is h = cc
-
-pub ok_map : {T E : Type 0} (r : Result T E) (P Q : T → Type 0) → ((x : T) → P x → Q x) → IfOk r P → IfOk r Q
-ok_map (Ok x) P Q f h = f x h
-ok_map (Err e) P Q f h = tt

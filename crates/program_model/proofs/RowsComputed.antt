@@ -3,7 +3,8 @@ use Rattle.std.proofs.Common.{refl}
 use Rattle.word36.specs.Octal.{octal_digits}
 use Rattle.ctss_types.specs.Words.{name_of}
 use Rattle.program_model.specs.Decks.{filled}
-use Rattle.program_model.specs.Rows.{RowOfCalls, RowOfFileCalls, RowOfCommonCalls, RowOfLines, RowOfDecks, RowOfSaved}
+use Rattle.program_model.specs.DebugLines.{debug_of}
+use Rattle.program_model.specs.Rows.{RowOfCalls, RowOfFileCalls, RowOfCommonCalls, RowOfLines, RowOfDecks, RowOfSaved, RowOfDebugLines, RowOfCommandLines}
 
 pub row_of_calls : RowOfCalls
 unfolding name_of
@@ -28,3 +29,10 @@ row_of_decks = record { deck_is = refl; absent = refl; empty = refl; no_blocks =
 pub row_of_saved : RowOfSaved
 unfolding octal_digits
 row_of_saved = record { head = refl; back = refl; size = refl; large = refl; short = refl; none = refl; minus = refl; empty = refl; absent = refl; lines = refl; word = refl; outside = refl }
+
+pub row_of_debug_lines : RowOfDebugLines
+unfolding debug_of
+row_of_debug_lines = record { break_at = refl; clear = refl; long_place = refl; no_octal = refl; no_place = refl; go = refl; go_on = refl; registers = refl; set = refl; long_word = refl; over = refl; empty = refl; command = refl }
+
+pub row_of_command_lines : RowOfCommandLines
+row_of_command_lines = record { both = refl; blanks = refl; inside = refl; none = refl; many = refl; long = refl }

@@ -3,4 +3,8 @@ pub mod Lines
 pub mod Decks
 pub mod Saved
 pub mod Fills
+pub mod Octals
+pub mod DebugLines
+pub mod Stops
+pub mod CommandLines
 pub mod Rows

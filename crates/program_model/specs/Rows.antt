@@ -12,6 +12,10 @@ use Rattle.ctss_types.specs.declared.file.Refusal.TheVariants as refusal
 use Rattle.program_model.specs.Calls.{call_of, answered, behind_call}
 use Rattle.program_model.specs.Lines.{line_of_words, lines_of_words, words_of_line, words_at, with_words}
 use Rattle.program_model.specs.Decks.{deck_in, deck_of, filled}
+use Rattle.program_model.specs.declared.DebugLine.TheVariants as debug
+use Rattle.program_model.specs.declared.ComRefusal.TheVariants as refusal_of
+use Rattle.program_model.specs.DebugLines.{debug_of}
+use Rattle.program_model.specs.CommandLines.{lines_with}
 use Rattle.program_model.specs.Saved.{head_of, saved, regs_in, saved_in, saved_of, register_lines, word_line}
 
 -- registers of a program that called from a place
@@ -133,3 +137,28 @@ pub record RowOfSaved : Type 0 where
       ≡ codes "IC 00011 AC -1000000000005 MQ 400000000006" ∷ codes "SI 000000000007 OV 1 DC 0" ∷ codes "XR 00013 00014 00015 00016 00017 00020 00021" ∷ []
   pub word : word_line (5 ∷ 6 ∷ []) 1 ≡ codes "00001 000000000006"
   pub outside : word_line (5 ∷ 6 ∷ []) 2 ≡ codes "PROTECTION"
+
+-- what lines ask of the debugger
+pub record RowOfDebugLines : Type 0 where
+  pub break_at : debug_of (codes "BREAK 4") ≡ debug.Break 4
+  pub clear : debug_of (codes " CLEAR  77777") ≡ debug.Clear 32767
+  pub long_place : debug_of (codes "BREAK 000004") ≡ debug.Bad
+  pub no_octal : debug_of (codes "LOOK 8") ≡ debug.Bad
+  pub no_place : debug_of (codes "LOOK") ≡ debug.Bad
+  pub go : debug_of (codes "GO") ≡ debug.Go
+  pub go_on : debug_of (codes "GO ON") ≡ debug.Bad
+  pub registers : debug_of (codes "REGS") ≡ debug.Regs
+  pub set : debug_of (codes "SET 10 302543432160") ≡ debug.Set 8 0o302543432160
+  pub long_word : debug_of (codes "SET 10 0302543432160") ≡ debug.Bad
+  pub over : debug_of (codes "END") ≡ debug.End
+  pub empty : debug_of [] ≡ debug.End
+  pub command : debug_of (codes "LISTF") ≡ debug.Bad
+
+-- lines with two arguments in them
+pub record RowOfCommandLines : Type 0 where
+  pub both : lines_with (codes "DELETE $1 $2" ∷ codes "LISTF" ∷ []) (codes "A" ∷ codes "B" ∷ []) 2 ≡ Ok (codes "DELETE A B" ∷ codes "LISTF" ∷ [])
+  pub blanks : lines_with (codes "  $2  $1 END" ∷ []) (codes "A" ∷ codes "B" ∷ []) 2 ≡ Ok (codes "  B  A END" ∷ [])
+  pub inside : lines_with (codes "$1$2 A$1 $0 $10 $" ∷ []) (codes "A" ∷ codes "B" ∷ []) 2 ≡ Ok (codes "$1$2 A$1 $0 $10 $" ∷ [])
+  pub none : lines_with (codes "$3" ∷ []) (codes "A" ∷ codes "B" ∷ []) 0 ≡ Err refusal_of.BadArguments
+  pub many : lines_with (codes "$1" ∷ [] ∷ []) (codes "A" ∷ codes "B" ∷ []) 1 ≡ Err refusal_of.TooLong
+  pub long : lines_with ((codes "$1 " ++ replicate 83 65) ∷ []) (codes "A" ∷ []) 1 ≡ Err refusal_of.TooLong

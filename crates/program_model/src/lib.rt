@@ -1,14 +1,15 @@
 //! Programs: what they ask of the supervisor, and the decks that they are loaded from.
 //!
 //! The definitions stand in `specs/`: `Calls` (how a call's arguments are read, and what an answer leaves in the
-//! registers), `Lines` (lines as words of a program, and back), `Decks` (what a deck says and where its words go), `Rows`
-//! (worked rows). The functions here do nothing: each carries a row.
+//! registers), `Lines` (lines as words of a program, and back), `Decks` (what a deck says and where its words go), `DebugLines`
+//! and `Stops` (the debugger's lines and breakpoints), `CommandLines` (the lines of command files), `Rows` (worked rows). The functions here do nothing: each carries a row.
 #![tactic(auto)]
 
-ghost use Rattle.program_model.specs.Rows.{RowOfCalls, RowOfFileCalls, RowOfCommonCalls, RowOfLines, RowOfDecks, RowOfSaved};
+ghost use Rattle.program_model.specs.Rows.{RowOfCalls, RowOfFileCalls, RowOfCommonCalls, RowOfLines, RowOfDecks, RowOfSaved, RowOfDebugLines, RowOfCommandLines};
 
 use ctss_types::FileName;
 use thiserror::Error;
+use word36::Word;
 
 /// A supervisor entry that a program calls, with its arguments. Addresses, counts and modes are below 2^15, places below 2^35.
 #[derive(Clone, Copy, Debug, PartialEq, Eq)]
@@ -141,6 +142,36 @@ pub enum ProgramState {
     Working,
 }
 
+/// What a line asks of the debugger.
+#[derive(Clone, Copy, Debug, PartialEq, Eq)]
+pub enum DebugLine {
+    /// A breakpoint is set.
+    Break(u16),
+    /// A breakpoint is removed.
+    Clear(u16),
+    /// The program goes on.
+    Go,
+    /// The word at a place is printed.
+    Look(u16),
+    /// The registers are printed.
+    Regs,
+    /// A word is stored at a place.
+    Set(u16, Word),
+    /// The debugger is closed.
+    End,
+    /// Any other line.
+    Bad,
+}
+
+/// Why the lines of a command file aren't added to those unread.
+#[derive(Clone, Copy, Debug, PartialEq, Eq)]
+pub enum ComRefusal {
+    /// A line names an argument that the command doesn't have.
+    BadArguments,
+    /// A line has more than 84 characters, or there are too many lines.
+    TooLong,
+}
+
 /// Arguments, bounds and names of calls, and their answers.
 #[tactic(auto, using(crate::proofs::RowsComputed::row_of_calls))]
 pub fn row_of_calls()
@@ -175,4 +206,16 @@ pub fn row_of_common_calls()
 #[tactic(auto, using(crate::proofs::RowsComputed::row_of_saved))]
 pub fn row_of_saved()
     ensures { RowOfSaved }
+{}
+
+/// What lines ask of the debugger.
+#[tactic(auto, using(crate::proofs::RowsComputed::row_of_debug_lines))]
+pub fn row_of_debug_lines()
+    ensures { RowOfDebugLines }
+{}
+
+/// Lines of command files with their arguments.
+#[tactic(auto, using(crate::proofs::RowsComputed::row_of_command_lines))]
+pub fn row_of_command_lines()
+    ensures { RowOfCommandLines }
 {}

@@ -8,7 +8,7 @@ use std::error::Error;
 use std::fmt;
 use std::marker::Model;
 
-const BLOCK_WORDS: u16 = 256;
+const BLOCK_WORDS: usize = 256;
 
 /// An address outside the program's blocks.
 #[derive(Clone, Copy, Debug, PartialEq, Eq)]
@@ -57,17 +57,31 @@ impl Registers {
     }
 
     /// The word of core that stands for one of the program's addresses.
-    ///
-    /// An address of 15 bits is relocated round the end of core, and then its block is tested. No address past the
-    /// program's end comes round to one of its words in that way, so the one test is made before.
     pub fn map(&self, address: u16) -> Result<u16, Outside>
         ensures legal { IsOk result ↔ IsLegal address self.now.blocks }
         ensures block { address < 32768
             → (IsOk result ↔ HasBlock self.now (relocated_address self.now address / 256)) }
         ensures value { IfOk result (λ at. at ≡ address + 256 * self.now.base) }
     {
-        if u32::from(address) < u32::from(BLOCK_WORDS) * u32::from(self.blocks) {
-            Ok(address + BLOCK_WORDS * u16::from(self.base))
+        match self.place(address) {
+            Ok(at) => Ok(at as u16),
+            Err(outside) => Err(outside),
+        }
+    }
+
+    /// The word of core that stands for one of the program's addresses, in the width that core is indexed with: each word
+    /// that a program reaches comes this way.
+    ///
+    /// An address of 15 bits is relocated round the end of core, and then its block is tested. No address past the
+    /// program's end comes round to one of its words in that way, so the one test is made before.
+    pub fn place(&self, address: u16) -> Result<usize, Outside>
+        ensures legal { IsOk result ↔ IsLegal address self.now.blocks }
+        ensures value { IfOk result (λ at. at ≡ address + 256 * self.now.base) }
+        ensures core { IfOk result (λ at. at < 32768) }
+    {
+        let address = usize::from(address);
+        if address < BLOCK_WORDS * usize::from(self.blocks) {
+            Ok(address + BLOCK_WORDS * usize::from(self.base))
         } else {
             Err(Outside)
         }

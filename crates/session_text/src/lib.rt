@@ -4,11 +4,12 @@
 ghost use Rattle.std.specs.Prelude.{◌≡◌, ◌<◌, ◌≤◌, ◌^◌, length, true};
 ghost use Rattle.std.specs.List.{list_all};
 ghost use Rattle.bcd48.specs.Characters.{is_character};
-ghost use Rattle.user_model.specs.Texts.{digit, time_text, ready_text, logged_in_text, logged_out_text, stop_text};
-ghost use Rattle.user_model.specs.Commands.{load_text};
+ghost use Rattle.user_model.specs.Texts.{digit, time_text, ready_text, logged_in_text, logged_out_text, stop_text, doubly_text, undefined_text};
+ghost use Rattle.user_model.specs.Commands.{load_text, link_text};
 
 use ctss_types::{LineText, name_text};
 use itoa::Buffer;
+use link_model::LinkRefusal;
 use program_model::LoadFault;
 use word36::Word;
 
@@ -92,5 +93,36 @@ pub fn load_text(fault: LoadFault) -> LineText
         LoadFault::NoFile => LineText::of(b"FILE NOT FOUND"),
         LoadFault::BadDeck => LineText::of(b"BAD DECK"),
         LoadFault::TooLarge => LineText::of(b"TOO LARGE"),
+    }
+}
+
+/// A name that two of the linked modules enter.
+#[tactic(auto, unfolding(user_model::specs::Texts::doubly_text))]
+fn doubly_text(name: Word) -> LineText
+    ensures { result ≡ doubly_text name }
+{
+    let name = name_text(name);
+    LineText::joined(b"DOUBLY ", name.as_slice())
+}
+
+/// A name that none of the linked modules enters.
+#[tactic(auto, unfolding(user_model::specs::Texts::undefined_text))]
+fn undefined_text(name: Word) -> LineText
+    ensures { result ≡ undefined_text name }
+{
+    let name = name_text(name);
+    LineText::joined(b"UNDEFINED ", name.as_slice())
+}
+
+/// Why modules aren't linked.
+pub fn link_text(refusal: LinkRefusal) -> LineText
+    ensures { result ≡ link_text refusal }
+{
+    match refusal {
+        LinkRefusal::NoFile => LineText::of(b"FILE NOT FOUND"),
+        LinkRefusal::BadModule => LineText::of(b"BAD MODULE"),
+        LinkRefusal::TooLarge => LineText::of(b"TOO LARGE"),
+        LinkRefusal::Doubly(name) => doubly_text(name),
+        LinkRefusal::Undefined(name) => undefined_text(name),
     }
 }

@@ -33,6 +33,24 @@ static DECK: [u64; 11] = [
     0o242521246060,
 ];
 
+static MODULE_CARDS: [&[u8]; 4] = [
+    b"       REL",
+    b"       ENTRY   PRINT",
+    b"PRINT  TIA     =HWRFLX",
+    b"       END",
+];
+
+static MODULE: [u64; 8] = [
+    0o000000000002,
+    0o000001000000,
+    0o475131456360,
+    0,
+    1,
+    0o010100000001,
+    0,
+    0o665126436760,
+];
+
 static FAULTY: [&[u8]; 3] = [
     b"A      PZE     B",
     b"A      PZE     0",
@@ -70,7 +88,16 @@ fn assembly(rt: &impl Abort, alloc: Global, cards: &[&[u8]]) -> Result<Assembly,
 fn cards_are_assembled(rt: HostRuntime) -> Result<(), Fail> {
     match &assembly(&rt, rt.alloc(), &CARDS)? {
         Assembly::Deck(words) => has_bits(&rt, words.as_slice(), &DECK),
-        Assembly::Faults(_) => panic!(rt; "no deck"),
+        Assembly::Module(_) | Assembly::Faults(_) => panic!(rt; "no deck"),
+    }
+    Ok(())
+}
+
+#[test]
+fn cards_of_a_module_make_a_module(rt: HostRuntime) -> Result<(), Fail> {
+    match &assembly(&rt, rt.alloc(), &MODULE_CARDS)? {
+        Assembly::Module(words) => has_bits(&rt, words.as_slice(), &MODULE),
+        Assembly::Deck(_) | Assembly::Faults(_) => panic!(rt; "no module"),
     }
     Ok(())
 }
@@ -79,7 +106,7 @@ fn cards_are_assembled(rt: HostRuntime) -> Result<(), Fail> {
 fn faults_are_printed(rt: HostRuntime) -> Result<(), Fail> {
     match &assembly(&rt, rt.alloc(), &FAULTY)? {
         Assembly::Faults(lines) => shows(&rt, lines.as_slice(), &FAULTS),
-        Assembly::Deck(_) => panic!(rt; "no faults"),
+        Assembly::Deck(_) | Assembly::Module(_) => panic!(rt; "no faults"),
     }
     Ok(())
 }

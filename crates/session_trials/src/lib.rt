@@ -1,8 +1,13 @@
-//! Trials of one user: directories and their quotas, the common directory, decks, saved programs and cards, calls and commands, sessions and levels.
+//! Trials of one user: directories and their quotas, the common directory, decks, saved programs and cards, calls and commands, the debugger, command files,
+//! modules, sessions and levels.
 #![tactic(auto)]
 
 #[cfg(test)]
+mod breaks;
+#[cfg(test)]
 mod cards;
+#[cfg(test)]
+mod command_files;
 #[cfg(test)]
 mod commons;
 #[cfg(test)]
@@ -15,6 +20,8 @@ mod entries;
 mod levels;
 #[cfg(test)]
 mod lines;
+#[cfg(test)]
+mod links;
 #[cfg(test)]
 mod requests;
 #[cfg(test)]

@@ -15,7 +15,7 @@ fn lines_ask_for_commands(rt: HostRuntime) -> Result<(), Fail> {
     let say = name_word(b"SAY");
     let name = FileName::new(name_word(b"NOTES"), name_word(b"TEXT"));
     let old = FileName::new(name_word(b"OLD"), name_word(b"TEXT"));
-    let cases: [(&[u8], Command); 23] = [
+    let cases: [(&[u8], Command); 31] = [
         (b"", Command::Empty),
         (b"LOGOUT", Command::Logout),
         (b"LOADGO SAY", Command::LoadGo(say)),
@@ -32,6 +32,14 @@ fn lines_ask_for_commands(rt: HostRuntime) -> Result<(), Fail> {
         ),
         (b"INPUT NOTES TEXT", Command::Input(name)),
         (b"FAP SAY", Command::Assemble(say)),
+        (b"LINK SAY A B", Command::Link(say)),
+        (b"LINK SAY A B C D E F G H", Command::Link(say)),
+        (b"LINK SAY A B C D E F G H I", Command::BadArguments),
+        (b"LINK SAY", Command::BadArguments),
+        (b"LINK SAY NOTEBOOK", Command::BadArguments),
+        (b"FAPDBG", Command::Debug),
+        (b"RUNCOM SAY 1 2 3 4 5 6 7 8 9", Command::RunFile(say)),
+        (b"RUNCOM SAY 1 2 3 4 5 6 7 8 9 10", Command::BadArguments),
         (b"START", Command::Start),
         (b"SAVE SAY", Command::Save(say)),
         (b"RESUME SAY", Command::Resume(say)),

@@ -1,5 +1,5 @@
-//! Trials of texts: the shared types, scripts as they are read and made, reports and summaries, cards assembled, streams, and the words of
-//! the command line.
+//! Trials of texts: the shared types, scripts as they are read and made, reports and summaries, cards assembled as decks and
+//! as modules, streams, and the words of the command line.
 #![tactic(auto)]
 
 #[cfg(test)]
@@ -12,6 +12,8 @@ mod command;
 mod events;
 #[cfg(test)]
 mod made;
+#[cfg(test)]
+mod modules;
 #[cfg(test)]
 mod read;
 #[cfg(test)]

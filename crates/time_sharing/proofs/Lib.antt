@@ -7,6 +7,7 @@ pub mod Theorem
 pub mod RepeatLaws
 pub mod Ending
 pub mod RowsLaws
+pub mod Shifted
 pub mod ClaimsProved
 pub mod CommonsLaws
 pub mod Limits

@@ -5,3 +5,6 @@ pub mod RunLaws
 pub mod RowTurns
 pub mod RowsComputed
 pub mod AskedLaws
+pub mod CommandFileLaws
+pub mod PlainRows
+pub mod PlainLaws

@@ -1,10 +1,10 @@
 -- Any row as a step of a user whose words and files lie apart: one law for all that the machine gives, supervisor entries among it, one for
 -- what was still to be stored, one for commands, one for lines of INPUT.
-use Rattle.std.proofs.Common.{◌≡◌, ℕ, suc, ◌-◌, Bool, true, false, not, ◌&&◌, ◌||◌, List, [], ◌∷◌, ◌++◌, drop, Option, Some, None, refl, sym, ap, ◌∙◌, subst}
-use Rattle.std.specs.Prelude.{slice_get, if◌then◌else◌}
+use Rattle.std.proofs.Common.{◌≡◌, ℕ, suc, ◌-◌, Bool, true, false, not, ◌&&◌, ◌||◌, List, [], ◌∷◌, ◌++◌, ◌+◌, inl, inr, length, drop, Option, Some, None, refl, sym, ap, ◌∙◌, subst, zero-add}
+use Rattle.std.specs.Prelude.{slice_get, nat_lt, codes, if◌then◌else◌}
 use Rattle.std.specs.declared.result.Result.{Result}
 use Rattle.time_sharing.specs.Machine.{Line, Item, Ending, CommonOp, Reply, Done}
-use Rattle.time_sharing.specs.Rows.{Outcome, some_line, is_logout, in_line, out_all, behind}
+use Rattle.time_sharing.specs.Rows.{Outcome, some_line, is_logout, in_line, one_less, out_all, behind}
 use Rattle.ctss_types.specs.Names.{NamePair}
 use Rattle.machine_model.specs.Step.{Step, entry}
 use Rattle.machine_model.specs.Machine.{step_of}
@@ -16,12 +16,18 @@ use Rattle.user_model.specs.Inner.{Inner, Stored}
 use Rattle.user_model.specs.declared.Command.{Command}
 use Rattle.user_model.specs.Requests.{command_of}
 use Rattle.user_model.specs.Commands.{command_row, command_asks, command_replied, input_row}
-use Rattle.user_model.specs.Programs.{reads_line, asks_time, step_asks, step_replied, entry_asks, is_read, goes, filled_program}
+use Rattle.user_model.specs.Programs.{reads_line, asks_time, step_asks, step_replied, entry_asks, is_read, goes, at_break, with_step, breaks, filled_program}
+use Rattle.program_model.specs.declared.DebugLine.{DebugLine}
+use Rattle.program_model.specs.declared.DebugLine.TheVariants.{Break, Clear, Go, Look, Regs, Set, End, Bad}
+use Rattle.program_model.specs.DebugLines.{debug_of}
+use Rattle.program_model.specs.Stops.{Stops, is_full, with_break, without_break}
+use Rattle.program_model.specs.Lines.{with_words}
+use Rattle.user_model.specs.Debugger.{debug_row, bad_line, if_inside, with_breaks, tells}
 use Rattle.user_model.specs.Session.{works_in, is_none}
-use Rattle.user_model.specs.User.{User, can_step, asks_common, in_store, store_after, IsStep}
+use Rattle.user_model.specs.User.{User, can_step, asks_common, in_store, core_after, store_after, IsStep}
 use Rattle.user_model.specs.Steps.{left}
-use Rattle.user_model.specs.Answers.{IsRow, noted, line_count, by_row, step_line, step_said, DidStep, DidFill, DidEntry, DidCommand, DidInput, EntryReplied, CommandReplied}
-use Rattle.user_model.proofs.StepLaws.{run_left, run_ends, run_asks, run_makes, run_can, run_replied_left, run_replied_ends, run_replied_asks, run_takes_none, command_left, command_ends, command_clock, command_makes, command_can, command_replied_left, command_replied_ends, input_left, input_ends, input_asks, input_makes, fill_left, fill_ends, fill_asks, fill_makes, fill_can}
+use Rattle.user_model.specs.Answers.{IsRow, noted, line_count, fed_with, by_row, marked, step_line, step_said, DidStep, DidBreak, DidFill, DidEntry, DidCommand, DidInput, DidDebug, EntryReplied, CommandReplied}
+use Rattle.user_model.proofs.StepLaws.{run_left, run_ends, run_asks, run_makes, run_can, run_replied_left, run_replied_ends, run_replied_asks, run_takes_none, break_left, break_ends, break_asks, break_makes, break_can, debug_left, debug_ends, debug_asks, debug_makes, command_left, command_ends, command_clock, command_makes, command_can, command_replied_left, command_replied_ends, input_left, input_ends, input_asks, input_makes, fill_left, fill_ends, fill_asks, fill_makes, fill_can}
 
 -- the two forms of what a row leaves
 append-nil : (xs : List Item) → xs ++ [] ≡ xs
@@ -41,21 +47,29 @@ behind_is None xs = refl
 behind_is (Some l) [] = refl
 behind_is (Some l) (x ∷ xs) = refl
 
-given_back : (can b : Bool) (line : Option Line) (o : Outcome Inner) (asks : Bool) (e : Ending) (asked : Bool) (p q : User) (c d : Stored) → p.on ≡ true → p.fed ≡ 0 → IsRow can b line o asks e asked p q c d →
+fed_is : (ls : List Line) (k : ℕ) → fed_with ls k ≡ length ls + k
+fed_is [] k = sym (zero-add k)
+fed_is (l ∷ ls) k = refl
+
+row_left : (b : Bool) (line : Option Line) (o : Outcome Inner) (e : Ending) (p q : User) (c d : Stored) → p.on ≡ true → q ≡ by_row b line o p → core_after e o.inner.blocks d.core ≡ o.inner.core → d.files ≡ o.inner.files →
     in_store (store_after e q.inner.blocks d) q ≡ left b line o (in_store c p)
 unfolding left
-given_back can b line o asks e asked p q c d on none_fed is =
-    (λ j. in_store (store_after e (is.1 j).inner.blocks d) (is.1 j))
-    ∙ (λ j. in_store (record { core = is.2 j; files = is.3 j }) (by_row b line o p))
+row_left b line o e p q c d on is core files =
+    (λ j. in_store (store_after e (is j).inner.blocks d) (is j))
+    ∙ (λ j. in_store (record { core = core j; files = files j }) (by_row b line o p))
     ∙ (λ j. record p {
       inner = o.inner;
       on = still_on (is_logout o.ending) p.on on j;
-      unread = if is_logout o.ending then [] else behind_is line p.unread j;
-      fed = none_fed j;
+      unread = if is_logout o.ending then [] else o.front ++ behind_is line p.unread j;
+      fed = if is_logout o.ending then 0 else fed_is o.front (one_less line p.fed) j;
       transcript = noted_is p.transcript (in_line line ++ out_all o.written) j;
       own = suc p.own;
       own_at_command = if b then p.own else p.own_at_command;
     })
+
+given_back : (can b : Bool) (line : Option Line) (o : Outcome Inner) (asks : Bool) (e : Ending) (asked : Bool) (p q : User) (c d : Stored) → p.on ≡ true → IsRow can b line o asks e asked p q c d →
+    in_store (store_after e q.inner.blocks d) q ≡ left b line o (in_store c p)
+given_back can b line o asks e asked p q c d on is = row_left b line o e p q c d on is.1 is.2 is.3
 
 -- a step that could be done and makes no common operation
 both : (a b : Bool) → (a && b) ≡ true → (a ≡ true) × (b ≡ true)
@@ -67,42 +81,61 @@ alone : (made : Option CommonOp) → is_none made ≡ true → made ≡ None
 alone None h = refl
 alone (Some op) h = cc
 
+-- and a row of the program's own step, behind which an open debugger knows of it
+pub marked_row : (can b : Bool) (line : Option Line) (o : Outcome Inner) (asks : Bool) (e : Ending) (asked : Bool) (p q : User) (c d : Stored) → IsRow can b line o asks e asked p q c d → IsRow can b line (with_step o) asks e asked p (marked q) c d
+marked_row can b line o asks e asked p q c d is = (is.0, ap marked is.1, is.2, is.3, is.4, is.5, is.6)
+
 -- what the machine gave
-pub row_turn : (t : ℕ) (p q : User) (c d : Stored) (s : Step) (e : Ending) (asked : Bool) → works_in p.inner.state ≡ true → p.inner.fill ≡ None → step_of p.inner.regs c.core ≡ s → p.on ≡ true → p.fed ≡ 0
+pub row_turn : (t : ℕ) (p q : User) (c d : Stored) (s : Step) (e : Ending) (asked : Bool) → works_in p.inner.state ≡ true → p.inner.fill ≡ None → at_break p.inner ≡ false → step_of p.inner.regs c.core ≡ s → p.on ≡ true
     → DidStep s e asked t p q c d
-    → IsStep e asked None t Done p q c d
-row_turn t p q c d s e asked h none is on none_fed row =
+    → IsStep e asked None t Done p (marked q) c d
+row_turn t p q c d s e asked h none at is on row =
     let can = both (is_none (step_asks s (in_store c p).inner)) (not (reads_line s (in_store c p).inner) || some_line p.unread) row.0 in
     let made : step_asks s (in_store c p).inner ≡ None = alone (step_asks s (in_store c p).inner) can.0 in
     record {
-      can = run_can (in_store c p) s h none is ∙ (λ j. on j && can.1 j);
-      left = given_back (is_none (step_asks s (in_store c p).inner) && (not (reads_line s (in_store c p).inner) || some_line p.unread)) false (step_line s (in_store c p)) (step_said s t (in_store c p)) (asks_time s (in_store c p).inner) e asked p q c d on none_fed row ∙ sym (run_left t (in_store c p) s h none is none_fed made);
-      ends = row.4 ∙ sym (run_ends t (in_store c p) s h none is made);
-      asks = row.5 ∙ sym (run_asks (in_store c p) s h none is);
-      makes = sym (run_makes (in_store c p) s h none is ∙ made);
-      words = row.6;
+      can = run_can (in_store c p) s h none at is ∙ (λ j. on j && can.1 j);
+      left = given_back (is_none (step_asks s (in_store c p).inner) && (not (reads_line s (in_store c p).inner) || some_line p.unread)) false (step_line s (in_store c p)) (with_step (step_said s t (in_store c p))) (asks_time s (in_store c p).inner) e asked p (marked q) c d on
+          (marked_row _ false (step_line s (in_store c p)) (step_said s t (in_store c p)) (asks_time s (in_store c p).inner) e asked p q c d row) ∙ sym (run_left t (in_store c p) s h none at is made);
+      ends = row.4 ∙ sym (run_ends t (in_store c p) s h none at is made);
+      asks = row.5 ∙ sym (run_asks (in_store c p) s h none at is);
+      makes = sym (run_makes (in_store c p) s h none at is ∙ made);
+      words = inr row.6;
+    }
+
+-- a break
+pub break_turn : (t : ℕ) (p q : User) (c d : Stored) (e : Ending) (asked : Bool) → works_in p.inner.state ≡ true → p.inner.fill ≡ None → at_break p.inner ≡ true → p.on ≡ true
+    → DidBreak e asked p q c d
+    → IsStep e asked None t Done p q c d
+break_turn t p q c d e asked h none at on row =
+    record {
+      can = break_can (in_store c p) h none at ∙ on;
+      left = given_back true false None (breaks (in_store c p).inner (suc p.own - p.own_at_command)) false e asked p q c d on row ∙ sym (break_left t (in_store c p) h none at);
+      ends = row.4 ∙ sym (break_ends t (in_store c p) h none at);
+      asks = row.5 ∙ sym (break_asks (in_store c p) h none at);
+      makes = sym (break_makes (in_store c p) h none at);
+      words = inr row.6;
     }
 
 -- what was still to be stored
-pub fill_turn : (t : ℕ) (p q : User) (c d : Stored) (f : Fill) (e : Ending) (asked : Bool) → works_in p.inner.state ≡ true → p.inner.fill ≡ Some f → p.on ≡ true → p.fed ≡ 0
+pub fill_turn : (t : ℕ) (p q : User) (c d : Stored) (f : Fill) (e : Ending) (asked : Bool) → works_in p.inner.state ≡ true → p.inner.fill ≡ Some f → p.on ≡ true
     → DidFill f e asked p q c d
     → IsStep e asked None t Done p q c d
-fill_turn t p q c d f e asked h is on none_fed row =
+fill_turn t p q c d f e asked h is on row =
     record {
       can = fill_can (in_store c p) f h is ∙ on;
-      left = given_back true false None (goes (filled_program f (in_store c p).inner)) false e asked p q c d on none_fed row ∙ sym (fill_left t (in_store c p) f h is none_fed);
+      left = given_back true false None (goes (filled_program f (in_store c p).inner)) false e asked p q c d on row ∙ sym (fill_left t (in_store c p) f h is);
       ends = row.4 ∙ sym (fill_ends t (in_store c p) f h is);
       asks = row.5 ∙ sym (fill_asks (in_store c p) f h is);
       makes = sym (fill_makes (in_store c p) f h is);
-      words = row.6;
+      words = inr row.6;
     }
 
 -- a supervisor entry
-pub entry_turn : (t : ℕ) (p q : User) (c d : Stored) (w : ℕ) (call : Result Call EntryFault) (e : Ending) (asked : Bool) → works_in p.inner.state ≡ true → p.inner.fill ≡ None → step_of p.inner.regs c.core ≡ entry w → call_of p.inner.regs c.core w ≡ call → p.on ≡ true → p.fed ≡ 0
+pub entry_turn : (t : ℕ) (p q : User) (c d : Stored) (w : ℕ) (call : Result Call EntryFault) (e : Ending) (asked : Bool) → works_in p.inner.state ≡ true → p.inner.fill ≡ None → at_break p.inner ≡ false → step_of p.inner.regs c.core ≡ entry w → call_of p.inner.regs c.core w ≡ call → p.on ≡ true
     → DidEntry call e asked t p q c d
-    → IsStep e asked None t Done p q c d
-entry_turn t p q c d w call e asked h none is what on none_fed row =
-    row_turn t p q c d (entry w) e asked h none is on none_fed
+    → IsStep e asked None t Done p (marked q) c d
+entry_turn t p q c d w call e asked h none at is what on row =
+    row_turn t p q c d (entry w) e asked h none at is on
     (subst (λ (r : Result Call EntryFault). DidEntry r e asked t p q c d) (sym what) row)
 
 -- a command
@@ -111,74 +144,110 @@ some_at : (xs : List Line) (l : Line) → slice_get xs 0 ≡ Some l → some_lin
 some_at [] l h = cc
 some_at (x ∷ xs) l h = refl
 
-pub command_turn : (t : ℕ) (p q : User) (c d : Stored) (l : Line) (command : Command) (e : Ending) (asked : Bool) → works_in p.inner.state ≡ false → p.inner.input ≡ None → slice_get p.unread 0 ≡ Some l → command_of l ≡ command → p.on ≡ true → p.fed ≡ 0
+pub command_turn : (t : ℕ) (p q : User) (c d : Stored) (l : Line) (command : Command) (e : Ending) (asked : Bool) → works_in p.inner.state ≡ false → p.inner.debugger ≡ None → p.inner.input ≡ None → slice_get p.unread 0 ≡ Some l → command_of l ≡ command → p.on ≡ true
     → DidCommand l command e asked t p q c d
     → IsStep e asked None t Done p q c d
-command_turn t p q c d l command e asked h none first what on none_fed row =
+command_turn t p q c d l command e asked h shut none first what on row =
     let made : command_asks command (in_store c p).inner ≡ None = alone (command_asks command (in_store c p).inner) row.0 in
     record {
       can = command_can (in_store c p) h ∙ (λ j. on j && some_at p.unread l first j);
-      left = given_back (is_none (command_asks command (in_store c p).inner)) true (Some l) (command_row command (in_store c p).inner 1 t) true e asked p q c d on none_fed row ∙ sym (command_left t (in_store c p) l command h none first none_fed what made);
-      ends = row.4 ∙ sym (command_ends t (in_store c p) l command h none first what made);
-      asks = row.5 ∙ sym (command_clock (in_store c p) l h none first);
-      makes = sym (command_makes (in_store c p) l command h none first what ∙ made);
-      words = row.6;
+      left = given_back (is_none (command_asks command (in_store c p).inner)) true (Some l) (command_row command (in_store c p).inner (record { line = l; fed = p.fed - 1 }) 1 t) true e asked p q c d on row ∙ sym (command_left t (in_store c p) l command h shut none first what made);
+      ends = row.4 ∙ sym (command_ends t (in_store c p) l command h shut none first what made);
+      asks = row.5 ∙ sym (command_clock (in_store c p) l h shut none first);
+      makes = sym (command_makes (in_store c p) l command h shut none first what ∙ made);
+      words = inr row.6;
     }
 
 -- a line of INPUT
-pub input_turn : (t : ℕ) (p q : User) (c d : Stored) (l : Line) (name : NamePair) (e : Ending) (asked : Bool) → works_in p.inner.state ≡ false → p.inner.input ≡ Some name → slice_get p.unread 0 ≡ Some l → p.on ≡ true → p.fed ≡ 0
+pub input_turn : (t : ℕ) (p q : User) (c d : Stored) (l : Line) (name : NamePair) (e : Ending) (asked : Bool) → works_in p.inner.state ≡ false → p.inner.debugger ≡ None → p.inner.input ≡ Some name → slice_get p.unread 0 ≡ Some l → p.on ≡ true
     → DidInput l name e asked p q c d
     → IsStep e asked None t Done p q c d
-input_turn t p q c d l name e asked h some first on none_fed row =
+input_turn t p q c d l name e asked h shut some first on row =
     record {
       can = command_can (in_store c p) h ∙ (λ j. on j && some_at p.unread l first j);
-      left = given_back true false (Some l) (input_row name l (in_store c p).inner (suc p.own - p.own_at_command)) false e asked p q c d on none_fed row ∙ sym (input_left t (in_store c p) l name h some first none_fed);
-      ends = row.4 ∙ sym (input_ends t (in_store c p) l name h some first);
+      left = given_back true false (Some l) (input_row name l (in_store c p).inner (suc p.own - p.own_at_command)) false e asked p q c d on row ∙ sym (input_left t (in_store c p) l name h shut some first);
+      ends = row.4 ∙ sym (input_ends t (in_store c p) l name h shut some first);
       asks = row.5 ∙ sym (input_asks (in_store c p) l name h some first);
-      makes = sym (input_makes (in_store c p) l name h some first);
-      words = row.6;
+      makes = sym (input_makes (in_store c p) l name h shut some first);
+      words = inr row.6;
+    }
+
+-- a line of the debugger leaves the program's size
+inside_size : (a : ℕ) (done i : Inner) → done.blocks ≡ i.blocks → (if_inside a done i).inner.blocks ≡ i.blocks
+inside_size a done i h = by_test (nat_lt a (length i.core))
+  where
+    by_test : (b : Bool) → (if b then tells [] done else tells (codes "PROTECTION" ∷ []) i).inner.blocks ≡ i.blocks
+    by_test true = h
+    by_test false = refl
+
+debug_size : (s : Stops) (line : DebugLine) (i : Inner) (n : ℕ) → (debug_row s line i n).inner.blocks ≡ i.blocks
+debug_size s (Break a) i n = by_full (is_full s.breaks a)
+  where
+    by_full : (b : Bool) → (if b then bad_line i else if_inside a (with_breaks s (with_break s.breaks a) i) i).inner.blocks ≡ i.blocks
+    by_full true = refl
+    by_full false = inside_size a (with_breaks s (with_break s.breaks a) i) i refl
+debug_size s (Clear a) i n = inside_size a (with_breaks s (without_break s.breaks a) i) i refl
+debug_size s Go i n = refl
+debug_size s (Look a) i n = refl
+debug_size s Regs i n = refl
+debug_size s (Set a w) i n = inside_size a (record i { core = with_words i.core a (w ∷ []) }) i refl
+debug_size s End i n = refl
+debug_size s Bad i n = refl
+
+pub debug_turn : (t : ℕ) (p q : User) (c d : Stored) (l : Line) (s : Stops) (line : DebugLine) (e : Ending) (asked : Bool) → works_in p.inner.state ≡ false → p.inner.debugger ≡ Some s → slice_get p.unread 0 ≡ Some l → debug_of l ≡ line → p.on ≡ true
+    → DidDebug l s line e asked p q c d
+    → IsStep e asked None t Done p q c d
+debug_turn t p q c d l s line e asked h open_ first what on row =
+    let o = debug_row s line (in_store c p).inner 1 in
+    record {
+      can = command_can (in_store c p) h ∙ (λ j. on j && some_at p.unread l first j);
+      left = row_left true (Some l) o e p q c d on row.0 row.1 row.2 ∙ sym (debug_left t (in_store c p) l s h open_ first ∙ (λ j. left true (Some l) (debug_row s (what j) (in_store c p).inner 1) (in_store c p)));
+      ends = row.3 ∙ sym (debug_ends t (in_store c p) l s h open_ first ∙ (λ j. (debug_row s (what j) (in_store c p).inner 1).ending));
+      asks = row.4 ∙ sym (debug_asks (in_store c p) l s h open_ first);
+      makes = sym (debug_makes (in_store c p) l s h open_ first);
+      words = inl (ap (λ (u : User). u.inner.blocks) row.0 ∙ debug_size s line (in_store c p).inner 1);
     }
 
 -- a command that made a common operation
-pub command_replied_turn : (t : ℕ) (r : Reply) (p q : User) (c d : Stored) (l : Line) (command : Command) (op : CommonOp) (e : Ending) (asked : Bool) → works_in p.inner.state ≡ false → p.inner.input ≡ None → slice_get p.unread 0 ≡ Some l → command_of l ≡ command → p.on ≡ true → p.fed ≡ 0
+pub command_replied_turn : (t : ℕ) (r : Reply) (p q : User) (c d : Stored) (l : Line) (command : Command) (op : CommonOp) (e : Ending) (asked : Bool) → works_in p.inner.state ≡ false → p.inner.debugger ≡ None → p.inner.input ≡ None → slice_get p.unread 0 ≡ Some l → command_of l ≡ command → p.on ≡ true
     → CommandReplied l command op r e asked t p q c d
     → IsStep e asked (Some op) t r p q c d
-command_replied_turn t r p q c d l command op e asked h none first what on none_fed row =
+command_replied_turn t r p q c d l command op e asked h shut none first what on row =
     record {
       can = command_can (in_store c p) h ∙ (λ j. on j && some_at p.unread l first j);
-      left = given_back true true (Some l) (command_replied command (in_store c p).inner 1 t r) true e asked p q c d on none_fed row.1 ∙ sym (command_replied_left t r (in_store c p) l command op h none first none_fed what row.0);
-      ends = row.1.4 ∙ sym (command_replied_ends t r (in_store c p) l command op h none first what row.0);
-      asks = row.1.5 ∙ sym (command_clock (in_store c p) l h none first);
-      makes = sym (command_makes (in_store c p) l command h none first what ∙ row.0);
-      words = row.1.6;
+      left = given_back true true (Some l) (command_replied command (in_store c p).inner 1 t r) true e asked p q c d on row.1 ∙ sym (command_replied_left t r (in_store c p) l command op h shut none first what row.0);
+      ends = row.1.4 ∙ sym (command_replied_ends t r (in_store c p) l command op h shut none first what row.0);
+      asks = row.1.5 ∙ sym (command_clock (in_store c p) l h shut none first);
+      makes = sym (command_makes (in_store c p) l command h shut none first what ∙ row.0);
+      words = inr row.1.6;
     }
 
 -- a supervisor entry that made one
-pub entry_replied_turn : (t : ℕ) (r : Reply) (p q : User) (c d : Stored) (w : ℕ) (call : Result Call EntryFault) (op : CommonOp) (e : Ending) (asked : Bool) → works_in p.inner.state ≡ true → p.inner.fill ≡ None → step_of p.inner.regs c.core ≡ entry w → call_of p.inner.regs c.core w ≡ call → p.on ≡ true → p.fed ≡ 0
+pub entry_replied_turn : (t : ℕ) (r : Reply) (p q : User) (c d : Stored) (w : ℕ) (call : Result Call EntryFault) (op : CommonOp) (e : Ending) (asked : Bool) → works_in p.inner.state ≡ true → p.inner.fill ≡ None → at_break p.inner ≡ false → step_of p.inner.regs c.core ≡ entry w → call_of p.inner.regs c.core w ≡ call → p.on ≡ true
     → EntryReplied call op r e asked p q c d
-    → IsStep e asked (Some op) t r p q c d
-entry_replied_turn t r p q c d w call op e asked h none is what on none_fed said =
+    → IsStep e asked (Some op) t r p (marked q) c d
+entry_replied_turn t r p q c d w call op e asked h none at is what on said =
     let row : EntryReplied (call_of p.inner.regs c.core w) op r e asked p q c d = subst (λ (x : Result Call EntryFault). EntryReplied x op r e asked p q c d) (sym what) said in
     record {
-      can = run_can (in_store c p) (entry w) h none is ∙ (λ j. on j && (not (run_takes_none (in_store c p) (entry w) op row.0 j) || some_line p.unread));
-      left = given_back true false None (step_replied (entry w) (in_store c p).inner r) false e asked p q c d on none_fed row.1 ∙ sym (run_replied_left t r (in_store c p) (entry w) op h none is none_fed row.0);
-      ends = row.1.4 ∙ sym (run_replied_ends t r (in_store c p) (entry w) op h none is row.0);
-      asks = row.1.5 ∙ sym (run_asks (in_store c p) (entry w) h none is ∙ run_replied_asks (entry w) (in_store c p).inner op row.0);
-      makes = sym (run_makes (in_store c p) (entry w) h none is ∙ row.0);
-      words = row.1.6;
+      can = run_can (in_store c p) (entry w) h none at is ∙ (λ j. on j && (not (run_takes_none (in_store c p) (entry w) op row.0 j) || some_line p.unread));
+      left = given_back true false None (with_step (step_replied (entry w) (in_store c p).inner r)) false e asked p (marked q) c d on (marked_row true false None (step_replied (entry w) (in_store c p).inner r) false e asked p q c d row.1) ∙ sym (run_replied_left t r (in_store c p) (entry w) op h none at is row.0);
+      ends = row.1.4 ∙ sym (run_replied_ends t r (in_store c p) (entry w) op h none at is row.0);
+      asks = row.1.5 ∙ sym (run_asks (in_store c p) (entry w) h none at is ∙ run_replied_asks (entry w) (in_store c p).inner op row.0);
+      makes = sym (run_makes (in_store c p) (entry w) h none at is ∙ row.0);
+      words = inr row.1.6;
     }
 
 -- a command that is to make one, and an entry
-pub command_asked : (p : User) (c : Stored) (l : Line) (command : Command) (op : CommonOp) → works_in p.inner.state ≡ false → p.inner.input ≡ None → slice_get p.unread 0 ≡ Some l → command_of l ≡ command → p.on ≡ true
+pub command_asked : (p : User) (c : Stored) (l : Line) (command : Command) (op : CommonOp) → works_in p.inner.state ≡ false → p.inner.debugger ≡ None → p.inner.input ≡ None → slice_get p.unread 0 ≡ Some l → command_of l ≡ command → p.on ≡ true
     → command_asks command (in_store c p).inner ≡ Some op → (can_step (in_store c p) ≡ true) × (asks_common (in_store c p) ≡ Some op)
-command_asked p c l command op h none first what on makes =
-    (command_can (in_store c p) h ∙ (λ j. on j && some_at p.unread l first j), command_makes (in_store c p) l command h none first what ∙ makes)
+command_asked p c l command op h shut none first what on makes =
+    (command_can (in_store c p) h ∙ (λ j. on j && some_at p.unread l first j), command_makes (in_store c p) l command h shut none first what ∙ makes)
 
-pub entry_asked : (p : User) (c : Stored) (w : ℕ) (call : Result Call EntryFault) (op : CommonOp) → works_in p.inner.state ≡ true → p.inner.fill ≡ None → step_of p.inner.regs c.core ≡ entry w → call_of p.inner.regs c.core w ≡ call → p.on ≡ true
+pub entry_asked : (p : User) (c : Stored) (w : ℕ) (call : Result Call EntryFault) (op : CommonOp) → works_in p.inner.state ≡ true → p.inner.fill ≡ None → at_break p.inner ≡ false → step_of p.inner.regs c.core ≡ entry w → call_of p.inner.regs c.core w ≡ call → p.on ≡ true
     → entry_asks call c.core ≡ Some op → (can_step (in_store c p) ≡ true) × (asks_common (in_store c p) ≡ Some op)
-entry_asked p c w call op h none is what on said =
+entry_asked p c w call op h none at is what on said =
     let makes : step_asks (entry w) (in_store c p).inner ≡ Some op = ap (λ (x : Result Call EntryFault). entry_asks x c.core) what ∙ said in
-    (run_can (in_store c p) (entry w) h none is ∙ (λ j. on j && (not (run_takes_none (in_store c p) (entry w) op makes j) || some_line p.unread)), run_makes (in_store c p) (entry w) h none is ∙ makes)
+    (run_can (in_store c p) (entry w) h none at is ∙ (λ j. on j && (not (run_takes_none (in_store c p) (entry w) op makes j) || some_line p.unread)), run_makes (in_store c p) (entry w) h none at is ∙ makes)
 
 -- a supervisor entry that waits for a line
 none_at : (xs : List Line) → slice_get xs 0 ≡ None → some_line xs ≡ false
@@ -189,10 +258,10 @@ and_none : (a : Bool) → (a && false) ≡ false
 and_none true = refl
 and_none false = refl
 
-pub entry_waits : (p : User) (c : Stored) (w : ℕ) (call : Result Call EntryFault) → works_in p.inner.state ≡ true → p.inner.fill ≡ None → step_of p.inner.regs c.core ≡ entry w → call_of p.inner.regs c.core w ≡ call
+pub entry_waits : (p : User) (c : Stored) (w : ℕ) (call : Result Call EntryFault) → works_in p.inner.state ≡ true → p.inner.fill ≡ None → at_break p.inner ≡ false → step_of p.inner.regs c.core ≡ entry w → call_of p.inner.regs c.core w ≡ call
     → is_read call ≡ true → slice_get p.unread 0 ≡ None → can_step (in_store c p) ≡ false
-entry_waits p c w call h none is what reads empty =
-    run_can (in_store c p) (entry w) h none is
+entry_waits p c w call h none at is what reads empty =
+    run_can (in_store c p) (entry w) h none at is
     ∙ (λ j. p.on && (not ((ap is_read what ∙ reads) j) || none_at p.unread empty j))
     ∙ and_none p.on
 

@@ -1,5 +1,5 @@
 -- An instruction of a program that goes on, as a step.
-use Rattle.std.proofs.Common.{refl, ◌≡◌, ℕ, suc, ◌+◌, Bool, true, false, ◌&&◌, List, None, sym, ap, ◌∙◌, arith}
+use Rattle.std.proofs.Common.{refl, ◌≡◌, ℕ, suc, ◌+◌, Bool, true, false, ◌&&◌, List, Option, None, sym, ap, ◌∙◌, arith}
 use Rattle.time_sharing.specs.Machine.{Went, Done}
 use Rattle.cpu_regs.specs.declared.regs.Regs.{Regs}
 use Rattle.machine_model.specs.Step.{went}
@@ -7,30 +7,36 @@ use Rattle.machine_model.specs.Machine.{step_of}
 use Rattle.machine_model.specs.Runs.{many}
 use Rattle.machine_model.proofs.Runs.{many_none, none_regs, none_words}
 use Rattle.user_model.specs.User.{User, can_step, step, ending, asks_clock, asks_common, in_store}
+use Rattle.program_model.specs.Stops.{Stops}
 use Rattle.user_model.specs.Inner.{Stored}
+use Rattle.user_model.specs.Programs.{at_break, at_break_in}
 use Rattle.user_model.specs.Runs.{IsAtWork, gone, HaveGone}
 use Rattle.user_model.proofs.CoreLaws.{plain_step}
 use Rattle.user_model.proofs.StepLaws.{run_ends, run_asks, run_makes, run_can}
 
 -- the work goes on
 pub work_on : (n : ℕ) (r : Regs) (p : User) → IsAtWork p → IsAtWork (gone n r p)
-work_on n r p work = record { on = work.on; works = work.works; filled = work.filled; fed = work.fed }
+work_on n r p work = record { on = work.on; works = work.works; filled = work.filled; alone = work.alone }
+
+-- without a debugger there is no break
+unbroken : (p : User) → IsAtWork p → at_break p.inner ≡ false
+unbroken p work = ap (λ (o : Option Stops). at_break_in o p.inner.regs.ic) work.alone
 
 pub work_can : (p : User) (c : Stored) (d : List ℕ) (r : Regs) → IsAtWork p → step_of p.inner.regs c.core ≡ went r d → can_step (in_store c p) ≡ true
-work_can p c d r work goes = run_can (in_store c p) (went r d) work.works work.filled goes ∙ ap (λ (b : Bool). b && true) work.on
+work_can p c d r work goes = run_can (in_store c p) (went r d) work.works work.filled (unbroken p work) goes ∙ ap (λ (b : Bool). b && true) work.on
 
 pub work_ends : (t : ℕ) (p : User) (c : Stored) (d : List ℕ) (r : Regs) → IsAtWork p → step_of p.inner.regs c.core ≡ went r d → ending t Done (in_store c p) ≡ Went
-work_ends t p c d r work goes = run_ends t (in_store c p) (went r d) work.works work.filled goes refl
+work_ends t p c d r work goes = run_ends t (in_store c p) (went r d) work.works work.filled (unbroken p work) goes refl
 
 pub work_asks : (p : User) (c : Stored) (d : List ℕ) (r : Regs) → IsAtWork p → step_of p.inner.regs c.core ≡ went r d → asks_clock (in_store c p) ≡ false
-work_asks p c d r work goes = run_asks (in_store c p) (went r d) work.works work.filled goes
+work_asks p c d r work goes = run_asks (in_store c p) (went r d) work.works work.filled (unbroken p work) goes
 
 pub work_makes : (p : User) (c : Stored) (d : List ℕ) (r : Regs) → IsAtWork p → step_of p.inner.regs c.core ≡ went r d → asks_common (in_store c p) ≡ None
-work_makes p c d r work goes = run_makes (in_store c p) (went r d) work.works work.filled goes
+work_makes p c d r work goes = run_makes (in_store c p) (went r d) work.works work.filled (unbroken p work) goes
 
 pub work_step : (t : ℕ) (p : User) (c : Stored) (d : List ℕ) (r : Regs) → IsAtWork p → step_of p.inner.regs c.core ≡ went r d →
     step t Done (in_store c p) ≡ in_store (record c { core = d }) (record p { inner = record p.inner { regs = r }; own = suc p.own })
-work_step t p c d r work goes = sym (plain_step t p c d r work.works work.filled goes work.on work.fed)
+work_step t p c d r work goes = sym (plain_step t p c d r work.works work.filled work.alone goes work.on)
 
 -- one more instruction
 pub gone_more : (n t : ℕ) (p : User) (c : Stored) (d : List ℕ) (s r : Regs) → IsAtWork p → step_of s c.core ≡ went r d →

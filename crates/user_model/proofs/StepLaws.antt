@@ -1,233 +1,60 @@
 -- What a step is: a command's, a fill, a program's.
-use Rattle.std.proofs.Common.{◌≡◌, ℕ, suc, ◌-◌, ◌+◌, Bool, true, false, not, ◌&&◌, ◌||◌, List, [], ◌∷◌, ◌++◌, length, Option, Some, None, Ok, Err, refl, ap, ◌∙◌, zero-add, arith}
-use Rattle.std.specs.Prelude.{slice_get, if◌then◌else◌, nat_eq, nat_lt}
+use Rattle.std.proofs.Common.{◌≡◌, ℕ, suc, ◌-◌, ◌+◌, Bool, true, false, not, ◌&&◌, ◌||◌, List, [], ◌∷◌, ◌++◌, length, Option, Some, None, Ok, Err, refl, ap, ◌∙◌, arith}
+use Rattle.std.specs.Prelude.{slice_get, if◌then◌else◌}
 use Rattle.std.specs.declared.result.Result.{Result}
-use Rattle.time_sharing.specs.Machine.{Line, Went, Done, CommonOp, Reply}
+use Rattle.time_sharing.specs.Machine.{Line, Went, Stopped, Done, CommonOp, Reply}
 use Rattle.time_sharing.specs.Rows.{Outcome, some_line, is_logout, out_all, in_line, behind, one_less, first_line, line_of, own_at_command_of, done}
 use Rattle.time_sharing.specs.System.{clock_for}
 use Rattle.ctss_types.specs.Names.{NamePair}
-use Rattle.ctss_types.specs.declared.file.FileBody.{FileBody}
-use Rattle.ctss_types.specs.declared.file.Refusal.{Refusal}
-use Rattle.ctss_types.specs.declared.file.Reply.TheVariants as reply
-use Rattle.file_model.specs.declared.Stat.{Stat}
-use Rattle.file_model.specs.Files.{file_named, stat, read, got, written, put, appended, renamed, deleted, moded}
 use Rattle.machine_model.specs.Step.{Step, went, halt, entry, illegal, outside}
 use Rattle.machine_model.specs.Machine.{step_of}
 use Rattle.program_model.specs.declared.Call.{Call}
 use Rattle.program_model.specs.declared.Call.TheVariants.{ReadLine, WriteLine, GetTime, GetMemory, SetMemory, FileStat, ReadFile, WriteFile, DeleteFile, RenameFile, ChangeMode as ChangesMode, CommonStat, CommonRead, CommonWrite, CommonDelete, Dead as EndsDead, Dormant as EndsDormant}
 use Rattle.program_model.specs.declared.EntryFault.{EntryFault}
 use Rattle.program_model.specs.declared.EntryFault.TheVariants.{NoSuchEntry, Outside}
-use Rattle.program_model.specs.declared.LoadFault.{LoadFault}
-use Rattle.program_model.specs.declared.Deck.{Deck}
 use Rattle.program_model.specs.declared.Fill.{Fill}
 use Rattle.program_model.specs.declared.ProgramState.{ProgramState}
 use Rattle.program_model.specs.declared.ProgramState.TheVariants.{Dead, Dormant, Working}
-use Rattle.program_model.specs.Calls.{call_of, is_line_count}
-use Rattle.program_model.specs.Decks.{deck_of, deck_name}
-use Rattle.program_model.specs.Lines.{words_at, words_of_line}
-use Rattle.program_model.specs.Saved.{saved, saved_of, saved_name}
-use Rattle.fap_model.specs.Cards.{cards_of}
-use Rattle.fap_model.specs.Decks.{Assembled, deck, faulty, assembled}
+use Rattle.program_model.specs.Calls.{call_of}
+use Rattle.program_model.specs.DebugLines.{debug_of}
+use Rattle.program_model.specs.Stops.{Stops}
 use Rattle.user_model.specs.Inner.{Inner}
+use Rattle.user_model.specs.Debugger.{debug_row}
 use Rattle.user_model.specs.declared.Command.{Command}
-use Rattle.user_model.specs.declared.Command.TheVariants.{Empty, Logout, LoadGo, List as Lists, Print, Rename, Delete, ChangeMode, Input, CopyTo, CopyFrom, Assemble, Start, Save, Resume, Registers, WordAt, BadArguments, Unknown}
 use Rattle.user_model.specs.Requests.{command_of}
-use Rattle.user_model.specs.Commands.{command_row, command_asks, command_replied, copy_target, words_copied, prepared, resumed, is_dormant, if_dormant, cards_name, assembly_put, cards_assembled, changed, input_made, input_begun, input_row, line_entered}
-use Rattle.user_model.specs.Programs.{step_row, step_asks, step_replied, entry_row, entry_asks, entry_replied, call_row, call_replied, reply_taken, program_asks_common, program_replied, file_told, file_read, files_changed, program_row, program_reads, program_asks, reads_line, is_clock, asks_time, is_read, filled_program, goes}
-use Rattle.user_model.specs.Session.{user_rows, works_in, is_none, counts_anew, act_in, act_by, asks_common_in, line_asks, replied_in, line_row, asks_clock_in, takes_line_in}
+use Rattle.user_model.specs.Commands.{CommandLine, command_row, command_asks, command_replied, input_row}
+use Rattle.user_model.specs.Programs.{at_break, with_step, breaks, run_row, step_row, step_asks, step_replied, entry_row, entry_asks, call_row, program_asks_common, program_replied, program_row, program_reads, program_asks, reads_line, is_clock, asks_time, is_read, filled_program, goes}
+use Rattle.user_model.specs.Session.{user_rows, works_in, is_none, counts_anew, act_in, act_by, asks_common_in, line_asks, replied_in, line_row, asks_clock_in, takes_line_in, takes_command}
 use Rattle.user_model.specs.User.{User, can_step, step, ending, asks_clock, asks_common}
 use Rattle.user_model.specs.Steps.{left}
 
--- no row puts lines before the unread ones
-
-if_front : (b : Bool) (x y : Outcome Inner) → x.front ≡ [] → y.front ≡ [] → (if b then x else y).front ≡ []
-if_front true x y one other = one
-if_front false x y one other = other
-
-told_front : (i : Inner) (told : Result Stat Refusal) → (file_told i told).front ≡ []
-told_front i (Ok s) = refl
-told_front i (Err r) = refl
-
-read_front : (i : Inner) (at : ℕ) (told : Result (List ℕ) Refusal) → (file_read i at told).front ≡ []
-read_front i at (Ok words) = refl
-read_front i at (Err r) = refl
-
-changed_front : (i : Inner) (arguments : ℕ) (told : Result (List FileBody) Refusal) → (files_changed i arguments told).front ≡ []
-changed_front i arguments (Ok files) = refl
-changed_front i arguments (Err r) = refl
-
-call_front : (c : Call) (i : Inner) (l : Option Line) (n t : ℕ) → (call_row c i l n t).front ≡ []
-call_front (ReadLine at count) i None n t = if_front (is_line_count count) _ _ refl refl
-call_front (ReadLine at count) i (Some l) n t = if_front (is_line_count count) _ _ refl refl
-call_front (WriteLine at count) i l n t = if_front (is_line_count count) _ _ refl refl
-call_front GetTime i l n t = refl
-call_front GetMemory i l n t = refl
-call_front (SetMemory blocks) i l n t = if_front (nat_eq blocks 0 || nat_lt i.account.blocks blocks) _ _ refl (if_front (nat_eq blocks i.blocks) _ _ refl refl)
-call_front (FileStat name) i l n t = told_front i (stat name i.files)
-call_front (ReadFile name at count place) i l n t = read_front i at (read name place count i.files)
-call_front (WriteFile name at count place) i l n t = changed_front i 3 (written name place (words_at i.core at count) i.account.tracks i.files)
-call_front (DeleteFile name) i l n t = changed_front i 1 (deleted name i.files)
-call_front (RenameFile name to) i l n t = changed_front i 2 (renamed name to i.files)
-call_front (ChangesMode name mode) i l n t = changed_front i 2 (moded name mode i.files)
-call_front (CommonStat name) i l n t = refl
-call_front (CommonRead name at count place) i l n t = refl
-call_front (CommonWrite name at count place) i l n t = refl
-call_front (CommonDelete name) i l n t = refl
-call_front EndsDead i l n t = refl
-call_front EndsDormant i l n t = refl
-
-entry_front : (call : Result Call EntryFault) (i : Inner) (l : Option Line) (n t : ℕ) → (entry_row call i l n t).front ≡ []
-entry_front (Ok call) i l n t = call_front call i l n t
-entry_front (Err NoSuchEntry) i l n t = refl
-entry_front (Err (Outside a)) i l n t = refl
-
-step_front : (s : Step) (i : Inner) (l : Option Line) (n t : ℕ) → (step_row s i l n t).front ≡ []
-step_front (went r core) i l n t = refl
-step_front (halt r core) i l n t = refl
-step_front (entry w) i l n t = entry_front (call_of i.regs i.core w) i l n t
-step_front illegal i l n t = refl
-step_front (outside a) i l n t = refl
-
-program_front : (f : Option Fill) (i : Inner) (l : Option Line) (n t : ℕ) → (program_row f i l n t).front ≡ []
-program_front (Some f) i l n t = refl
-program_front None i l n t = step_front (step_of i.regs i.core) i l n t
-
-prepared_front : (name : ℕ) (deck : Result Deck LoadFault) (i : Inner) (n t : ℕ) → (prepared name deck i n t).front ≡ []
-prepared_front name (Ok d) i n t = refl
-prepared_front name (Err fault) i n t = refl
-
-change_front : (told : Result (List FileBody) Refusal) (i : Inner) (n t : ℕ) → (changed told i n t).front ≡ []
-change_front (Ok files) i n t = refl
-change_front (Err r) i n t = refl
-
-made_front : (name : NamePair) (told : Result (List FileBody) Refusal) (i : Inner) (n t : ℕ) → (input_made name told i n t).front ≡ []
-made_front name (Ok files) i n t = refl
-made_front name (Err r) i n t = refl
-
-begun_front : (name : NamePair) (file : Option FileBody) (i : Inner) (n t : ℕ) → (input_begun name file i n t).front ≡ []
-begun_front name None i n t = made_front name (put name [] i.account.tracks i.files) i n t
-begun_front name (Some f) i n t = refl
-
-entered_front : (told : Result (List FileBody) Refusal) (i : Inner) (n : ℕ) → (line_entered told i n).front ≡ []
-entered_front (Ok files) i n = refl
-entered_front (Err r) i n = refl
-
-input_front : (name : NamePair) (l : Line) (i : Inner) (n : ℕ) → (input_row name l i n).front ≡ []
-input_front name l i n = if_front (nat_eq (length l) 0) _ _ refl (entered_front (appended name (words_of_line 14 l) i.account.tracks i.files) i n)
-
-resumed_front : (name : ℕ) (blocks : Result ℕ LoadFault) (i : Inner) (n t : ℕ) → (resumed name blocks i n t).front ≡ []
-resumed_front name (Ok blocks) i n t = refl
-resumed_front name (Err fault) i n t = refl
-
-dormant_front : (o : Outcome Inner) (i : Inner) (n t : ℕ) → o.front ≡ [] → (if_dormant o i n t).front ≡ []
-dormant_front o i n t h = if_front (is_dormant i.state) _ _ h refl
-
-assembly_front : (name : ℕ) (a : Assembled) (i : Inner) (n t : ℕ) → (assembly_put name a i n t).front ≡ []
-assembly_front name (deck words) i n t = change_front (put (deck_name name) words i.account.tracks i.files) i n t
-assembly_front name (faulty faults) i n t = refl
-
-cards_front : (name : ℕ) (file : Result (List ℕ) Refusal) (i : Inner) (n t : ℕ) → (cards_assembled name file i n t).front ≡ []
-cards_front name (Ok words) i n t = assembly_front name (assembled (cards_of words)) i n t
-cards_front name (Err r) i n t = refl
-
-command_front : (c : Command) (i : Inner) (n t : ℕ) → (command_row c i n t).front ≡ []
-command_front Empty i n t = refl
-command_front Logout i n t = refl
-command_front (LoadGo name) i n t = prepared_front name (deck_of i.account.blocks (got (deck_name name) i.files)) i n t
-command_front Lists i n t = refl
-command_front (Print name) i n t = refl
-command_front (Rename name to) i n t = change_front (renamed name to i.files) i n t
-command_front (Delete name) i n t = change_front (deleted name i.files) i n t
-command_front (ChangeMode name mode) i n t = change_front (moded name mode i.files) i n t
-command_front (Input name) i n t = begun_front name (file_named name i.files) i n t
-command_front (CopyTo name) i n t = refl
-command_front (CopyFrom name) i n t = refl
-command_front (Assemble name) i n t = cards_front name (got (cards_name name) i.files) i n t
-command_front Start i n t = dormant_front _ i n t refl
-command_front (Save name) i n t = dormant_front _ i n t (change_front (put (saved_name name) (saved i.blocks i.regs i.core) i.account.tracks i.files) i n t)
-command_front (Resume name) i n t = resumed_front name (saved_of i.account.blocks (got (saved_name name) i.files)) i n t
-command_front Registers i n t = dormant_front _ i n t refl
-command_front (WordAt place) i n t = dormant_front _ i n t refl
-command_front BadArguments i n t = refl
-command_front Unknown i n t = refl
-
--- rows with a reply
-
-reply_front : (i : Inner) (arguments at : ℕ) (r : Reply) → (reply_taken i arguments at r).front ≡ []
-reply_front i arguments at reply.Done = refl
-reply_front i arguments at (reply.Size n) = refl
-reply_front i arguments at (reply.Words words) = refl
-reply_front i arguments at (reply.Refused r) = refl
-
-call_replied_front : (c : Call) (i : Inner) (r : Reply) → (call_replied c i r).front ≡ []
-call_replied_front (ReadLine at count) i r = refl
-call_replied_front (WriteLine at count) i r = refl
-call_replied_front GetTime i r = refl
-call_replied_front GetMemory i r = refl
-call_replied_front (SetMemory blocks) i r = refl
-call_replied_front (FileStat name) i r = refl
-call_replied_front (ReadFile name at count place) i r = refl
-call_replied_front (WriteFile name at count place) i r = refl
-call_replied_front (DeleteFile name) i r = refl
-call_replied_front (RenameFile name to) i r = refl
-call_replied_front (ChangesMode name mode) i r = refl
-call_replied_front (CommonStat name) i r = reply_front i 1 0 r
-call_replied_front (CommonRead name at count place) i r = reply_front i 3 at r
-call_replied_front (CommonWrite name at count place) i r = reply_front i 3 at r
-call_replied_front (CommonDelete name) i r = reply_front i 1 0 r
-call_replied_front EndsDead i r = refl
-call_replied_front EndsDormant i r = refl
-
-entry_replied_front : (call : Result Call EntryFault) (i : Inner) (r : Reply) → (entry_replied call i r).front ≡ []
-entry_replied_front (Ok call) i r = call_replied_front call i r
-entry_replied_front (Err fault) i r = refl
-
-copied_front : (name : Option NamePair) (words : List ℕ) (i : Inner) (n t : ℕ) → (words_copied name words i n t).front ≡ []
-copied_front (Some name) words i n t = change_front (put name words i.account.tracks i.files) i n t
-copied_front None words i n t = refl
-
-command_replied_front : (c : Command) (i : Inner) (n t : ℕ) (r : Reply) → (command_replied c i n t r).front ≡ []
-command_replied_front c i n t reply.Done = refl
-command_replied_front c i n t (reply.Size k) = refl
-command_replied_front c i n t (reply.Words words) = copied_front (copy_target c) words i n t
-command_replied_front c i n t (reply.Refused r) = refl
-
--- what the frame does with an outcome that puts no lines in front
-frame : (p : User) (line : Option Line) (o : Outcome Inner) → line_of user_rows p ≡ line → o.front ≡ [] → p.fed ≡ 0 →
-    done user_rows p o ≡ left (counts_anew p.inner) line o p
+-- what the frame does with an outcome
+frame : (p : User) (line : Option Line) (o : Outcome Inner) → line_of user_rows p ≡ line → done user_rows p o ≡ left (counts_anew p.inner) line o p
 unfolding left
-frame p line o is none none_fed =
+frame p line o is =
     λ j. record p {
       inner = o.inner;
       on = not (is_logout o.ending);
-      unread = if is_logout o.ending then [] else none j ++ behind (is j) p.unread;
-      fed = given_is (is_logout o.ending) j;
+      unread = if is_logout o.ending then [] else o.front ++ behind (is j) p.unread;
+      fed = if is_logout o.ending then 0 else length o.front + one_less (is j) p.fed;
       transcript = p.transcript ++ (in_line (is j) ++ out_all o.written);
       own = suc p.own;
       own_at_command = own_at_command_of user_rows p;
     }
-  where
-    one_less_none : (l : Option Line) (k : ℕ) → k ≡ 0 → one_less l k ≡ 0
-    one_less_none None k e = e
-    one_less_none (Some l) k e = ap (λ (n : ℕ). n - 1) e
-
-    given_is : (b : Bool) → (if b then 0 else length o.front + one_less (line_of user_rows p) p.fed) ≡ 0
-    given_is true = refl
-    given_is false = ap (λ (ls : List Line). length ls + one_less (line_of user_rows p) p.fed) none ∙ zero-add (one_less (line_of user_rows p) p.fed) ∙ one_less_none (line_of user_rows p) p.fed none_fed
 
 -- a step that makes no common operation
 
 pub alone_left : (t : ℕ) (p : User) → asks_common p ≡ None →
-    step t Done p ≡ done user_rows p (act_in p.inner.state p.inner (line_of user_rows p) (suc p.own - own_at_command_of user_rows p) (clock_for (asks_clock_in p.inner.state p.inner (line_of user_rows p)) t))
+    step t Done p ≡ done user_rows p (act_in p.inner.state p.inner (line_of user_rows p) (suc p.own - own_at_command_of user_rows p) (one_less (line_of user_rows p) p.fed) (clock_for (asks_clock_in p.inner.state p.inner (line_of user_rows p)) t))
 unfolding step asks_common
 alone_left t p alone =
-    ap (λ (made : Option CommonOp). done user_rows p (act_by made p.inner (line_of user_rows p) (suc p.own - own_at_command_of user_rows p) (clock_for (asks_clock_in p.inner.state p.inner (line_of user_rows p)) t) Done)) alone
+    ap (λ (made : Option CommonOp). done user_rows p (act_by made p.inner (line_of user_rows p) (suc p.own - own_at_command_of user_rows p) (one_less (line_of user_rows p) p.fed) (clock_for (asks_clock_in p.inner.state p.inner (line_of user_rows p)) t) Done)) alone
 
 pub alone_ends : (t : ℕ) (p : User) → asks_common p ≡ None →
-    ending t Done p ≡ (act_in p.inner.state p.inner (line_of user_rows p) (suc p.own - own_at_command_of user_rows p) (clock_for (asks_clock_in p.inner.state p.inner (line_of user_rows p)) t)).ending
+    ending t Done p ≡ (act_in p.inner.state p.inner (line_of user_rows p) (suc p.own - own_at_command_of user_rows p) (one_less (line_of user_rows p) p.fed) (clock_for (asks_clock_in p.inner.state p.inner (line_of user_rows p)) t)).ending
 unfolding ending asks_common
 alone_ends t p alone =
-    ap (λ (made : Option CommonOp). (act_by made p.inner (line_of user_rows p) (suc p.own - own_at_command_of user_rows p) (clock_for (asks_clock_in p.inner.state p.inner (line_of user_rows p)) t) Done).ending) alone
+    ap (λ (made : Option CommonOp). (act_by made p.inner (line_of user_rows p) (suc p.own - own_at_command_of user_rows p) (one_less (line_of user_rows p) p.fed) (clock_for (asks_clock_in p.inner.state p.inner (line_of user_rows p)) t) Done).ending) alone
 
 -- a step that makes one
 
@@ -235,13 +62,13 @@ pub replied_left : (t : ℕ) (r : Reply) (p : User) (op : CommonOp) → asks_com
     step t r p ≡ done user_rows p (replied_in p.inner.state p.inner (line_of user_rows p) (suc p.own - own_at_command_of user_rows p) (clock_for (asks_clock_in p.inner.state p.inner (line_of user_rows p)) t) r)
 unfolding step asks_common
 replied_left t r p op makes =
-    ap (λ (made : Option CommonOp). done user_rows p (act_by made p.inner (line_of user_rows p) (suc p.own - own_at_command_of user_rows p) (clock_for (asks_clock_in p.inner.state p.inner (line_of user_rows p)) t) r)) makes
+    ap (λ (made : Option CommonOp). done user_rows p (act_by made p.inner (line_of user_rows p) (suc p.own - own_at_command_of user_rows p) (one_less (line_of user_rows p) p.fed) (clock_for (asks_clock_in p.inner.state p.inner (line_of user_rows p)) t) r)) makes
 
 pub replied_ends : (t : ℕ) (r : Reply) (p : User) (op : CommonOp) → asks_common p ≡ Some op →
     ending t r p ≡ (replied_in p.inner.state p.inner (line_of user_rows p) (suc p.own - own_at_command_of user_rows p) (clock_for (asks_clock_in p.inner.state p.inner (line_of user_rows p)) t) r).ending
 unfolding ending asks_common
 replied_ends t r p op makes =
-    ap (λ (made : Option CommonOp). (act_by made p.inner (line_of user_rows p) (suc p.own - own_at_command_of user_rows p) (clock_for (asks_clock_in p.inner.state p.inner (line_of user_rows p)) t) r).ending) makes
+    ap (λ (made : Option CommonOp). (act_by made p.inner (line_of user_rows p) (suc p.own - own_at_command_of user_rows p) (one_less (line_of user_rows p) p.fed) (clock_for (asks_clock_in p.inner.state p.inner (line_of user_rows p)) t) r).ending) makes
 
 -- the clock matters only where it is asked for
 
@@ -276,9 +103,13 @@ step_clock (entry w) i l n t = entry_clock (call_of i.regs i.core w) i l n t
 step_clock illegal i l n t = refl
 step_clock (outside a) i l n t = refl
 
+run_clock : (b : Bool) (s : Step) (i : Inner) (l : Option Line) (n t : ℕ) → run_row b s i l n (clock_for (not b && asks_time s i) t) ≡ run_row b s i l n t
+run_clock true s i l n t = refl
+run_clock false s i l n t = ap with_step (step_clock s i l n t)
+
 program_clock : (f : Option Fill) (i : Inner) (l : Option Line) (n t : ℕ) → program_row f i l n (clock_for (program_asks f i) t) ≡ program_row f i l n t
 program_clock (Some f) i l n t = refl
-program_clock None i l n t = step_clock (step_of i.regs i.core) i l n t
+program_clock None i l n t = run_clock (at_break i) (step_of i.regs i.core) i l n t
 
 -- commands
 
@@ -293,6 +124,10 @@ or_true : (b : Bool) → (b && true) ≡ b
 or_true true = refl
 or_true false = refl
 
+and_none : (b : Bool) → (b && false) ≡ false
+and_none true = refl
+and_none false = refl
+
 since_before : (b : Bool) (own before : ℕ) → b ≡ false → suc own - (if b then own else before) ≡ suc own - before
 since_before true own before h = cc
 since_before false own before h = refl
@@ -303,108 +138,152 @@ line_in_command Dormant p l h is = front_is p.unread l is
 line_in_command Working p l h is = cc
 
 -- whether own steps count anew, where no program works
-anew : (i : Inner) → works_in i.state ≡ false → counts_anew i ≡ is_none i.input
-anew i h = ap (λ (b : Bool). not b && is_none i.input) h
+anew : (i : Inner) → works_in i.state ≡ false → counts_anew i ≡ (not (is_none i.debugger) || is_none i.input)
+anew i h = ap (λ (b : Bool). not b && (not (is_none i.debugger) || is_none i.input)) h
 
-act_command : (s : ProgramState) (i : Inner) (c : Command) (l : Line) (n t : ℕ) → works_in s ≡ false → i.input ≡ None → command_of l ≡ c →
-    act_in s i (Some l) n (clock_for (asks_clock_in s i (Some l)) t) ≡ command_row c i n t
-act_command Dead i c l n t h none e = (λ j. line_row (none j) l i n (clock_for (is_none (none j) && true) t)) ∙ ap (λ (d : Command). command_row d i n t) e
-act_command Dormant i c l n t h none e = (λ j. line_row (none j) l i n (clock_for (is_none (none j) && true) t)) ∙ ap (λ (d : Command). command_row d i n t) e
-act_command Working i c l n t h none e = cc
+act_command : (s : ProgramState) (i : Inner) (c : Command) (l : Line) (n k t : ℕ) → works_in s ≡ false → i.debugger ≡ None → i.input ≡ None → command_of l ≡ c →
+    act_in s i (Some l) n k (clock_for (asks_clock_in s i (Some l)) t) ≡ command_row c i (record { line = l; fed = k }) n t
+act_command Dead i c l n k t h shut none e = (λ j. line_row (shut j) (none j) l i n k (clock_for ((is_none (shut j) && is_none (none j)) && true) t)) ∙ ap (λ (d : Command). command_row d i (record { line = l; fed = k }) n t) e
+act_command Dormant i c l n k t h shut none e = (λ j. line_row (shut j) (none j) l i n k (clock_for ((is_none (shut j) && is_none (none j)) && true) t)) ∙ ap (λ (d : Command). command_row d i (record { line = l; fed = k }) n t) e
+act_command Working i c l n k t h shut none e = cc
 
 since : (b : Bool) (own before : ℕ) → b ≡ true → suc own - (if b then own else before) ≡ 1
 since true own before h = first_step own
 since false own before h = cc
 
--- a command is one that counts anew
-counted : (p : User) → works_in p.inner.state ≡ false → p.inner.input ≡ None → counts_anew p.inner ≡ true
-counted p h none = anew p.inner h ∙ ap is_none none
+-- the line of a command, and the lines of command files behind it
+abbrev taken_at : Line → User → CommandLine
+taken_at l p = record { line = l; fed = p.fed - 1 }
 
-command_outcome : (t : ℕ) (p : User) (l : Line) (c : Command) → works_in p.inner.state ≡ false → p.inner.input ≡ None → slice_get p.unread 0 ≡ Some l → command_of l ≡ c →
-    act_in p.inner.state p.inner (line_of user_rows p) (suc p.own - own_at_command_of user_rows p) (clock_for (asks_clock_in p.inner.state p.inner (line_of user_rows p)) t) ≡ command_row c p.inner 1 t
-command_outcome t p l c h none is e =
-    ap (λ (line : Option Line). act_in p.inner.state p.inner line (suc p.own - own_at_command_of user_rows p) (clock_for (asks_clock_in p.inner.state p.inner line) t)) (line_in_command p.inner.state p l h is)
-    ∙ act_command p.inner.state p.inner c l (suc p.own - own_at_command_of user_rows p) t h none e
-    ∙ ap (λ (n : ℕ). command_row c p.inner n t) (since (counts_anew p.inner) p.own p.own_at_command (counted p h none))
+-- a command is one that counts anew
+pub counted : (p : User) → works_in p.inner.state ≡ false → p.inner.debugger ≡ None → p.inner.input ≡ None → counts_anew p.inner ≡ true
+counted p h shut none = anew p.inner h ∙ (λ j. not (is_none (shut j)) || is_none (none j))
+
+-- and so is a line of the debugger
+debug_counted : (p : User) (d : Stops) → works_in p.inner.state ≡ false → p.inner.debugger ≡ Some d → counts_anew p.inner ≡ true
+debug_counted p d h open_ = anew p.inner h ∙ (λ j. not (is_none (open_ j)) || is_none p.inner.input)
+
+command_outcome : (t : ℕ) (p : User) (l : Line) (c : Command) → works_in p.inner.state ≡ false → p.inner.debugger ≡ None → p.inner.input ≡ None → slice_get p.unread 0 ≡ Some l → command_of l ≡ c →
+    act_in p.inner.state p.inner (line_of user_rows p) (suc p.own - own_at_command_of user_rows p) (one_less (line_of user_rows p) p.fed) (clock_for (asks_clock_in p.inner.state p.inner (line_of user_rows p)) t) ≡ command_row c p.inner (taken_at l p) 1 t
+command_outcome t p l c h shut none is e =
+    ap (λ (line : Option Line). act_in p.inner.state p.inner line (suc p.own - own_at_command_of user_rows p) (one_less line p.fed) (clock_for (asks_clock_in p.inner.state p.inner line) t)) (line_in_command p.inner.state p l h is)
+    ∙ act_command p.inner.state p.inner c l (suc p.own - own_at_command_of user_rows p) (p.fed - 1) t h shut none e
+    ∙ ap (λ (n : ℕ). command_row c p.inner (taken_at l p) n t) (since (counts_anew p.inner) p.own p.own_at_command (counted p h shut none))
 
 -- the common operation that a line's step makes
-line_makes_in : (s : ProgramState) (i : Inner) (l : Line) → works_in s ≡ false → asks_common_in s i (Some l) ≡ line_asks i.input l i
+line_makes_in : (s : ProgramState) (i : Inner) (l : Line) → works_in s ≡ false → asks_common_in s i (Some l) ≡ line_asks i.debugger i.input l i
 line_makes_in Dead i l h = refl
 line_makes_in Dormant i l h = refl
 line_makes_in Working i l h = cc
 
-pub line_makes : (p : User) (l : Line) → works_in p.inner.state ≡ false → slice_get p.unread 0 ≡ Some l → asks_common p ≡ line_asks p.inner.input l p.inner
+pub line_makes : (p : User) (l : Line) → works_in p.inner.state ≡ false → slice_get p.unread 0 ≡ Some l → asks_common p ≡ line_asks p.inner.debugger p.inner.input l p.inner
 unfolding asks_common
 line_makes p l h is =
     ap (λ (line : Option Line). asks_common_in p.inner.state p.inner line) (line_in_command p.inner.state p l h is) ∙ line_makes_in p.inner.state p.inner l h
 
-pub command_makes : (p : User) (l : Line) (c : Command) → works_in p.inner.state ≡ false → p.inner.input ≡ None → slice_get p.unread 0 ≡ Some l → command_of l ≡ c → asks_common p ≡ command_asks c p.inner
-command_makes p l c h none is e =
-    line_makes p l h is ∙ ap (λ (name : Option NamePair). line_asks name l p.inner) none ∙ ap (λ (d : Command). command_asks d p.inner) e
+pub command_makes : (p : User) (l : Line) (c : Command) → works_in p.inner.state ≡ false → p.inner.debugger ≡ None → p.inner.input ≡ None → slice_get p.unread 0 ≡ Some l → command_of l ≡ c → asks_common p ≡ command_asks c p.inner
+command_makes p l c h shut none is e =
+    line_makes p l h is ∙ (λ j. line_asks (shut j) (none j) l p.inner) ∙ ap (λ (d : Command). command_asks d p.inner) e
 
-pub input_makes : (p : User) (l : Line) (name : NamePair) → works_in p.inner.state ≡ false → p.inner.input ≡ Some name → slice_get p.unread 0 ≡ Some l → asks_common p ≡ None
-input_makes p l name h some is = line_makes p l h is ∙ ap (λ (name : Option NamePair). line_asks name l p.inner) some
+pub input_makes : (p : User) (l : Line) (name : NamePair) → works_in p.inner.state ≡ false → p.inner.debugger ≡ None → p.inner.input ≡ Some name → slice_get p.unread 0 ≡ Some l → asks_common p ≡ None
+input_makes p l name h shut some is = line_makes p l h is ∙ (λ j. line_asks (shut j) (some j) l p.inner)
+
+-- a line of the debugger makes none
+pub debug_makes : (p : User) (l : Line) (d : Stops) → works_in p.inner.state ≡ false → p.inner.debugger ≡ Some d → slice_get p.unread 0 ≡ Some l → asks_common p ≡ None
+debug_makes p l d h open_ is = line_makes p l h is ∙ (λ j. line_asks (open_ j) p.inner.input l p.inner)
 
 -- a command's step
-pub command_left : (t : ℕ) (p : User) (l : Line) (c : Command) → works_in p.inner.state ≡ false → p.inner.input ≡ None → slice_get p.unread 0 ≡ Some l → p.fed ≡ 0 → command_of l ≡ c → command_asks c p.inner ≡ None →
-    step t Done p ≡ left true (Some l) (command_row c p.inner 1 t) p
-command_left t p l c h input is none e alone =
-    alone_left t p (command_makes p l c h input is e ∙ alone)
-    ∙ ap (done user_rows p) (command_outcome t p l c h input is e)
-    ∙ frame p (Some l) (command_row c p.inner 1 t) (line_in_command p.inner.state p l h is) (command_front c p.inner 1 t) none
-    ∙ ap (λ (b : Bool). left b (Some l) (command_row c p.inner 1 t) p) (counted p h input)
+pub command_left : (t : ℕ) (p : User) (l : Line) (c : Command) → works_in p.inner.state ≡ false → p.inner.debugger ≡ None → p.inner.input ≡ None → slice_get p.unread 0 ≡ Some l → command_of l ≡ c → command_asks c p.inner ≡ None →
+    step t Done p ≡ left true (Some l) (command_row c p.inner (taken_at l p) 1 t) p
+command_left t p l c h shut input is e alone =
+    alone_left t p (command_makes p l c h shut input is e ∙ alone)
+    ∙ ap (done user_rows p) (command_outcome t p l c h shut input is e)
+    ∙ frame p (Some l) (command_row c p.inner (taken_at l p) 1 t) (line_in_command p.inner.state p l h is)
+    ∙ ap (λ (b : Bool). left b (Some l) (command_row c p.inner (taken_at l p) 1 t) p) (counted p h shut input)
 
-pub command_ends : (t : ℕ) (p : User) (l : Line) (c : Command) → works_in p.inner.state ≡ false → p.inner.input ≡ None → slice_get p.unread 0 ≡ Some l → command_of l ≡ c → command_asks c p.inner ≡ None →
-    ending t Done p ≡ (command_row c p.inner 1 t).ending
-command_ends t p l c h none is e alone = alone_ends t p (command_makes p l c h none is e ∙ alone) ∙ ap (λ (o : Outcome Inner). o.ending) (command_outcome t p l c h none is e)
+pub command_ends : (t : ℕ) (p : User) (l : Line) (c : Command) → works_in p.inner.state ≡ false → p.inner.debugger ≡ None → p.inner.input ≡ None → slice_get p.unread 0 ≡ Some l → command_of l ≡ c → command_asks c p.inner ≡ None →
+    ending t Done p ≡ (command_row c p.inner (taken_at l p) 1 t).ending
+command_ends t p l c h shut none is e alone = alone_ends t p (command_makes p l c h shut none is e ∙ alone) ∙ ap (λ (o : Outcome Inner). o.ending) (command_outcome t p l c h shut none is e)
 
-asks_in : (s : ProgramState) (i : Inner) (l : Line) → works_in s ≡ false → asks_clock_in s i (Some l) ≡ is_none i.input
-asks_in Dead i l h = or_true (is_none i.input)
-asks_in Dormant i l h = or_true (is_none i.input)
+asks_in : (s : ProgramState) (i : Inner) (l : Line) → works_in s ≡ false → asks_clock_in s i (Some l) ≡ takes_command i
+asks_in Dead i l h = or_true (takes_command i)
+asks_in Dormant i l h = or_true (takes_command i)
 asks_in Working i l h = cc
 
-line_clock : (p : User) (l : Line) → works_in p.inner.state ≡ false → slice_get p.unread 0 ≡ Some l → asks_clock p ≡ is_none p.inner.input
+line_clock : (p : User) (l : Line) → works_in p.inner.state ≡ false → slice_get p.unread 0 ≡ Some l → asks_clock p ≡ takes_command p.inner
 unfolding asks_clock
 line_clock p l h is =
     ap (λ (line : Option Line). asks_clock_in p.inner.state p.inner line) (line_in_command p.inner.state p l h is) ∙ asks_in p.inner.state p.inner l h
 
-pub command_clock : (p : User) (l : Line) → works_in p.inner.state ≡ false → p.inner.input ≡ None → slice_get p.unread 0 ≡ Some l → asks_clock p ≡ true
-command_clock p l h none is = line_clock p l h is ∙ ap is_none none
+pub command_clock : (p : User) (l : Line) → works_in p.inner.state ≡ false → p.inner.debugger ≡ None → p.inner.input ≡ None → slice_get p.unread 0 ≡ Some l → asks_clock p ≡ true
+command_clock p l h shut none is = line_clock p l h is ∙ (λ j. is_none (shut j) && is_none (none j))
 
 -- a line of INPUT
 
-act_input : (s : ProgramState) (i : Inner) (name : NamePair) (l : Line) (n t : ℕ) → works_in s ≡ false → i.input ≡ Some name →
-    act_in s i (Some l) n t ≡ input_row name l i n
-act_input Dead i name l n t h some = λ j. line_row (some j) l i n t
-act_input Dormant i name l n t h some = λ j. line_row (some j) l i n t
-act_input Working i name l n t h some = cc
+act_input : (s : ProgramState) (i : Inner) (name : NamePair) (l : Line) (n k t : ℕ) → works_in s ≡ false → i.debugger ≡ None → i.input ≡ Some name →
+    act_in s i (Some l) n k t ≡ input_row name l i n
+act_input Dead i name l n k t h shut some = λ j. line_row (shut j) (some j) l i n k t
+act_input Dormant i name l n k t h shut some = λ j. line_row (shut j) (some j) l i n k t
+act_input Working i name l n k t h shut some = cc
 
-typed_on : (p : User) (name : NamePair) → works_in p.inner.state ≡ false → p.inner.input ≡ Some name → counts_anew p.inner ≡ false
-typed_on p name h some = anew p.inner h ∙ ap is_none some
+typed_on : (p : User) (name : NamePair) → works_in p.inner.state ≡ false → p.inner.debugger ≡ None → p.inner.input ≡ Some name → counts_anew p.inner ≡ false
+typed_on p name h shut some = anew p.inner h ∙ (λ j. not (is_none (shut j)) || is_none (some j))
 
-input_outcome : (t : ℕ) (p : User) (l : Line) (name : NamePair) → works_in p.inner.state ≡ false → p.inner.input ≡ Some name → slice_get p.unread 0 ≡ Some l →
-    act_in p.inner.state p.inner (line_of user_rows p) (suc p.own - own_at_command_of user_rows p) t ≡ input_row name l p.inner (suc p.own - p.own_at_command)
-input_outcome t p l name h some is =
-    ap (λ (line : Option Line). act_in p.inner.state p.inner line (suc p.own - own_at_command_of user_rows p) t) (line_in_command p.inner.state p l h is)
-    ∙ act_input p.inner.state p.inner name l (suc p.own - own_at_command_of user_rows p) t h some
-    ∙ ap (λ (n : ℕ). input_row name l p.inner n) (since_before (counts_anew p.inner) p.own p.own_at_command (typed_on p name h some))
+input_outcome : (t : ℕ) (p : User) (l : Line) (name : NamePair) → works_in p.inner.state ≡ false → p.inner.debugger ≡ None → p.inner.input ≡ Some name → slice_get p.unread 0 ≡ Some l →
+    act_in p.inner.state p.inner (line_of user_rows p) (suc p.own - own_at_command_of user_rows p) (one_less (line_of user_rows p) p.fed) t ≡ input_row name l p.inner (suc p.own - p.own_at_command)
+input_outcome t p l name h shut some is =
+    ap (λ (line : Option Line). act_in p.inner.state p.inner line (suc p.own - own_at_command_of user_rows p) (one_less line p.fed) t) (line_in_command p.inner.state p l h is)
+    ∙ act_input p.inner.state p.inner name l (suc p.own - own_at_command_of user_rows p) (p.fed - 1) t h shut some
+    ∙ ap (λ (n : ℕ). input_row name l p.inner n) (since_before (counts_anew p.inner) p.own p.own_at_command (typed_on p name h shut some))
 
-pub input_left : (t : ℕ) (p : User) (l : Line) (name : NamePair) → works_in p.inner.state ≡ false → p.inner.input ≡ Some name → slice_get p.unread 0 ≡ Some l → p.fed ≡ 0 →
+pub input_left : (t : ℕ) (p : User) (l : Line) (name : NamePair) → works_in p.inner.state ≡ false → p.inner.debugger ≡ None → p.inner.input ≡ Some name → slice_get p.unread 0 ≡ Some l →
     step t Done p ≡ left false (Some l) (input_row name l p.inner (suc p.own - p.own_at_command)) p
-input_left t p l name h some is none =
-    alone_left t p (input_makes p l name h some is)
-    ∙ ap (done user_rows p) (input_outcome (clock_for (asks_clock_in p.inner.state p.inner (line_of user_rows p)) t) p l name h some is)
-    ∙ frame p (Some l) (input_row name l p.inner (suc p.own - p.own_at_command)) (line_in_command p.inner.state p l h is) (input_front name l p.inner (suc p.own - p.own_at_command)) none
-    ∙ ap (λ (b : Bool). left b (Some l) (input_row name l p.inner (suc p.own - p.own_at_command)) p) (typed_on p name h some)
+input_left t p l name h shut some is =
+    alone_left t p (input_makes p l name h shut some is)
+    ∙ ap (done user_rows p) (input_outcome (clock_for (asks_clock_in p.inner.state p.inner (line_of user_rows p)) t) p l name h shut some is)
+    ∙ frame p (Some l) (input_row name l p.inner (suc p.own - p.own_at_command)) (line_in_command p.inner.state p l h is)
+    ∙ ap (λ (b : Bool). left b (Some l) (input_row name l p.inner (suc p.own - p.own_at_command)) p) (typed_on p name h shut some)
 
-pub input_ends : (t : ℕ) (p : User) (l : Line) (name : NamePair) → works_in p.inner.state ≡ false → p.inner.input ≡ Some name → slice_get p.unread 0 ≡ Some l →
+pub input_ends : (t : ℕ) (p : User) (l : Line) (name : NamePair) → works_in p.inner.state ≡ false → p.inner.debugger ≡ None → p.inner.input ≡ Some name → slice_get p.unread 0 ≡ Some l →
     ending t Done p ≡ (input_row name l p.inner (suc p.own - p.own_at_command)).ending
-input_ends t p l name h some is =
-    alone_ends t p (input_makes p l name h some is)
-    ∙ ap (λ (o : Outcome Inner). o.ending) (input_outcome (clock_for (asks_clock_in p.inner.state p.inner (line_of user_rows p)) t) p l name h some is)
+input_ends t p l name h shut some is =
+    alone_ends t p (input_makes p l name h shut some is)
+    ∙ ap (λ (o : Outcome Inner). o.ending) (input_outcome (clock_for (asks_clock_in p.inner.state p.inner (line_of user_rows p)) t) p l name h shut some is)
 
 pub input_asks : (p : User) (l : Line) (name : NamePair) → works_in p.inner.state ≡ false → p.inner.input ≡ Some name → slice_get p.unread 0 ≡ Some l → asks_clock p ≡ false
-input_asks p l name h some is = line_clock p l h is ∙ ap is_none some
+input_asks p l name h some is = line_clock p l h is ∙ ap (λ (o : Option NamePair). is_none p.inner.debugger && is_none o) some ∙ and_none (is_none p.inner.debugger)
+
+-- a line of the debugger
+
+act_debug : (s : ProgramState) (i : Inner) (d : Stops) (l : Line) (n k t : ℕ) → works_in s ≡ false → i.debugger ≡ Some d →
+    act_in s i (Some l) n k t ≡ debug_row d (debug_of l) i n
+act_debug Dead i d l n k t h open_ = λ j. line_row (open_ j) i.input l i n k t
+act_debug Dormant i d l n k t h open_ = λ j. line_row (open_ j) i.input l i n k t
+act_debug Working i d l n k t h open_ = cc
+
+debug_outcome : (t : ℕ) (p : User) (l : Line) (d : Stops) → works_in p.inner.state ≡ false → p.inner.debugger ≡ Some d → slice_get p.unread 0 ≡ Some l →
+    act_in p.inner.state p.inner (line_of user_rows p) (suc p.own - own_at_command_of user_rows p) (one_less (line_of user_rows p) p.fed) t ≡ debug_row d (debug_of l) p.inner 1
+debug_outcome t p l d h open_ is =
+    ap (λ (line : Option Line). act_in p.inner.state p.inner line (suc p.own - own_at_command_of user_rows p) (one_less line p.fed) t) (line_in_command p.inner.state p l h is)
+    ∙ act_debug p.inner.state p.inner d l (suc p.own - own_at_command_of user_rows p) (p.fed - 1) t h open_
+    ∙ ap (λ (n : ℕ). debug_row d (debug_of l) p.inner n) (since (counts_anew p.inner) p.own p.own_at_command (debug_counted p d h open_))
+
+pub debug_left : (t : ℕ) (p : User) (l : Line) (d : Stops) → works_in p.inner.state ≡ false → p.inner.debugger ≡ Some d → slice_get p.unread 0 ≡ Some l →
+    step t Done p ≡ left true (Some l) (debug_row d (debug_of l) p.inner 1) p
+debug_left t p l d h open_ is =
+    alone_left t p (debug_makes p l d h open_ is)
+    ∙ ap (done user_rows p) (debug_outcome (clock_for (asks_clock_in p.inner.state p.inner (line_of user_rows p)) t) p l d h open_ is)
+    ∙ frame p (Some l) (debug_row d (debug_of l) p.inner 1) (line_in_command p.inner.state p l h is)
+    ∙ ap (λ (b : Bool). left b (Some l) (debug_row d (debug_of l) p.inner 1) p) (debug_counted p d h open_)
+
+pub debug_ends : (t : ℕ) (p : User) (l : Line) (d : Stops) → works_in p.inner.state ≡ false → p.inner.debugger ≡ Some d → slice_get p.unread 0 ≡ Some l →
+    ending t Done p ≡ (debug_row d (debug_of l) p.inner 1).ending
+debug_ends t p l d h open_ is =
+    alone_ends t p (debug_makes p l d h open_ is)
+    ∙ ap (λ (o : Outcome Inner). o.ending) (debug_outcome (clock_for (asks_clock_in p.inner.state p.inner (line_of user_rows p)) t) p l d h open_ is)
+
+pub debug_asks : (p : User) (l : Line) (d : Stops) → works_in p.inner.state ≡ false → p.inner.debugger ≡ Some d → slice_get p.unread 0 ≡ Some l → asks_clock p ≡ false
+debug_asks p l d h open_ is = line_clock p l h is ∙ ap (λ (o : Option Stops). is_none o && is_none p.inner.input) open_
 
 takes_in : (s : ProgramState) (i : Inner) → works_in s ≡ false → takes_line_in s i ≡ true
 takes_in Dead i h = refl
@@ -426,11 +305,11 @@ command_can p h = ap (λ (b : Bool). p.on && (not b || some_line p.unread)) (tak
 
 -- programs
 
-act_program : (s : ProgramState) (i : Inner) (line : Option Line) (n t : ℕ) → works_in s ≡ true →
-    act_in s i line n (clock_for (asks_clock_in s i line) t) ≡ program_row i.fill i line n t
-act_program Dead i line n t h = cc
-act_program Dormant i line n t h = cc
-act_program Working i line n t h = program_clock i.fill i line n t
+act_program : (s : ProgramState) (i : Inner) (line : Option Line) (n k t : ℕ) → works_in s ≡ true →
+    act_in s i line n k (clock_for (asks_clock_in s i line) t) ≡ program_row i.fill i line n t
+act_program Dead i line n k t h = cc
+act_program Dormant i line n k t h = cc
+act_program Working i line n k t h = program_clock i.fill i line n t
 
 takes_program : (s : ProgramState) (i : Inner) → works_in s ≡ true → takes_line_in s i ≡ program_reads i.fill i
 takes_program Dead i h = cc
@@ -451,13 +330,13 @@ line_in_program p h = ap (λ (b : Bool). first_line b p.unread) (takes_program p
 
 -- a program's step is no command
 not_anew : (p : User) → works_in p.inner.state ≡ true → counts_anew p.inner ≡ false
-not_anew p h = ap (λ (b : Bool). not b && is_none p.inner.input) h
+not_anew p h = ap (λ (b : Bool). not b && (not (is_none p.inner.debugger) || is_none p.inner.input)) h
 
 program_outcome : (t : ℕ) (p : User) → works_in p.inner.state ≡ true →
-    act_in p.inner.state p.inner (line_of user_rows p) (suc p.own - own_at_command_of user_rows p) (clock_for (asks_clock_in p.inner.state p.inner (line_of user_rows p)) t)
+    act_in p.inner.state p.inner (line_of user_rows p) (suc p.own - own_at_command_of user_rows p) (one_less (line_of user_rows p) p.fed) (clock_for (asks_clock_in p.inner.state p.inner (line_of user_rows p)) t)
     ≡ program_row p.inner.fill p.inner (program_line p) (suc p.own - p.own_at_command) t
 program_outcome t p h =
-    act_program p.inner.state p.inner (line_of user_rows p) (suc p.own - own_at_command_of user_rows p) t h
+    act_program p.inner.state p.inner (line_of user_rows p) (suc p.own - own_at_command_of user_rows p) (one_less (line_of user_rows p) p.fed) t h
     ∙ ap (λ (line : Option Line). program_row p.inner.fill p.inner line (suc p.own - own_at_command_of user_rows p) t) (line_in_program p h)
     ∙ ap (λ (n : ℕ). program_row p.inner.fill p.inner (program_line p) n t) (since_before (counts_anew p.inner) p.own p.own_at_command (not_anew p h))
 
@@ -470,12 +349,12 @@ pub program_makes : (p : User) → works_in p.inner.state ≡ true → asks_comm
 unfolding asks_common
 program_makes p h = program_makes_in p.inner.state p.inner (line_of user_rows p) h
 
-program_step : (t : ℕ) (p : User) → works_in p.inner.state ≡ true → p.fed ≡ 0 → program_asks_common p.inner.fill p.inner ≡ None →
+program_step : (t : ℕ) (p : User) → works_in p.inner.state ≡ true → program_asks_common p.inner.fill p.inner ≡ None →
     step t Done p ≡ left false (program_line p) (program_row p.inner.fill p.inner (program_line p) (suc p.own - p.own_at_command) t) p
-program_step t p h none alone =
+program_step t p h alone =
     alone_left t p (program_makes p h ∙ alone)
     ∙ ap (done user_rows p) (program_outcome t p h)
-    ∙ frame p (program_line p) (program_row p.inner.fill p.inner (program_line p) (suc p.own - p.own_at_command) t) (line_in_program p h) (program_front p.inner.fill p.inner (program_line p) (suc p.own - p.own_at_command) t) none
+    ∙ frame p (program_line p) (program_row p.inner.fill p.inner (program_line p) (suc p.own - p.own_at_command) t) (line_in_program p h)
     ∙ ap (λ (b : Bool). left b (program_line p) (program_row p.inner.fill p.inner (program_line p) (suc p.own - p.own_at_command) t) p) (not_anew p h)
 
 program_ends : (t : ℕ) (p : User) → works_in p.inner.state ≡ true → program_asks_common p.inner.fill p.inner ≡ None →
@@ -498,10 +377,10 @@ fill_alone p f is = ap (λ (fill : Option Fill). program_asks_common fill p.inne
 pub fill_makes : (p : User) (f : Fill) → works_in p.inner.state ≡ true → p.inner.fill ≡ Some f → asks_common p ≡ None
 fill_makes p f h is = program_makes p h ∙ fill_alone p f is
 
-pub fill_left : (t : ℕ) (p : User) (f : Fill) → works_in p.inner.state ≡ true → p.inner.fill ≡ Some f → p.fed ≡ 0 →
+pub fill_left : (t : ℕ) (p : User) (f : Fill) → works_in p.inner.state ≡ true → p.inner.fill ≡ Some f →
     step t Done p ≡ left false None (goes (filled_program f p.inner)) p
-fill_left t p f h is none =
-    program_step t p h none (fill_alone p f is)
+fill_left t p f h is =
+    program_step t p h (fill_alone p f is)
     ∙ ap (λ (fill : Option Fill). left false (first_line (program_reads fill p.inner) p.unread) (program_row fill p.inner (first_line (program_reads fill p.inner) p.unread) (suc p.own - p.own_at_command) t) p) is
 
 pub fill_ends : (t : ℕ) (p : User) (f : Fill) → works_in p.inner.state ≡ true → p.inner.fill ≡ Some f → ending t Done p ≡ Went
@@ -516,42 +395,80 @@ pub fill_can : (p : User) (f : Fill) → works_in p.inner.state ≡ true → p.i
 fill_can p f h is =
     program_can p h ∙ ap (λ (fill : Option Fill). p.on && (not (program_reads fill p.inner) || some_line p.unread)) is ∙ or_true p.on
 
--- a program that runs, by what its machine's step gives
+-- a program that runs, by whether it is at a breakpoint and what its machine's step gives
 
 -- the line that it takes
 abbrev line_at : Step → User → Option Line
 line_at s p = first_line (reads_line s p.inner) p.unread
 
-run_asks_in : (p : User) (s : Step) → p.inner.fill ≡ None → step_of p.inner.regs p.inner.core ≡ s → program_asks_common p.inner.fill p.inner ≡ step_asks s p.inner
-run_asks_in p s is e = ap (λ (fill : Option Fill). program_asks_common fill p.inner) is ∙ ap (λ (u : Step). step_asks u p.inner) e
+run_asks_in : (p : User) (b : Bool) (s : Step) → p.inner.fill ≡ None → at_break p.inner ≡ b → step_of p.inner.regs p.inner.core ≡ s → program_asks_common p.inner.fill p.inner ≡ (if b then None else step_asks s p.inner)
+run_asks_in p b s is at e = ap (λ (fill : Option Fill). program_asks_common fill p.inner) is ∙ (λ j. if at j then None else step_asks (e j) p.inner)
 
-pub run_makes : (p : User) (s : Step) → works_in p.inner.state ≡ true → p.inner.fill ≡ None → step_of p.inner.regs p.inner.core ≡ s → asks_common p ≡ step_asks s p.inner
-run_makes p s h is e = program_makes p h ∙ run_asks_in p s is e
+run_makes_in : (p : User) (b : Bool) (s : Step) → works_in p.inner.state ≡ true → p.inner.fill ≡ None → at_break p.inner ≡ b → step_of p.inner.regs p.inner.core ≡ s → asks_common p ≡ (if b then None else step_asks s p.inner)
+run_makes_in p b s h is at e = program_makes p h ∙ run_asks_in p b s is at e
 
-pub run_left : (t : ℕ) (p : User) (s : Step) → works_in p.inner.state ≡ true → p.inner.fill ≡ None → step_of p.inner.regs p.inner.core ≡ s → p.fed ≡ 0 → step_asks s p.inner ≡ None →
-    step t Done p ≡ left false (first_line (reads_line s p.inner) p.unread) (step_row s p.inner (first_line (reads_line s p.inner) p.unread) (suc p.own - p.own_at_command) t) p
-run_left t p s h is e none alone =
-    program_step t p h none (run_asks_in p s is e ∙ alone)
+run_left_in : (t : ℕ) (p : User) (b : Bool) (s : Step) → works_in p.inner.state ≡ true → p.inner.fill ≡ None → at_break p.inner ≡ b → step_of p.inner.regs p.inner.core ≡ s → (if b then None else step_asks s p.inner) ≡ None →
+    step t Done p ≡ left false (first_line (not b && reads_line s p.inner) p.unread) (run_row b s p.inner (first_line (not b && reads_line s p.inner) p.unread) (suc p.own - p.own_at_command) t) p
+run_left_in t p b s h is at e alone =
+    program_step t p h (run_asks_in p b s is at e ∙ alone)
     ∙ ap (λ (fill : Option Fill). left false (first_line (program_reads fill p.inner) p.unread) (program_row fill p.inner (first_line (program_reads fill p.inner) p.unread) (suc p.own - p.own_at_command) t) p) is
-    ∙ ap (λ (u : Step). left false (line_at u p) (step_row u p.inner (line_at u p) (suc p.own - p.own_at_command) t) p) e
+    ∙ (λ j. left false (first_line (not (at j) && reads_line (e j) p.inner) p.unread) (run_row (at j) (e j) p.inner (first_line (not (at j) && reads_line (e j) p.inner) p.unread) (suc p.own - p.own_at_command) t) p)
 
-pub run_ends : (t : ℕ) (p : User) (s : Step) → works_in p.inner.state ≡ true → p.inner.fill ≡ None → step_of p.inner.regs p.inner.core ≡ s → step_asks s p.inner ≡ None →
-    ending t Done p ≡ (step_row s p.inner (first_line (reads_line s p.inner) p.unread) (suc p.own - p.own_at_command) t).ending
-run_ends t p s h is e alone =
-    program_ends t p h (run_asks_in p s is e ∙ alone)
+run_ends_in : (t : ℕ) (p : User) (b : Bool) (s : Step) → works_in p.inner.state ≡ true → p.inner.fill ≡ None → at_break p.inner ≡ b → step_of p.inner.regs p.inner.core ≡ s → (if b then None else step_asks s p.inner) ≡ None →
+    ending t Done p ≡ (run_row b s p.inner (first_line (not b && reads_line s p.inner) p.unread) (suc p.own - p.own_at_command) t).ending
+run_ends_in t p b s h is at e alone =
+    program_ends t p h (run_asks_in p b s is at e ∙ alone)
     ∙ ap (λ (fill : Option Fill). (program_row fill p.inner (first_line (program_reads fill p.inner) p.unread) (suc p.own - p.own_at_command) t).ending) is
-    ∙ ap (λ (u : Step). (step_row u p.inner (line_at u p) (suc p.own - p.own_at_command) t).ending) e
+    ∙ (λ j. (run_row (at j) (e j) p.inner (first_line (not (at j) && reads_line (e j) p.inner) p.unread) (suc p.own - p.own_at_command) t).ending)
 
-pub run_asks : (p : User) (s : Step) → works_in p.inner.state ≡ true → p.inner.fill ≡ None → step_of p.inner.regs p.inner.core ≡ s → asks_clock p ≡ asks_time s p.inner
-run_asks p s h is e =
-    program_asks_clock p h ∙ ap (λ (fill : Option Fill). program_asks fill p.inner) is ∙ ap (λ (u : Step). asks_time u p.inner) e
+run_clock_in : (p : User) (b : Bool) (s : Step) → works_in p.inner.state ≡ true → p.inner.fill ≡ None → at_break p.inner ≡ b → step_of p.inner.regs p.inner.core ≡ s → asks_clock p ≡ (not b && asks_time s p.inner)
+run_clock_in p b s h is at e =
+    program_asks_clock p h ∙ ap (λ (fill : Option Fill). program_asks fill p.inner) is ∙ (λ j. not (at j) && asks_time (e j) p.inner)
 
-pub run_can : (p : User) (s : Step) → works_in p.inner.state ≡ true → p.inner.fill ≡ None → step_of p.inner.regs p.inner.core ≡ s →
-    can_step p ≡ (p.on && (not (reads_line s p.inner) || some_line p.unread))
-run_can p s h is e =
+run_can_in : (p : User) (b : Bool) (s : Step) → works_in p.inner.state ≡ true → p.inner.fill ≡ None → at_break p.inner ≡ b → step_of p.inner.regs p.inner.core ≡ s →
+    can_step p ≡ (p.on && (not (not b && reads_line s p.inner) || some_line p.unread))
+run_can_in p b s h is at e =
     program_can p h
     ∙ ap (λ (fill : Option Fill). p.on && (not (program_reads fill p.inner) || some_line p.unread)) is
-    ∙ ap (λ (u : Step). p.on && (not (reads_line u p.inner) || some_line p.unread)) e
+    ∙ (λ j. p.on && (not (not (at j) && reads_line (e j) p.inner) || some_line p.unread))
+
+-- of one that isn't
+
+pub run_makes : (p : User) (s : Step) → works_in p.inner.state ≡ true → p.inner.fill ≡ None → at_break p.inner ≡ false → step_of p.inner.regs p.inner.core ≡ s → asks_common p ≡ step_asks s p.inner
+run_makes p s h is at e = run_makes_in p false s h is at e
+
+pub run_left : (t : ℕ) (p : User) (s : Step) → works_in p.inner.state ≡ true → p.inner.fill ≡ None → at_break p.inner ≡ false → step_of p.inner.regs p.inner.core ≡ s → step_asks s p.inner ≡ None →
+    step t Done p ≡ left false (first_line (reads_line s p.inner) p.unread) (with_step (step_row s p.inner (first_line (reads_line s p.inner) p.unread) (suc p.own - p.own_at_command) t)) p
+run_left t p s h is at e alone = run_left_in t p false s h is at e alone
+
+pub run_ends : (t : ℕ) (p : User) (s : Step) → works_in p.inner.state ≡ true → p.inner.fill ≡ None → at_break p.inner ≡ false → step_of p.inner.regs p.inner.core ≡ s → step_asks s p.inner ≡ None →
+    ending t Done p ≡ (step_row s p.inner (first_line (reads_line s p.inner) p.unread) (suc p.own - p.own_at_command) t).ending
+run_ends t p s h is at e alone = run_ends_in t p false s h is at e alone
+
+pub run_asks : (p : User) (s : Step) → works_in p.inner.state ≡ true → p.inner.fill ≡ None → at_break p.inner ≡ false → step_of p.inner.regs p.inner.core ≡ s → asks_clock p ≡ asks_time s p.inner
+run_asks p s h is at e = run_clock_in p false s h is at e
+
+pub run_can : (p : User) (s : Step) → works_in p.inner.state ≡ true → p.inner.fill ≡ None → at_break p.inner ≡ false → step_of p.inner.regs p.inner.core ≡ s →
+    can_step p ≡ (p.on && (not (reads_line s p.inner) || some_line p.unread))
+run_can p s h is at e = run_can_in p false s h is at e
+
+-- of one that is
+
+pub break_makes : (p : User) → works_in p.inner.state ≡ true → p.inner.fill ≡ None → at_break p.inner ≡ true → asks_common p ≡ None
+break_makes p h is at = run_makes_in p true _ h is at refl
+
+pub break_left : (t : ℕ) (p : User) → works_in p.inner.state ≡ true → p.inner.fill ≡ None → at_break p.inner ≡ true →
+    step t Done p ≡ left false None (breaks p.inner (suc p.own - p.own_at_command)) p
+break_left t p h is at = run_left_in t p true _ h is at refl refl
+
+pub break_ends : (t : ℕ) (p : User) → works_in p.inner.state ≡ true → p.inner.fill ≡ None → at_break p.inner ≡ true → ending t Done p ≡ Stopped
+break_ends t p h is at = run_ends_in t p true _ h is at refl refl
+
+pub break_asks : (p : User) → works_in p.inner.state ≡ true → p.inner.fill ≡ None → at_break p.inner ≡ true → asks_clock p ≡ false
+break_asks p h is at = run_clock_in p true _ h is at refl
+
+pub break_can : (p : User) → works_in p.inner.state ≡ true → p.inner.fill ≡ None → at_break p.inner ≡ true → can_step p ≡ p.on
+break_can p h is at = run_can_in p true _ h is at refl ∙ or_true p.on
 
 -- steps with a reply
 
@@ -562,25 +479,25 @@ replied_line Dead i c l n t r h e clock = (λ j. command_replied (e j) i n (cloc
 replied_line Dormant i c l n t r h e clock = (λ j. command_replied (e j) i n (clock_for (clock j) t) r)
 replied_line Working i c l n t r h e clock = cc
 
-command_taken : (t : ℕ) (r : Reply) (p : User) (l : Line) (c : Command) → works_in p.inner.state ≡ false → p.inner.input ≡ None → slice_get p.unread 0 ≡ Some l → command_of l ≡ c →
+command_taken : (t : ℕ) (r : Reply) (p : User) (l : Line) (c : Command) → works_in p.inner.state ≡ false → p.inner.debugger ≡ None → p.inner.input ≡ None → slice_get p.unread 0 ≡ Some l → command_of l ≡ c →
     replied_in p.inner.state p.inner (line_of user_rows p) (suc p.own - own_at_command_of user_rows p) (clock_for (asks_clock_in p.inner.state p.inner (line_of user_rows p)) t) r ≡ command_replied c p.inner 1 t r
-command_taken t r p l c h none is e =
+command_taken t r p l c h shut none is e =
     ap (λ (line : Option Line). replied_in p.inner.state p.inner line (suc p.own - own_at_command_of user_rows p) (clock_for (asks_clock_in p.inner.state p.inner line) t) r) (line_in_command p.inner.state p l h is)
-    ∙ replied_line p.inner.state p.inner c l (suc p.own - own_at_command_of user_rows p) t r h e (asks_in p.inner.state p.inner l h ∙ ap is_none none)
-    ∙ ap (λ (n : ℕ). command_replied c p.inner n t r) (since (counts_anew p.inner) p.own p.own_at_command (counted p h none))
+    ∙ replied_line p.inner.state p.inner c l (suc p.own - own_at_command_of user_rows p) t r h e (asks_in p.inner.state p.inner l h ∙ (λ j. is_none (shut j) && is_none (none j)))
+    ∙ ap (λ (n : ℕ). command_replied c p.inner n t r) (since (counts_anew p.inner) p.own p.own_at_command (counted p h shut none))
 
-pub command_replied_left : (t : ℕ) (r : Reply) (p : User) (l : Line) (c : Command) (op : CommonOp) → works_in p.inner.state ≡ false → p.inner.input ≡ None → slice_get p.unread 0 ≡ Some l → p.fed ≡ 0 → command_of l ≡ c → command_asks c p.inner ≡ Some op →
+pub command_replied_left : (t : ℕ) (r : Reply) (p : User) (l : Line) (c : Command) (op : CommonOp) → works_in p.inner.state ≡ false → p.inner.debugger ≡ None → p.inner.input ≡ None → slice_get p.unread 0 ≡ Some l → command_of l ≡ c → command_asks c p.inner ≡ Some op →
     step t r p ≡ left true (Some l) (command_replied c p.inner 1 t r) p
-command_replied_left t r p l c op h input is none e makes =
-    replied_left t r p op (command_makes p l c h input is e ∙ makes)
-    ∙ ap (done user_rows p) (command_taken t r p l c h input is e)
-    ∙ frame p (Some l) (command_replied c p.inner 1 t r) (line_in_command p.inner.state p l h is) (command_replied_front c p.inner 1 t r) none
-    ∙ ap (λ (b : Bool). left b (Some l) (command_replied c p.inner 1 t r) p) (counted p h input)
+command_replied_left t r p l c op h shut input is e makes =
+    replied_left t r p op (command_makes p l c h shut input is e ∙ makes)
+    ∙ ap (done user_rows p) (command_taken t r p l c h shut input is e)
+    ∙ frame p (Some l) (command_replied c p.inner 1 t r) (line_in_command p.inner.state p l h is)
+    ∙ ap (λ (b : Bool). left b (Some l) (command_replied c p.inner 1 t r) p) (counted p h shut input)
 
-pub command_replied_ends : (t : ℕ) (r : Reply) (p : User) (l : Line) (c : Command) (op : CommonOp) → works_in p.inner.state ≡ false → p.inner.input ≡ None → slice_get p.unread 0 ≡ Some l → command_of l ≡ c → command_asks c p.inner ≡ Some op →
+pub command_replied_ends : (t : ℕ) (r : Reply) (p : User) (l : Line) (c : Command) (op : CommonOp) → works_in p.inner.state ≡ false → p.inner.debugger ≡ None → p.inner.input ≡ None → slice_get p.unread 0 ≡ Some l → command_of l ≡ c → command_asks c p.inner ≡ Some op →
     ending t r p ≡ (command_replied c p.inner 1 t r).ending
-command_replied_ends t r p l c op h none is e makes =
-    replied_ends t r p op (command_makes p l c h none is e ∙ makes) ∙ ap (λ (o : Outcome Inner). o.ending) (command_taken t r p l c h none is e)
+command_replied_ends t r p l c op h shut none is e makes =
+    replied_ends t r p op (command_makes p l c h shut none is e ∙ makes) ∙ ap (λ (o : Outcome Inner). o.ending) (command_taken t r p l c h shut none is e)
 
 -- of a program
 
@@ -590,17 +507,10 @@ replied_program Dormant i line n t r h = cc
 replied_program Working i line n t r h = refl
 
 entry_taken : (t : ℕ) (r : Reply) (p : User) (s : Step) → works_in p.inner.state ≡ true → p.inner.fill ≡ None → step_of p.inner.regs p.inner.core ≡ s →
-    replied_in p.inner.state p.inner (line_of user_rows p) (suc p.own - own_at_command_of user_rows p) t r ≡ step_replied s p.inner r
+    replied_in p.inner.state p.inner (line_of user_rows p) (suc p.own - own_at_command_of user_rows p) t r ≡ with_step (step_replied s p.inner r)
 entry_taken t r p s h is e =
     replied_program p.inner.state p.inner (line_of user_rows p) (suc p.own - own_at_command_of user_rows p) t r h
-    ∙ ap (λ (fill : Option Fill). program_replied fill p.inner r) is ∙ ap (λ (u : Step). step_replied u p.inner r) e
-
-replied_front : (s : Step) (i : Inner) (r : Reply) → (step_replied s i r).front ≡ []
-replied_front (went regs core) i r = refl
-replied_front (halt regs core) i r = refl
-replied_front (entry w) i r = entry_replied_front (call_of i.regs i.core w) i r
-replied_front illegal i r = refl
-replied_front (outside a) i r = refl
+    ∙ ap (λ (fill : Option Fill). program_replied fill p.inner r) is ∙ ap (λ (u : Step). with_step (step_replied u p.inner r)) e
 
 -- a call that makes a common operation takes no line
 takes_none : (s : Step) (i : Inner) (op : CommonOp) → step_asks s i ≡ Some op → reads_line s i ≡ false
@@ -631,18 +541,18 @@ takes_none (entry w) i op e = call_takes (call_of i.regs i.core w) e
 takes_none illegal i op e = cc
 takes_none (outside a) i op e = cc
 
-pub run_replied_left : (t : ℕ) (r : Reply) (p : User) (s : Step) (op : CommonOp) → works_in p.inner.state ≡ true → p.inner.fill ≡ None → step_of p.inner.regs p.inner.core ≡ s → p.fed ≡ 0 → step_asks s p.inner ≡ Some op →
-    step t r p ≡ left false None (step_replied s p.inner r) p
-run_replied_left t r p s op h is e none makes =
-    replied_left t r p op (run_makes p s h is e ∙ makes)
+pub run_replied_left : (t : ℕ) (r : Reply) (p : User) (s : Step) (op : CommonOp) → works_in p.inner.state ≡ true → p.inner.fill ≡ None → at_break p.inner ≡ false → step_of p.inner.regs p.inner.core ≡ s → step_asks s p.inner ≡ Some op →
+    step t r p ≡ left false None (with_step (step_replied s p.inner r)) p
+run_replied_left t r p s op h is at e makes =
+    replied_left t r p op (run_makes p s h is at e ∙ makes)
     ∙ ap (done user_rows p) (entry_taken _ r p s h is e)
-    ∙ frame p None (step_replied s p.inner r) (line_in_program p h ∙ ap (λ (fill : Option Fill). first_line (program_reads fill p.inner) p.unread) is ∙ ap (λ (u : Step). first_line (reads_line u p.inner) p.unread) e ∙ ap (λ (b : Bool). first_line b p.unread) (takes_none s p.inner op makes)) (replied_front s p.inner r) none
-    ∙ ap (λ (b : Bool). left b None (step_replied s p.inner r) p) (not_anew p h)
+    ∙ frame p None (with_step (step_replied s p.inner r)) (line_in_program p h ∙ ap (λ (fill : Option Fill). first_line (program_reads fill p.inner) p.unread) is ∙ (λ j. first_line (not (at j) && reads_line (e j) p.inner) p.unread) ∙ ap (λ (b : Bool). first_line b p.unread) (takes_none s p.inner op makes))
+    ∙ ap (λ (b : Bool). left b None (with_step (step_replied s p.inner r)) p) (not_anew p h)
 
-pub run_replied_ends : (t : ℕ) (r : Reply) (p : User) (s : Step) (op : CommonOp) → works_in p.inner.state ≡ true → p.inner.fill ≡ None → step_of p.inner.regs p.inner.core ≡ s → step_asks s p.inner ≡ Some op →
+pub run_replied_ends : (t : ℕ) (r : Reply) (p : User) (s : Step) (op : CommonOp) → works_in p.inner.state ≡ true → p.inner.fill ≡ None → at_break p.inner ≡ false → step_of p.inner.regs p.inner.core ≡ s → step_asks s p.inner ≡ Some op →
     ending t r p ≡ (step_replied s p.inner r).ending
-run_replied_ends t r p s op h is e makes =
-    replied_ends t r p op (run_makes p s h is e ∙ makes) ∙ ap (λ (o : Outcome Inner). o.ending) (entry_taken _ r p s h is e)
+run_replied_ends t r p s op h is at e makes =
+    replied_ends t r p op (run_makes p s h is at e ∙ makes) ∙ ap (λ (o : Outcome Inner). o.ending) (entry_taken _ r p s h is e)
 
 -- what a step that makes a common operation waits for
 pub run_takes_none : (p : User) (s : Step) (op : CommonOp) → step_asks s p.inner ≡ Some op → reads_line s p.inner ≡ false

@@ -1,9 +1,9 @@
 -- A step that goes on leaves the program's size.
-use Rattle.std.proofs.Common.{◌≡◌, ℕ, suc, ◌-◌, Bool, true, false, ◌||◌, List, [], Option, Some, None, Ok, Err, refl}
-use Rattle.std.specs.Prelude.{if◌then◌else◌, nat_eq, nat_lt, length}
+use Rattle.std.proofs.Common.{◌≡◌, ℕ, suc, ◌-◌, Bool, true, false, ◌||◌, List, [], ◌∷◌, Option, Some, None, Ok, Err, refl}
+use Rattle.std.specs.Prelude.{if◌then◌else◌, nat_eq, nat_lt, length, drop}
 use Rattle.std.specs.declared.result.Result.{Result}
 use Rattle.time_sharing.specs.Machine.{Line, Went, CommonOp, Reply}
-use Rattle.time_sharing.specs.Rows.{Outcome, line_of, own_at_command_of}
+use Rattle.time_sharing.specs.Rows.{Outcome, line_of, one_less, own_at_command_of}
 use Rattle.ctss_types.specs.Names.{NamePair}
 use Rattle.ctss_types.specs.declared.file.FileBody.{FileBody}
 use Rattle.ctss_types.specs.declared.file.Refusal.{Refusal}
@@ -23,16 +23,29 @@ use Rattle.program_model.specs.declared.ProgramState.{ProgramState}
 use Rattle.program_model.specs.declared.ProgramState.TheVariants.{Dead, Dormant, Working}
 use Rattle.program_model.specs.Calls.{call_of, is_line_count}
 use Rattle.program_model.specs.Decks.{deck_of, deck_name}
-use Rattle.program_model.specs.Lines.{words_at, words_of_line}
+use Rattle.program_model.specs.Lines.{words_at, words_of_line, with_words}
 use Rattle.program_model.specs.Saved.{saved, saved_of, saved_name}
 use Rattle.fap_model.specs.Cards.{cards_of}
 use Rattle.fap_model.specs.Decks.{Assembled, deck, faulty, assembled}
+use Rattle.link_model.specs.declared.types.LinkRefusal.{LinkRefusal}
+use Rattle.link_model.specs.Modules.{module_words}
+use Rattle.link_model.specs.Files.{module_name, files_linked}
+use Rattle.link_model.specs.ModuleCards as modules
+use Rattle.link_model.specs.ModuleCards.{ModuleMade, module_made, is_relocatable}
 use Rattle.user_model.specs.Inner.{Inner, blocks_of}
 use Rattle.user_model.specs.declared.Command.{Command}
-use Rattle.user_model.specs.declared.Command.TheVariants.{Empty, Logout, LoadGo, List as Lists, Print, Rename, Delete, ChangeMode, Input, CopyTo, CopyFrom, Assemble, Start, Save, Resume, Registers, WordAt, BadArguments, Unknown}
+use Rattle.user_model.specs.declared.Command.TheVariants.{Empty, Logout, LoadGo, List as Lists, Print, Rename, Delete, ChangeMode, Input, CopyTo, CopyFrom, Assemble, Link, Start, Save, Resume, Registers, WordAt, Debug, RunFile, BadArguments, Unknown}
 use Rattle.user_model.specs.Requests.{command_of}
-use Rattle.user_model.specs.Commands.{command_row, command_replied, copy_target, words_copied, prepared, resumed, is_dormant, if_dormant, cards_name, assembly_put, cards_assembled, changed, input_made, input_begun, input_row, line_entered}
-use Rattle.user_model.specs.Programs.{step_row, step_replied, entry_row, entry_replied, call_row, call_replied, reply_taken, file_told, file_read, files_changed, program_row, program_replied}
+use Rattle.program_model.specs.declared.DebugLine.{DebugLine}
+use Rattle.program_model.specs.declared.DebugLine.TheVariants.{Break, Clear, Go, Look, Regs, Set, End, Bad}
+use Rattle.program_model.specs.DebugLines.{debug_of}
+use Rattle.program_model.specs.Stops.{Stops, is_full, with_break, without_break}
+use Rattle.program_model.specs.declared.ComRefusal.{ComRefusal}
+use Rattle.program_model.specs.CommandLines.{command_lines}
+use Rattle.ctss_types.specs.Words.{words_of}
+use Rattle.user_model.specs.Debugger.{debug_row, if_inside, with_breaks}
+use Rattle.user_model.specs.Commands.{CommandLine, command_file, lines_added, file_run, command_row, command_replied, copy_target, words_copied, prepared, resumed, is_dormant, if_dormant, cards_name, assembly_put, module_put, cards_assembled, modules_in, linked_put, changed, input_made, input_begun, input_row, line_entered}
+use Rattle.user_model.specs.Programs.{at_break, run_row, step_row, step_replied, entry_row, entry_replied, call_row, call_replied, reply_taken, file_told, file_read, files_changed, program_row, program_replied}
 use Rattle.user_model.specs.Session.{user_rows, act_in, act_by, asks_common_in, replied_in, line_replied, line_row}
 use Rattle.user_model.specs.User.{User, step, ending}
 
@@ -88,9 +101,13 @@ step_stays (entry w) i l n t = entry_stays (call_of i.regs i.core w) i l n t
 step_stays illegal i l n t = λ e. cc
 step_stays (outside a) i l n t = λ e. cc
 
+run_stays : (b : Bool) (s : Step) (i : Inner) (l : Option Line) (n t : ℕ) → SizeStays i (run_row b s i l n t)
+run_stays true s i l n t = λ e. cc
+run_stays false s i l n t = step_stays s i l n t
+
 program_stays : (f : Option Fill) (i : Inner) (l : Option Line) (n t : ℕ) → SizeStays i (program_row f i l n t)
 program_stays (Some f) i l n t = λ e. refl
-program_stays None i l n t = step_stays (step_of i.regs i.core) i l n t
+program_stays None i l n t = run_stays (at_break i) (step_of i.regs i.core) i l n t
 
 load_stays : (name : ℕ) (deck : Result Deck LoadFault) (i : Inner) (n t : ℕ) → SizeStays i (prepared name deck i n t)
 load_stays name (Ok d) i n t = λ e. cc
@@ -126,41 +143,76 @@ assembly_stays : (name : ℕ) (a : Assembled) (i : Inner) (n t : ℕ) → SizeSt
 assembly_stays name (deck words) i n t = change_stays (put (deck_name name) words i.account.tracks i.files) i n t
 assembly_stays name (faulty faults) i n t = λ e. cc
 
+module_stays : (name : ℕ) (m : ModuleMade) (i : Inner) (n t : ℕ) → SizeStays i (module_put name m i n t)
+module_stays name (modules.relocatable m) i n t = change_stays (put (module_name name) (module_words m) i.account.tracks i.files) i n t
+module_stays name (modules.faulty faults) i n t = λ e. cc
+
 cards_stay : (name : ℕ) (file : Result (List ℕ) Refusal) (i : Inner) (n t : ℕ) → SizeStays i (cards_assembled name file i n t)
-cards_stay name (Ok words) i n t = assembly_stays name (assembled (cards_of words)) i n t
+cards_stay name (Ok words) i n t =
+    either_way (is_relocatable (cards_of words)) i _ _ (module_stays name (module_made (cards_of words)) i n t)
+    (assembly_stays name (assembled (cards_of words)) i n t)
 cards_stay name (Err r) i n t = λ e. cc
 
-command_stays : (c : Command) (i : Inner) (n t : ℕ) → SizeStays i (command_row c i n t)
-command_stays Empty i n t = λ e. cc
-command_stays Logout i n t = λ e. cc
-command_stays (LoadGo name) i n t = load_stays name (deck_of i.account.blocks (got (deck_name name) i.files)) i n t
-command_stays Lists i n t = λ e. cc
-command_stays (Print name) i n t = λ e. cc
-command_stays (Rename name to) i n t = change_stays (renamed name to i.files) i n t
-command_stays (Delete name) i n t = change_stays (deleted name i.files) i n t
-command_stays (ChangeMode name mode) i n t = change_stays (moded name mode i.files) i n t
-command_stays (Input name) i n t = begun_stays name (file_named name i.files) i n t
-command_stays (CopyTo name) i n t = λ e. cc
-command_stays (CopyFrom name) i n t = λ e. cc
-command_stays (Assemble name) i n t = cards_stay name (got (cards_name name) i.files) i n t
-command_stays Start i n t = dormant_stays _ i n t (λ e. cc)
-command_stays (Save name) i n t = dormant_stays _ i n t (change_stays (put (saved_name name) (saved i.blocks i.regs i.core) i.account.tracks i.files) i n t)
-command_stays (Resume name) i n t = resumed_stays name (saved_of i.account.blocks (got (saved_name name) i.files)) i n t
-command_stays Registers i n t = dormant_stays _ i n t (λ e. cc)
-command_stays (WordAt place) i n t = dormant_stays _ i n t (λ e. cc)
-command_stays BadArguments i n t = λ e. cc
-command_stays Unknown i n t = λ e. cc
+linked_stay : (name : ℕ) (told : Result (List ℕ) LinkRefusal) (i : Inner) (n t : ℕ) → SizeStays i (linked_put name told i n t)
+linked_stay name (Ok words) i n t = change_stays (put (deck_name name) words i.account.tracks i.files) i n t
+linked_stay name (Err refusal) i n t = λ e. cc
 
-line_stays : (input : Option NamePair) (l : Line) (i : Inner) (n t : ℕ) → SizeStays i (line_row input l i n t)
-line_stays None l i n t = command_stays (command_of l) i n t
-line_stays (Some name) l i n t = input_stays name l i n
+added_stay : (told : Result (List Line) ComRefusal) (i : Inner) (n t : ℕ) → SizeStays i (lines_added told i n t)
+added_stay (Ok lines) i n t = λ e. cc
+added_stay (Err refusal) i n t = λ e. cc
 
-act_stays : (s : ProgramState) (i : Inner) (l : Option Line) (n t : ℕ) → SizeStays i (act_in s i l n t)
-act_stays Dead i None n t = λ e. refl
-act_stays Dead i (Some l) n t = line_stays i.input l i n t
-act_stays Dormant i None n t = λ e. refl
-act_stays Dormant i (Some l) n t = line_stays i.input l i n t
-act_stays Working i l n t = program_stays i.fill i l n t
+run_file_stays : (told : Result (List ℕ) Refusal) (i : Inner) (x : CommandLine) (n t : ℕ) → SizeStays i (file_run told i x n t)
+run_file_stays (Ok words) i x n t = added_stay (command_lines words (drop 2 (words_of x.line)) (256 - x.fed)) i n t
+run_file_stays (Err r) i x n t = λ e. cc
+
+command_stays : (c : Command) (i : Inner) (x : CommandLine) (n t : ℕ) → SizeStays i (command_row c i x n t)
+command_stays Empty i x n t = λ e. cc
+command_stays Logout i x n t = λ e. cc
+command_stays (LoadGo name) i x n t = load_stays name (deck_of i.account.blocks (got (deck_name name) i.files)) i n t
+command_stays Lists i x n t = λ e. cc
+command_stays (Print name) i x n t = λ e. cc
+command_stays (Rename name to) i x n t = change_stays (renamed name to i.files) i n t
+command_stays (Delete name) i x n t = change_stays (deleted name i.files) i n t
+command_stays (ChangeMode name mode) i x n t = change_stays (moded name mode i.files) i n t
+command_stays (Input name) i x n t = begun_stays name (file_named name i.files) i n t
+command_stays (CopyTo name) i x n t = λ e. cc
+command_stays (CopyFrom name) i x n t = λ e. cc
+command_stays (Assemble name) i x n t = cards_stay name (got (cards_name name) i.files) i n t
+command_stays (Link name) i x n t = linked_stay name (files_linked (modules_in x.line) i.files) i n t
+command_stays Start i x n t = dormant_stays _ i n t (λ e. cc)
+command_stays (Save name) i x n t = dormant_stays _ i n t (change_stays (put (saved_name name) (saved i.blocks i.regs i.core) i.account.tracks i.files) i n t)
+command_stays (Resume name) i x n t = resumed_stays name (saved_of i.account.blocks (got (saved_name name) i.files)) i n t
+command_stays Registers i x n t = dormant_stays _ i n t (λ e. cc)
+command_stays (WordAt place) i x n t = dormant_stays _ i n t (λ e. cc)
+command_stays Debug i x n t = dormant_stays _ i n t (λ e. cc)
+command_stays (RunFile name) i x n t = run_file_stays (got (command_file name) i.files) i x n t
+command_stays BadArguments i x n t = λ e. cc
+command_stays Unknown i x n t = λ e. cc
+
+inside_stays : (a : ℕ) (done i : Inner) → SizeStays i (if_inside a done i)
+inside_stays a done i = either_way (nat_lt a (length i.core)) i _ _ (λ e. cc) (λ e. cc)
+
+debug_stays : (s : Stops) (line : DebugLine) (i : Inner) (n : ℕ) → SizeStays i (debug_row s line i n)
+debug_stays s (Break a) i n = either_way (is_full s.breaks a) i _ _ (λ e. cc) (inside_stays a (with_breaks s (with_break s.breaks a) i) i)
+debug_stays s (Clear a) i n = inside_stays a (with_breaks s (without_break s.breaks a) i) i
+debug_stays s Go i n = λ e. cc
+debug_stays s (Look a) i n = λ e. cc
+debug_stays s Regs i n = λ e. cc
+debug_stays s (Set a v) i n = inside_stays a (record i { core = with_words i.core a (v ∷ []) }) i
+debug_stays s End i n = λ e. cc
+debug_stays s Bad i n = λ e. cc
+
+line_stays : (debugger : Option Stops) (input : Option NamePair) (l : Line) (i : Inner) (n k t : ℕ) → SizeStays i (line_row debugger input l i n k t)
+line_stays (Some s) input l i n k t = debug_stays s (debug_of l) i n
+line_stays None None l i n k t = command_stays (command_of l) i (record { line = l; fed = k }) n t
+line_stays None (Some name) l i n k t = input_stays name l i n
+
+act_stays : (s : ProgramState) (i : Inner) (l : Option Line) (n k t : ℕ) → SizeStays i (act_in s i l n k t)
+act_stays Dead i None n k t = λ e. refl
+act_stays Dead i (Some l) n k t = line_stays i.debugger i.input l i n k t
+act_stays Dormant i None n k t = λ e. refl
+act_stays Dormant i (Some l) n k t = line_stays i.debugger i.input l i n k t
+act_stays Working i l n k t = program_stays i.fill i l n t
 
 reply_stays : (i : Inner) (arguments at : ℕ) (r : Reply) → SizeStays i (reply_taken i arguments at r)
 reply_stays i arguments at reply.Done = λ e. refl
@@ -221,10 +273,10 @@ replied_stays Dead i l n t r = line_replied_stays i l n t r
 replied_stays Dormant i l n t r = line_replied_stays i l n t r
 replied_stays Working i l n t r = program_replied_stays i.fill i r
 
-either_stays : (made : Option CommonOp) (i : Inner) (l : Option Line) (n t : ℕ) (r : Reply) → SizeStays i (act_by made i l n t r)
-either_stays None i l n t r = act_stays i.state i l n t
-either_stays (Some op) i l n t r = replied_stays i.state i l n t r
+either_stays : (made : Option CommonOp) (i : Inner) (l : Option Line) (n k t : ℕ) (r : Reply) → SizeStays i (act_by made i l n k t r)
+either_stays None i l n k t r = act_stays i.state i l n k t
+either_stays (Some op) i l n k t r = replied_stays i.state i l n t r
 
 pub went_stays : (t : ℕ) (r : Reply) (p : User) → ending t r p ≡ Went → blocks_of (step t r p).inner ≡ blocks_of p.inner
 unfolding ending step
-went_stays t r p e = either_stays (asks_common_in p.inner.state p.inner (line_of user_rows p)) p.inner (line_of user_rows p) (suc p.own - own_at_command_of user_rows p) _ r e
+went_stays t r p e = either_stays (asks_common_in p.inner.state p.inner (line_of user_rows p)) p.inner (line_of user_rows p) (suc p.own - own_at_command_of user_rows p) (one_less (line_of user_rows p) p.fed) _ r e

@@ -1,15 +1,18 @@
 -- proof: what a row says of a user whose words and files lie apart: one statement for every supervisor entry and every command.
-use Rattle.std.specs.Prelude.{◌≡◌, ℕ, suc, ◌-◌, Bool, true, false, not, ◌&&◌, ◌||◌, if◌then◌else◌, List, [], ◌∷◌, ◌++◌, drop, Option, Some, None}
+use Rattle.std.specs.Prelude.{◌≡◌, ℕ, suc, ◌+◌, ◌-◌, Bool, true, false, not, ◌&&◌, ◌||◌, if◌then◌else◌, List, [], ◌∷◌, ◌++◌, length, drop, Option, Some, None}
 use Rattle.std.specs.declared.result.Result.{Result}
 use Rattle.time_sharing.specs.Machine.{Line, Item, Ending, CommonOp, Reply}
-use Rattle.time_sharing.specs.Rows.{Outcome, some_line, is_logout, in_line, out_all, first_line}
+use Rattle.time_sharing.specs.Rows.{Outcome, some_line, is_logout, in_line, one_less, out_all, first_line}
 use Rattle.ctss_types.specs.Names.{NamePair}
 use Rattle.program_model.specs.declared.Call.{Call}
 use Rattle.program_model.specs.declared.EntryFault.{EntryFault}
 use Rattle.user_model.specs.Inner.{Inner, Stored}
 use Rattle.machine_model.specs.Step.{Step}
 use Rattle.program_model.specs.declared.Fill.{Fill}
-use Rattle.user_model.specs.Programs.{step_row, reads_line, asks_time, step_asks, entry_row, entry_asks, entry_replied, is_read, is_clock, goes, filled_program}
+use Rattle.user_model.specs.Programs.{step_row, reads_line, asks_time, step_asks, entry_row, entry_asks, entry_replied, is_read, is_clock, goes, breaks, has_stepped, filled_program}
+use Rattle.program_model.specs.declared.DebugLine.{DebugLine}
+use Rattle.program_model.specs.Stops.{Stops}
+use Rattle.user_model.specs.Debugger.{debug_row}
 use Rattle.user_model.specs.declared.Command.{Command}
 use Rattle.user_model.specs.Commands.{command_row, command_asks, command_replied, input_row}
 use Rattle.user_model.specs.Session.{is_none}
@@ -25,13 +28,19 @@ abbrev pub noted : List Item → List Item → List Item
 noted xs [] = xs
 noted xs (y ∷ ys) = xs ++ y ∷ ys
 
--- What a row leaves of an open session that no command file feeds, in the form that code gives it.
+-- so many lines of command files behind these
+abbrev pub fed_with : List Line → ℕ → ℕ
+fed_with [] k = k
+fed_with (l ∷ ls) k = length (l ∷ ls) + k
+
+-- What a row leaves of an open session, in the form that code gives it.
 abbrev pub by_row : Bool → Option Line → Outcome Inner → User → User
 by_row is_command line o p =
     record p {
       inner = record o.inner { core = p.inner.core; files = p.inner.files };
       on = if is_logout o.ending then false else p.on;
-      unread = if is_logout o.ending then [] else drop (line_count line) p.unread;
+      unread = if is_logout o.ending then [] else o.front ++ drop (line_count line) p.unread;
+      fed = if is_logout o.ending then 0 else fed_with o.front (one_less line p.fed);
       transcript = noted p.transcript (in_line line ++ out_all o.written);
       own = suc p.own;
       own_at_command = if is_command then p.own else p.own_at_command;
@@ -60,6 +69,14 @@ DidStep s e asked t old new before after =
 abbrev pub DidFill : Fill → Ending → Bool → (old new : User) → (before after : Stored) → Type 0
 DidFill f e asked old new before after = IsRow true false None (goes (filled_program f (in_store before old).inner)) false e asked old new before after
 
+-- the user whose program has done an own step: an open debugger knows
+abbrev pub marked : User → User
+marked p = record p { inner = has_stepped p.inner }
+
+-- a break
+abbrev pub DidBreak : Ending → Bool → (old new : User) → (before after : Stored) → Type 0
+DidBreak e asked old new before after = IsRow true false None (breaks (in_store before old).inner (suc old.own - old.own_at_command)) false e asked old new before after
+
 -- what the row of a supervisor entry says of this user
 abbrev pub entry_line : Result Call EntryFault → User → Option Line
 entry_line call p = first_line (is_read call) p.unread
@@ -75,11 +92,17 @@ DidEntry call e asked t old new before after =
 -- a step that did what the row of this command says
 abbrev pub DidCommand : Line → Command → Ending → Bool → ℕ → (old new : User) → (before after : Stored) → Type 0
 DidCommand l command e asked t old new before after =
-    IsRow (is_none (command_asks command (in_store before old).inner)) true (Some l) (command_row command (in_store before old).inner 1 t) true e asked old new before after
+    IsRow (is_none (command_asks command (in_store before old).inner)) true (Some l) (command_row command (in_store before old).inner (record { line = l; fed = old.fed - 1 }) 1 t) true e asked old new before after
 
 -- a step that did what the row of a line of INPUT says
 abbrev pub DidInput : Line → NamePair → Ending → Bool → (old new : User) → (before after : Stored) → Type 0
 DidInput l name e asked old new before after = IsRow true false (Some l) (input_row name l (in_store before old).inner (suc old.own - old.own_at_command)) false e asked old new before after
+
+-- A step that did what the row of a line of the debugger says. It may change a word, but not the size.
+abbrev pub DidDebug : Line → Stops → DebugLine → Ending → Bool → (old new : User) → (before after : Stored) → Type 0
+DidDebug l s line e asked old new before after =
+    let o = debug_row s line (in_store before old).inner 1 in
+    (new ≡ by_row true (Some l) o old) × (core_after e o.inner.blocks after.core ≡ o.inner.core) × (after.files ≡ o.inner.files) × (e ≡ o.ending) × (asked ≡ false)
 
 -- a step at a supervisor entry that made this common operation, with this reply
 abbrev pub EntryReplied : Result Call EntryFault → CommonOp → Reply → Ending → Bool → (old new : User) → (before after : Stored) → Type 0

@@ -8,6 +8,7 @@ use Rattle.cpu_regs.specs.Registers.{no_registers}
 use Rattle.program_model.specs.declared.ProgramState.{ProgramState}
 use Rattle.program_model.specs.declared.ProgramState.TheVariants.{Dead}
 use Rattle.program_model.specs.declared.Fill.{Fill}
+use Rattle.program_model.specs.Stops.{Stops}
 
 pub record Inner : Type 0 where
   pub account : Account
@@ -21,6 +22,8 @@ pub record Inner : Type 0 where
   pub fill : Option Fill
   -- the file that lines are typed into
   pub input : Option NamePair
+  -- the debugger: closed, or open with what it knows
+  pub debugger : Option Stops
 
 -- what of a user lies outside its session: the words of its program, and its files
 pub record Stored : Type 0 where
@@ -39,6 +42,6 @@ zeros blocks = replicate (256 * blocks) 0
 abbrev pub recut : ℕ → List ℕ → List ℕ
 recut blocks core = take (256 * blocks) core ++ replicate (256 * blocks - length core) 0
 
--- no program is left
+-- no program is left, and the debugger is closed
 abbrev pub without_program : Inner → Inner
-without_program i = record i { state = Dead; regs = no_registers; blocks = 0; core = []; fill = None }
+without_program i = record i { state = Dead; regs = no_registers; blocks = 0; core = []; fill = None; debugger = None }

@@ -3,9 +3,13 @@ pub mod Texts
 pub mod Programs
 pub mod Requests
 pub mod Commands
+pub mod Debugger
 pub mod Session
 pub mod User
 pub mod Steps
 pub mod Answers
 pub mod Runs
+pub mod CommandFiles
+pub mod Plain
 pub mod Rows
+pub mod Sessions

@@ -1,5 +1,5 @@
 -- claim: the steps of a program that works: what each end of an instruction and each supervisor entry does.
-use Rattle.std.specs.Prelude.{ℕ, ◌+◌, ◌*◌, Bool, true, false, if◌then◌else◌, ◌||◌, nat_eq, nat_lt, nat_le, List, [], ◌∷◌, ◌++◌, length, codes, Option, Some, None, Ok, Err}
+use Rattle.std.specs.Prelude.{ℕ, ◌+◌, ◌*◌, Bool, true, false, not, if◌then◌else◌, ◌||◌, ◌&&◌, nat_eq, nat_lt, nat_le, List, [], ◌∷◌, ◌++◌, length, codes, Option, Some, None, Ok, Err}
 use Rattle.std.specs.declared.result.Result.{Result}
 use Rattle.time_sharing.specs.Machine.{Line, Went, Stopped, Resized, CommonOp, Reply}
 use Rattle.time_sharing.specs.Rows.{Outcome}
@@ -22,6 +22,7 @@ use Rattle.program_model.specs.Fills.{fill_name, filled_core, filled_regs}
 use Rattle.program_model.specs.Calls.{call_of, answered, is_line_count}
 use Rattle.program_model.specs.Lines.{line_of_words, words_of_line, words_at, with_words}
 use Rattle.program_model.specs.Decks.{words_got}
+use Rattle.program_model.specs.Stops.{Stops, meets}
 use Rattle.user_model.specs.Inner.{Inner, recut, without_program}
 use Rattle.user_model.specs.Texts.{ready_text, stop_text}
 
@@ -186,23 +187,51 @@ filled_program f i =
     let words = words_got (got (fill_name f) i.files) in
     record i { core = filled_core f words i.core; regs = filled_regs f words i.regs; fill = None }
 
--- a program's step: of one that still has to be filled, that; else its next instruction
+-- whether a program is to stop before its next instruction
+abbrev pub at_break_in : Option Stops → ℕ → Bool
+at_break_in None ic = false
+at_break_in (Some s) ic = meets s ic
+
+abbrev pub at_break : Inner → Bool
+at_break i = at_break_in i.debugger i.regs.ic
+
+-- an open debugger knows behind an own step of the program that it has done one
+abbrev pub stepped_in : Option Stops → Option Stops
+stepped_in None = None
+stepped_in (Some s) = Some (record s { stepped = true })
+
+abbrev pub has_stepped : Inner → Inner
+has_stepped i = record i { debugger = stepped_in i.debugger }
+
+abbrev pub with_step : Outcome Inner → Outcome Inner
+with_step o = record o { inner = has_stepped o.inner }
+
+-- a break touches neither registers nor words
+abbrev pub breaks : Inner → ℕ → Outcome Inner
+breaks i n = stops (stop_text (codes "BREAK") i.regs.ic ∷ []) i n
+
+-- a break where there is one, and else the next instruction
+abbrev pub run_row : Bool → Step → Inner → Option Line → ℕ → ℕ → Outcome Inner
+run_row true s i l n t = breaks i n
+run_row false s i l n t = with_step (step_row s i l n t)
+
+-- a program's step: of one that still has to be filled, that; else a break or its next instruction
 abbrev pub program_row : Option Fill → Inner → Option Line → ℕ → ℕ → Outcome Inner
 program_row (Some f) i l n t = goes (filled_program f i)
-program_row None i l n t = step_row (step_of i.regs i.core) i l n t
+program_row None i l n t = run_row (at_break i) (step_of i.regs i.core) i l n t
 
 abbrev pub program_reads : Option Fill → Inner → Bool
 program_reads (Some f) i = false
-program_reads None i = reads_line (step_of i.regs i.core) i
+program_reads None i = not (at_break i) && reads_line (step_of i.regs i.core) i
 
 abbrev pub program_asks : Option Fill → Inner → Bool
 program_asks (Some f) i = false
-program_asks None i = asks_time (step_of i.regs i.core) i
+program_asks None i = not (at_break i) && asks_time (step_of i.regs i.core) i
 
 abbrev pub program_asks_common : Option Fill → Inner → Option CommonOp
 program_asks_common (Some f) i = None
-program_asks_common None i = step_asks (step_of i.regs i.core) i
+program_asks_common None i = if at_break i then None else step_asks (step_of i.regs i.core) i
 
 abbrev pub program_replied : Option Fill → Inner → Reply → Outcome Inner
 program_replied (Some f) i reply = goes i
-program_replied None i reply = step_replied (step_of i.regs i.core) i reply
+program_replied None i reply = with_step (step_replied (step_of i.regs i.core) i reply)

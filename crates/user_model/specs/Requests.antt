@@ -1,11 +1,12 @@
 -- claim: what a line asks for.
-use Rattle.std.specs.Prelude.{ℕ, ◌+◌, ◌-◌, ◌*◌, Bool, ◌&&◌, List, [], ◌∷◌, length, nat_le, codes, bytes_eq, if◌then◌else◌, Option, Some, None}
+use Rattle.std.specs.Prelude.{ℕ, ◌-◌, ◌&&◌, List, [], ◌∷◌, length, nat_le, codes, bytes_eq, if◌then◌else◌, Option, Some, None}
 use Rattle.std.specs.List.{list_all}
 use Rattle.ctss_types.specs.Names.{NamePair}
 use Rattle.ctss_types.specs.Words.{words_of, name_of}
 use Rattle.time_sharing.specs.Machine.{Line}
+pub use Rattle.program_model.specs.Octals.{is_octal_digit, octal_from}
 use Rattle.user_model.specs.declared.Command.{Command}
-use Rattle.user_model.specs.declared.Command.TheVariants.{Empty, Logout, LoadGo, List as Lists, Print, Rename, Delete, ChangeMode, Input, CopyTo, CopyFrom, Assemble, Start, Save, Resume, Registers, WordAt, BadArguments, Unknown}
+use Rattle.user_model.specs.declared.Command.TheVariants.{Empty, Logout, LoadGo, List as Lists, Print, Rename, Delete, ChangeMode, Input, CopyTo, CopyFrom, Assemble, Link, Start, Save, Resume, Registers, WordAt, Debug, RunFile, BadArguments, Unknown}
 
 -- a word of at most six characters is a name
 abbrev pub word_name : Line → Option ℕ
@@ -54,14 +55,6 @@ abbrev pub chmode_of : List Line → Command
 chmode_of (a ∷ b ∷ m ∷ []) = if_some (λ name. if_some (λ mode. ChangeMode name mode) (digit_in m)) (file_in a b)
 chmode_of _ = BadArguments
 
-abbrev pub is_octal_digit : ℕ → Bool
-is_octal_digit d = nat_le 48 d && nat_le d 55
-
--- a number by its octal digits, behind those that make n
-abbrev pub octal_from : ℕ → Line → ℕ
-octal_from n [] = n
-octal_from n (d ∷ ds) = octal_from (8 * n + (d - 48)) ds
-
 -- a word of one to five octal digits is a place
 abbrev pub place_in : Line → Option ℕ
 place_in w = if nat_le 1 (length w) && (nat_le (length w) 5 && list_all is_octal_digit w) then Some (octal_from 0 w) else None
@@ -79,6 +72,18 @@ copy_by (w ∷ ws) =
     if bytes_eq w (codes "TO") then with_file (λ name. CopyTo name) ws
     else (if bytes_eq w (codes "FROM") then with_file (λ name. CopyFrom name) ws else BadArguments)
 
+-- a command file's name, and at most nine arguments
+abbrev pub run_of : List Line → Command
+run_of [] = BadArguments
+run_of (w ∷ ws) = if nat_le (length ws) 9 then if_some (λ name. RunFile name) (word_name w) else BadArguments
+
+-- a deck's name, and the names of one to eight modules
+abbrev pub linking_of : List Line → Command
+linking_of [] = BadArguments
+linking_of (w ∷ ws) =
+    if nat_le 1 (length ws) && (nat_le (length ws) 8 && list_all (λ m. nat_le (length m) 6) ws) then if_some (λ name. Link name) (word_name w)
+    else BadArguments
+
 -- what the words behind a command's name ask for
 abbrev pub command_by : Line → List Line → Command
 command_by w ws =
@@ -92,10 +97,13 @@ command_by w ws =
     else (if bytes_eq w (codes "INPUT") then with_file (λ name. Input name) ws
     else (if bytes_eq w (codes "COPY") then copy_by ws
     else (if bytes_eq w (codes "FAP") then with_name (λ name. Assemble name) ws
+    else (if bytes_eq w (codes "LINK") then linking_of ws
     else (if bytes_eq w (codes "START") then alone Start ws
     else (if bytes_eq w (codes "SAVE") then with_name (λ name. Save name) ws
     else (if bytes_eq w (codes "RESUME") then with_name (λ name. Resume name) ws
-    else (if bytes_eq w (codes "PM") then post_mortem_of ws else Unknown)))))))))))))
+    else (if bytes_eq w (codes "PM") then post_mortem_of ws
+    else (if bytes_eq w (codes "FAPDBG") then alone Debug ws
+    else (if bytes_eq w (codes "RUNCOM") then run_of ws else Unknown))))))))))))))))
 
 abbrev pub command_of_words : List Line → Command
 command_of_words [] = Empty

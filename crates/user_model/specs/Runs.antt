@@ -6,12 +6,12 @@ use Rattle.machine_model.specs.Runs.{many}
 use Rattle.user_model.specs.Session.{works_in}
 use Rattle.user_model.specs.User.{User}
 
--- a program works, and nothing is still to be stored
+-- a program works without a debugger, and nothing is still to be stored
 pub record IsAtWork (p : User) : Type 0 where
   pub on : p.on ≡ true
   pub works : works_in p.inner.state ≡ true
   pub filled : p.inner.fill ≡ None
-  pub fed : p.fed ≡ 0
+  pub alone : p.inner.debugger ≡ None
 
 -- the user whose program has done so many instructions, with these registers
 abbrev pub gone : ℕ → Regs → User → User

@@ -1,5 +1,5 @@
 -- claim: the rows of a user: what the machine made of rows is made of.
-use Rattle.std.specs.Prelude.{ℕ, Bool, true, false, not, ◌&&◌, List, [], ◌∷◌, Option, Some, None, codes}
+use Rattle.std.specs.Prelude.{ℕ, Bool, true, false, not, ◌&&◌, ◌||◌, List, [], ◌∷◌, Option, Some, None, codes}
 use Rattle.ctss_types.specs.Names.{NamePair}
 use Rattle.ctss_types.specs.declared.script.Account.{Account}
 use Rattle.ctss_types.specs.declared.file.FileBody.{FileBody}
@@ -12,23 +12,27 @@ use Rattle.program_model.specs.declared.ProgramState.TheVariants.{Dead, Dormant,
 use Rattle.user_model.specs.Inner.{Inner, without_program}
 use Rattle.user_model.specs.Texts.{logged_in_text, ready_text}
 use Rattle.user_model.specs.Requests.{command_of}
+use Rattle.program_model.specs.DebugLines.{debug_of}
+use Rattle.program_model.specs.Stops.{Stops}
 use Rattle.user_model.specs.Commands.{command_row, command_asks, command_replied, input_row}
+use Rattle.user_model.specs.Debugger.{debug_row}
 use Rattle.user_model.specs.Programs.{goes, program_row, program_reads, program_asks, program_asks_common, program_replied}
 
--- without a program that works each step takes a line: of INPUT, or a command
-abbrev pub line_row : Option NamePair → Line → Inner → ℕ → ℕ → Outcome Inner
-line_row None l i n t = command_row (command_of l) i n t
-line_row (Some name) l i n t = input_row name l i n
+-- without a program that works each step takes a line: of the debugger, of INPUT, or a command
+abbrev pub line_row : Option Stops → Option NamePair → Line → Inner → (n k : ℕ) → ℕ → Outcome Inner
+line_row (Some s) input l i n k t = debug_row s (debug_of l) i n
+line_row None None l i n k t = command_row (command_of l) i (record { line = l; fed = k }) n t
+line_row None (Some name) l i n k t = input_row name l i n
 
-abbrev pub line_step : Inner → Option Line → ℕ → ℕ → Outcome Inner
-line_step i None n t = goes i
-line_step i (Some l) n t = line_row i.input l i n t
+abbrev pub line_step : Inner → Option Line → (n k : ℕ) → ℕ → Outcome Inner
+line_step i None n k t = goes i
+line_step i (Some l) n k t = line_row i.debugger i.input l i n k t
 
 -- a step with the line that it takes
-abbrev pub act_in : ProgramState → Inner → Option Line → ℕ → ℕ → Outcome Inner
-act_in Dead i l n t = line_step i l n t
-act_in Dormant i l n t = line_step i l n t
-act_in Working i l n t = program_row i.fill i l n t
+abbrev pub act_in : ProgramState → Inner → Option Line → (n k : ℕ) → ℕ → Outcome Inner
+act_in Dead i l n k t = line_step i l n k t
+act_in Dormant i l n k t = line_step i l n k t
+act_in Working i l n k t = program_row i.fill i l n t
 
 abbrev pub takes_line_in : ProgramState → Inner → Bool
 takes_line_in Dead i = true
@@ -45,28 +49,33 @@ abbrev pub is_none : {A : Type 0} → Option A → Bool
 is_none None = true
 is_none (Some a) = false
 
--- a command counts own steps anew: not so a line of INPUT
+-- a command counts own steps anew, and so does a line of the debugger: not so a line of INPUT
 abbrev pub counts_anew : Inner → Bool
-counts_anew i = not (works_in i.state) && is_none i.input
+counts_anew i = not (works_in i.state) && (not (is_none i.debugger) || is_none i.input)
 
 abbrev pub some_text : Option Line → Bool
 some_text None = false
 some_text (Some l) = true
 
--- a command asks for the clock, which it prints: not so a line of INPUT
+-- whether a line is a command
+abbrev pub takes_command : Inner → Bool
+takes_command i = is_none i.debugger && is_none i.input
+
+-- a command asks for the clock, which it prints: not so a line of the debugger or of INPUT
 abbrev pub asks_clock_in : ProgramState → Inner → Option Line → Bool
-asks_clock_in Dead i l = is_none i.input && some_text l
-asks_clock_in Dormant i l = is_none i.input && some_text l
+asks_clock_in Dead i l = takes_command i && some_text l
+asks_clock_in Dormant i l = takes_command i && some_text l
 asks_clock_in Working i l = program_asks i.fill i
 
--- a line of INPUT makes no common operation
-abbrev pub line_asks : Option NamePair → Line → Inner → Option CommonOp
-line_asks None l i = command_asks (command_of l) i
-line_asks (Some name) l i = None
+-- a line of the debugger or of INPUT makes no common operation
+abbrev pub line_asks : Option Stops → Option NamePair → Line → Inner → Option CommonOp
+line_asks (Some s) input l i = None
+line_asks None None l i = command_asks (command_of l) i
+line_asks None (Some name) l i = None
 
 abbrev pub line_asks_common : Inner → Option Line → Option CommonOp
 line_asks_common i None = None
-line_asks_common i (Some l) = line_asks i.input l i
+line_asks_common i (Some l) = line_asks i.debugger i.input l i
 
 -- the common operation that a step makes
 abbrev pub asks_common_in : ProgramState → Inner → Option Line → Option CommonOp
@@ -85,9 +94,9 @@ replied_in Dormant i l n t r = line_replied i l n t r
 replied_in Working i l n t r = program_replied i.fill i r
 
 -- a step, by whether it made a common operation
-abbrev pub act_by : Option CommonOp → Inner → Option Line → ℕ → ℕ → Reply → Outcome Inner
-act_by None i l n t r = act_in i.state i l n t
-act_by (Some op) i l n t r = replied_in i.state i l n t r
+abbrev pub act_by : Option CommonOp → Inner → Option Line → (n k : ℕ) → ℕ → Reply → Outcome Inner
+act_by None i l n k t r = act_in i.state i l n k t
+act_by (Some op) i l n k t r = replied_in i.state i l n t r
 
 -- a quit stops a program that works
 abbrev pub quitted : ProgramState → ProgramState
@@ -101,9 +110,9 @@ quit_text Dead n = codes "QUIT," ∷ []
 quit_text Dormant n = codes "QUIT," ∷ []
 quit_text Working n = codes "QUIT," ∷ ready_text n ∷ []
 
--- what a cut does to the inner state: INPUT is over, and with the session its program and its files of mode 0 go
+-- what a cut does to the inner state: INPUT is over and the debugger closed, and with the session its program and its files of mode 0 go
 abbrev pub inner_cut : CutKind → Inner → Inner
-inner_cut Quit i = record i { state = quitted i.state; fill = None; input = None }
+inner_cut Quit i = record i { state = quitted i.state; fill = None; input = None; debugger = None }
 inner_cut Hang i = without_program (record i { files = lasting i.files; input = None })
 inner_cut Spent i = without_program (record i { files = lasting i.files; input = None })
 inner_cut End i = i
@@ -115,7 +124,7 @@ user_rows =
       is_command = counts_anew;
       asks_clock = λ i l. asks_clock_in i.state i l;
       asks_common = λ i l. asks_common_in i.state i l;
-      act = λ i l n k t r. act_by (asks_common_in i.state i l) i l n t r;
+      act = λ i l n k t r. act_by (asks_common_in i.state i l) i l n k t r;
       opened = λ i. i;
       opened_text = λ i. logged_in_text i.account.name ∷ [];
       cut = inner_cut;
@@ -126,7 +135,7 @@ user_rows =
 abbrev pub first_state : Account → List FileBody → Private Inner
 first_state account files =
     record {
-      inner = record { account = account; files = files; state = Dead; regs = no_registers; blocks = 0; core = []; fill = None; input = None };
+      inner = record { account = account; files = files; state = Dead; regs = no_registers; blocks = 0; core = []; fill = None; input = None; debugger = None };
       on = false;
       unread = [];
       lines = 0;

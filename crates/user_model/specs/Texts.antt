@@ -31,3 +31,11 @@ stop_text why place = why ++ (codes " AT " ++ octal_digits 5 place)
 -- the number of a card at fault, and of its fault
 unfoldable pub fault_text : ℕ × ℕ → Line
 fault_text f = codes "CARD " ++ (decimal f.0 ++ (codes " FAULT " ++ decimal f.1))
+
+-- a name that two of the linked modules enter
+unfoldable pub doubly_text : ℕ → Line
+doubly_text name = codes "DOUBLY " ++ text_of_name name
+
+-- a name that none of the linked modules enters
+unfoldable pub undefined_text : ℕ → Line
+undefined_text name = codes "UNDEFINED " ++ text_of_name name

@@ -1,5 +1,5 @@
 -- claim: one user's machine, closed: what contracts cite.
-use Rattle.std.specs.Prelude.{◌≡◌, ℕ, Bool, true, List, [], Option}
+use Rattle.std.specs.Prelude.{◌≡◌, ◌⊎◌, ℕ, Bool, true, List, [], Option}
 use Rattle.time_sharing.specs.Machine.{Line, CutKind, Ending, Went, Stopped, Resized, Replaced, LoggedOut, CommonOp, Reply}
 use Rattle.time_sharing.specs.Rows.{Private, machine}
 use Rattle.time_sharing.specs.System.{clock_for}
@@ -73,4 +73,5 @@ pub record IsStep (e : Ending) (asked : Bool) (made : Option CommonOp) (t : ℕ)
   pub ends : e ≡ ending t r (in_store before old)
   pub asks : asked ≡ asks_clock (in_store before old)
   pub makes : made ≡ asks_common (in_store before old)
-  pub words : LeavesWords e before.core after.core
+  -- a step that changes the size leaves the words
+  pub words : (new.inner.blocks ≡ old.inner.blocks) ⊎ LeavesWords e before.core after.core

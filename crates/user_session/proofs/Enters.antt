@@ -9,22 +9,22 @@ use Rattle.user_model.specs.Requests.{command_of}
 use Rattle.machine_model.specs.Machine.{step_of}
 use Rattle.machine_model.specs.Step as machine
 use Rattle.machine_model.specs.Step.{entry}
-use Rattle.user_model.specs.Programs.{step_asks}
+use Rattle.user_model.specs.Programs.{step_asks, at_break}
 use Rattle.program_model.specs.declared.Call.{Call}
 use Rattle.program_model.specs.declared.EntryFault.{EntryFault}
 use Rattle.program_model.specs.Calls.{call_of}
 use Rattle.user_model.specs.Session.{works_in}
 use Rattle.time_sharing.specs.Machine.{CommonOp, Reply}
-use Rattle.user_model.specs.Answers.{EntryReplied, CommandReplied}
+use Rattle.user_model.specs.Answers.{DidEntry, EntryReplied, CommandReplied, marked}
 use Rattle.user_model.specs.User.{User, in_store}
 use Rattle.user_session.specs.declared.turn.Step.{Step}
-use Rattle.user_model.proofs.RowTurns.{entry_turn, entry_waits, entry_asked, entry_replied_turn, command_turn, command_asked, command_replied_turn}
+use Rattle.user_model.proofs.RowTurns.{row_turn, entry_waits, entry_asked, entry_replied_turn, command_turn, command_asked, command_replied_turn}
 use Rattle.user_session.specs.declared.turn.Turn.{Turn}
 use Rattle.user_session.specs.declared.turn.Turn.TheVariants.{Waits, Done, Asks}
 use Rattle.user_model.specs.Inner.{Stored}
 use Rattle.user_session.specs.declared.turn.Instructed.{Instructed}
 use Rattle.user_session.specs.declared.turn.Instructed.TheVariants as instructed
-use Rattle.user_session.specs.Turns.{IsTurn, IsReplied, Enters, Obeys, Instructs, IsAtEntry}
+use Rattle.user_session.specs.Turns.{IsTurn, IsReplied, Runs, Enters, Obeys, Instructs, IsAtEntry}
 use Rattle.ctss_types.specs.declared.file.FileBody.{FileBody}
 use Rattle.ctss_types.specs.declared.file.Refusal.{Refusal}
 use Rattle.ctss_types.specs.declared.fault.StepFault.{StepFault}
@@ -33,38 +33,42 @@ use Rattle.file_map.specs.Known.{known, known_of}
 use Rattle.user_session.specs.Stores.{stored, Over, OfSome}
 use Rattle.user_session.proofs.Files.{known_done}
 
-pub entered : (turn : Turn) (t : ℕ) (p q : User) (c d : Stored) (w : ℕ) (call : Result Call EntryFault) → works_in p.inner.state ≡ true → p.inner.fill ≡ None → step_of p.inner.regs c.core ≡ entry w → p.on ≡ true → p.fed ≡ 0 → call_of p.inner.regs c.core w ≡ call →
-    Enters call turn t p q c d → IsTurn turn t p q c d
-entered Waits t p q c d w call h none is on none_fed what row = record { cannot = entry_waits p c w call h none is what row.reads row.none; same = row.same; store = row.store }
-entered (Done s) t p q c d w call h none is on none_fed what row = entry_turn t p q c d w call s.ending s.clock h none is what on none_fed row
-entered (Asks op) t p q c d w call h none is on none_fed what row =
-    let asked = entry_asked p c w call op h none is what on row.makes in
+pub entered : (turn : Turn) (t : ℕ) (p q : User) (c d : Stored) (w : ℕ) (call : Result Call EntryFault) → works_in p.inner.state ≡ true → p.inner.fill ≡ None → at_break p.inner ≡ false → step_of p.inner.regs c.core ≡ entry w → p.on ≡ true → call_of p.inner.regs c.core w ≡ call →
+    Enters call turn t p q c d → Runs turn t p q c d
+entered Waits t p q c d w call h none at is on what row = record { cannot = entry_waits p c w call h none at is what row.reads row.none; same = row.same; store = row.store }
+entered (Done s) t p q c d w call h none at is on what row = record { gives = entry w; is = is; did = subst (λ (r : Result Call EntryFault). DidEntry r s.ending s.clock t p q c d) (sym what) row }
+entered (Asks op) t p q c d w call h none at is on what row =
+    let asked = entry_asked p c w call op h none at is what on row.makes in
     record { can = asked.0; makes = asked.1; same = row.same; store = row.store }
+
+-- a step of a program, of which an open debugger knows then
+pub ran : (s : Step) (t : ℕ) (p q : User) (c d : Stored) → works_in p.inner.state ≡ true → p.inner.fill ≡ None → at_break p.inner ≡ false → p.on ≡ true → Runs (Done s) t p q c d → IsTurn (Done s) t p (marked q) c d
+ran s t p q c d h none at on run = row_turn t p q c d run.gives s.ending s.clock h none at run.is on run.did
 
 -- an instruction that comes to an entry, and one that is a step
 pub at_entry : (told : Instructed) (name t : ℕ) (p q : User) (c d : Stored) → told ≡ instructed.Entry name → Instructs told t p q c d → IsAtEntry name p q c d
 at_entry told name t p q c d is h = subst (λ (x : Instructed). Instructs x t p q c d) is h
 
-pub at_step : (told : Instructed) (s : Step) (t : ℕ) (p q : User) (c d : Stored) → told ≡ instructed.Done s → Instructs told t p q c d → IsTurn (Done s) t p q c d
+pub at_step : (told : Instructed) (s : Step) (t : ℕ) (p q : User) (c d : Stored) → told ≡ instructed.Done s → Instructs told t p q c d → Runs (Done s) t p q c d
 at_step told s t p q c d is h = subst (λ (x : Instructed). Instructs x t p q c d) is h
 
 -- a command
-pub obeyed : (turn : Turn) (t : ℕ) (p q : User) (c d : Stored) (l : Line) (command : Command) → works_in p.inner.state ≡ false → p.inner.input ≡ None → slice_get p.unread 0 ≡ Some l → command_of l ≡ command → p.on ≡ true → p.fed ≡ 0 →
+pub obeyed : (turn : Turn) (t : ℕ) (p q : User) (c d : Stored) (l : Line) (command : Command) → works_in p.inner.state ≡ false → p.inner.debugger ≡ None → p.inner.input ≡ None → slice_get p.unread 0 ≡ Some l → command_of l ≡ command → p.on ≡ true →
     Obeys l command turn t p q c d → IsTurn turn t p q c d
-obeyed Waits t p q c d l command h none first what on none_fed row = absurd row
-obeyed (Done s) t p q c d l command h none first what on none_fed row = command_turn t p q c d l command s.ending s.clock h none first what on none_fed row
-obeyed (Asks op) t p q c d l command h none first what on none_fed row =
-    let asked = command_asked p c l command op h none first what on row.makes in
+obeyed Waits t p q c d l command h shut none first what on row = absurd row
+obeyed (Done s) t p q c d l command h shut none first what on row = command_turn t p q c d l command s.ending s.clock h shut none first what on row
+obeyed (Asks op) t p q c d l command h shut none first what on row =
+    let asked = command_asked p c l command op h shut none first what on row.makes in
     record { can = asked.0; makes = asked.1; same = row.same; store = row.store }
 
 -- steps with a reply
-pub entry_took : (t : ℕ) (r : Reply) (p q : User) (c d : Stored) (w : ℕ) (call : Result Call EntryFault) (op : CommonOp) (s : Step) → works_in p.inner.state ≡ true → p.inner.fill ≡ None → step_of p.inner.regs c.core ≡ entry w → call_of p.inner.regs c.core w ≡ call → p.on ≡ true → p.fed ≡ 0 →
-    EntryReplied call op r s.ending s.clock p q c d → IsReplied s op r t p q c d
-entry_took t r p q c d w call op s h none is what on none_fed said = entry_replied_turn t r p q c d w call op s.ending s.clock h none is what on none_fed said
+pub entry_took : (t : ℕ) (r : Reply) (p q : User) (c d : Stored) (w : ℕ) (call : Result Call EntryFault) (op : CommonOp) (s : Step) → works_in p.inner.state ≡ true → p.inner.fill ≡ None → at_break p.inner ≡ false → step_of p.inner.regs c.core ≡ entry w → call_of p.inner.regs c.core w ≡ call → p.on ≡ true →
+    EntryReplied call op r s.ending s.clock p q c d → IsReplied s op r t p (marked q) c d
+entry_took t r p q c d w call op s h none at is what on said = entry_replied_turn t r p q c d w call op s.ending s.clock h none at is what on said
 
-pub command_took : (t : ℕ) (r : Reply) (p q : User) (c d : Stored) (l : Line) (command : Command) (op : CommonOp) (s : Step) → works_in p.inner.state ≡ false → p.inner.input ≡ None → slice_get p.unread 0 ≡ Some l → command_of l ≡ command → p.on ≡ true → p.fed ≡ 0 →
+pub command_took : (t : ℕ) (r : Reply) (p q : User) (c d : Stored) (l : Line) (command : Command) (op : CommonOp) (s : Step) → works_in p.inner.state ≡ false → p.inner.debugger ≡ None → p.inner.input ≡ None → slice_get p.unread 0 ≡ Some l → command_of l ≡ command → p.on ≡ true →
     CommandReplied l command op r s.ending s.clock t p q c d → IsReplied s op r t p q c d
-command_took t r p q c d l command op s h none first what on none_fed said = command_replied_turn t r p q c d l command op s.ending s.clock h none first what on none_fed said
+command_took t r p q c d l command op s h shut none first what on said = command_replied_turn t r p q c d l command op s.ending s.clock h shut none first what on said
 
 -- what holds of an answer that is Ok
 pub ok_map : {A E : Type 0} (P Q : A → Type 0) (result : Result A E) → ((a : A) → P a → Q a) → IfOk result P → IfOk result Q

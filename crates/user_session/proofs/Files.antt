@@ -13,12 +13,7 @@ use Rattle.file_map.specs.declared.fault.PortFault.{PortFault}
 use Rattle.file_map.specs.declared.fault.PortFault.TheVariants.{Refused}
 use Rattle.file_map.specs.Answers.{Answers, Leaves}
 use Rattle.file_map.specs.Known.{known, known_of}
-use Rattle.program_model.specs.declared.LoadFault.{LoadFault}
-use Rattle.cmd_program.specs.declared.load.PrepareFault.{PrepareFault}
-use Rattle.cmd_program.specs.declared.load.PrepareFault.TheVariants.{Load}
-use Rattle.cmd_program.specs.Loads.{Prepares}
-use Rattle.cmd_files.specs.Lines.{lines_got}
-use Rattle.user_model.specs.Commands.{says, printed, input_begun, input_made}
+use Rattle.user_model.specs.Commands.{says, input_begun, input_made}
 use Rattle.user_model.specs.User.{User}
 use Rattle.user_model.specs.Answers.{IsRow}
 use Rattle.user_model.specs.Inner.{Inner, Stored}

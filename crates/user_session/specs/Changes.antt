@@ -6,7 +6,9 @@ use Rattle.file_model.specs.Files.{got, put}
 use Rattle.ctss_types.specs.declared.file.Reply.{Reply}
 use Rattle.user_model.specs.declared.Command.{Command}
 use Rattle.program_model.specs.declared.Call.{Call}
-use Rattle.user_model.specs.Commands.{changed, words_copied, command_replied}
+use Rattle.std.specs.declared.result.Result.{Result}
+use Rattle.program_model.specs.declared.ComRefusal.{ComRefusal}
+use Rattle.user_model.specs.Commands.{changed, lines_added, words_copied, command_replied}
 use Rattle.user_model.specs.Programs.{call_replied, reply_taken, step_asks}
 use Rattle.user_model.specs.User.{User, in_store}
 use Rattle.user_model.specs.Answers.{IsRow}
@@ -24,6 +26,10 @@ abbrev pub DidPut : Line → NamePair → List ℕ → Ending → Bool → ℕ �
 DidPut line name words e asked t old new before after =
     let i = (in_store before old).inner in
     IsRow true true (Some line) (changed (put name words i.account.tracks i.files) i 1 t) true e asked old new before after
+
+-- a step that took a line as a command and put lines before those unread, or said why it didn't
+abbrev pub DidFeed : Line → Result (List Line) ComRefusal → Ending → Bool → ℕ → (old new : User) → (before after : Stored) → Type 0
+DidFeed line told e asked t old new before after = IsRow true true (Some line) (lines_added told (in_store before old).inner 1 t) true e asked old new before after
 
 -- a step of a command that took the words of a common file
 abbrev pub Copies : Line → Option NamePair → List ℕ → Ending → Bool → ℕ → (old new : User) → (before after : Stored) → Type 0

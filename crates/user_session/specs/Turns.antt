@@ -1,5 +1,5 @@
 -- proof: what a turn of a user leaves, with the words of its program and its files before and after.
-use Rattle.std.specs.Prelude.{◌≡◌, ℕ, true, false, Some, None, slice_get}
+use Rattle.std.specs.Prelude.{◌≡◌, ℕ, true, false, List, Some, None, slice_get, IfOk}
 use Rattle.std.specs.declared.result.Result.{Result}
 use Rattle.program_model.specs.declared.Call.{Call}
 use Rattle.program_model.specs.declared.EntryFault.{EntryFault}
@@ -7,14 +7,19 @@ use Rattle.ctss_types.specs.declared.file.CommonOp.{CommonOp}
 use Rattle.ctss_types.specs.declared.file.Reply.{Reply}
 use Rattle.ctss_types.specs.declared.file.Reply.TheVariants as reply
 use Rattle.machine_model.specs.Machine.{step_of}
+use Rattle.machine_model.specs.Step as machine
 use Rattle.machine_model.specs.Step.{entry}
 use Rattle.time_sharing.specs.Machine.{Line}
 use Rattle.user_model.specs.declared.Command.{Command}
 use Rattle.user_model.specs.Commands.{command_asks}
 use Rattle.user_model.specs.Programs.{is_read, entry_asks}
-use Rattle.user_model.specs.Answers.{DidEntry, DidCommand}
+use Rattle.user_model.specs.Answers.{DidStep, DidEntry, DidCommand, DidDebug}
 use Rattle.user_model.specs.Inner.{Stored}
 use Rattle.user_model.specs.User.{User, can_step, asks_common, in_store, IsStep}
+use Rattle.ctss_types.specs.declared.file.FileBody.{FileBody}
+use Rattle.program_model.specs.declared.DebugLine.{DebugLine}
+use Rattle.program_model.specs.Stops.{Stops}
+use Rattle.user_session.specs.Stores.{stored}
 use Rattle.user_session.specs.declared.turn.Step.{Step}
 use Rattle.user_session.specs.declared.turn.Instructed.{Instructed}
 use Rattle.user_session.specs.declared.turn.Instructed.TheVariants as instructed
@@ -45,9 +50,21 @@ pub record IsAtEntry (name : ℕ) (old new : User) (before after : Stored) : Typ
   pub same : new ≡ old
   pub store : after ≡ before
 
+-- what the machine's step leaves, of which an open debugger doesn't know yet
+pub record StepsOn (s : Step) (now : ℕ) (old new : User) (before after : Stored) : Type 0 where
+  pub gives : machine.Step
+  pub is : step_of old.inner.regs before.core ≡ gives
+  pub did : DidStep gives s.ending s.clock now old new before after
+
+-- what a turn of a program leaves, of which an open debugger doesn't know yet
+abbrev pub Runs : Turn → ℕ → (old new : User) → (before after : Stored) → Type 0
+Runs Waits now old new before after = IsWait old new before after
+Runs (Done s) now old new before after = StepsOn s now old new before after
+Runs (Asks op) now old new before after = IsAsked op old new before after
+
 -- what an instruction leaves
 abbrev pub Instructs : Instructed → ℕ → (old new : User) → (before after : Stored) → Type 0
-Instructs (instructed.Done s) now old new before after = IsStep s.ending s.clock None now reply.Done old new before after
+Instructs (instructed.Done s) now old new before after = StepsOn s now old new before after
 Instructs (instructed.Entry name) now old new before after = IsAtEntry name old new before after
 
 -- a call that reads a line waits where none is unread
@@ -84,3 +101,9 @@ Obeys l command (Asks op) now old new before after = CommandAsks command op old 
 -- a step that made this common operation, with this reply
 abbrev pub IsReplied : Step → CommonOp → Reply → ℕ → (old new : User) → (before after : Stored) → Type 0
 IsReplied s op r now old new before after = IsStep s.ending s.clock (Some op) now r old new before after
+
+-- what a line asks of an open debugger is done, whichever files there are
+abbrev pub Debugs : {E : Type 0} → Line → DebugLine → Result Step E → (old new : User) → (before after : List ℕ) → Type 0
+Debugs l asked result old new before after =
+    (s : Stops) (fs : List FileBody) → old.inner.debugger ≡ Some s
+    → IfOk result (λ d. DidDebug l s asked d.ending d.clock old new (stored before fs) (stored after fs))

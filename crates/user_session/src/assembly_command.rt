@@ -3,6 +3,7 @@ ghost use Rattle.std.specs.Prelude.{◌≡◌, ◌<◌, ◌-◌, ◌*◌, ◌^�
 ghost use Rattle.file_model.specs.Files.{got};
 ghost use Rattle.cmd_fap.specs.Assemblies.{assembly_got};
 ghost use Rattle.user_model.specs.Answers.{DidCommand};
+ghost use Rattle.link_model.specs.Files.{module_name};
 ghost use Rattle.user_model.specs.Commands.{cards_name};
 ghost use Rattle.user_session.specs.Stores.{stored, Over, OfSome, Uses, Reads};
 ghost use Rattle.user_model.specs.declared.Command.{Command};
@@ -25,6 +26,13 @@ fn cards_name(name: Word) -> FileName
     FileName::new(name, name_word(b"FAP"))
 }
 
+/// The file that a module of this name stands in.
+fn module_name(name: Word) -> FileName
+    ensures { result ≡ module_name name }
+{
+    FileName::new(name, name_word(b"REL"))
+}
+
 impl Session {
     /// What the cards of a file make, or why it isn't read.
     fn assembly_of<P: FilePort>(
@@ -45,7 +53,7 @@ impl Session {
         }
     }
 
-    /// FAP: the deck of a file of cards is put, or the faults of the cards are printed.
+    /// FAP: the deck or the module of a file of cards is put, or the faults of the cards are printed.
     #[tactic(auto, using(user_model::proofs::CoreLaws::recut_same))]
     pub(crate) fn assemble<M: MemoryPort, P: FilePort>(
         &mut self,
@@ -73,6 +81,14 @@ impl Session {
                 files,
                 line,
                 deck_name(name),
+                words.as_slice(),
+                now,
+            ),
+            Ok(Assembly::Module(words)) => self.put_file(
+                core,
+                files,
+                line,
+                module_name(name),
                 words.as_slice(),
                 now,
             ),

@@ -46,12 +46,12 @@ impl Session {
         requires fits { self.old.own < 2 ^ 64 - 1 }
         ensures ok { OnOk result (self.new ≡ record self.old {
           unread = drop 1 self.old.unread;
+          fed = self.old.fed - 1;
           transcript = self.old.transcript
               ++ In line ∷ Out (time_text now) ∷ out_all (option_to_list text ++ ready_text 1 ∷ []);
           own = suc self.old.own;
           own_at_command = self.old.own;
         }) }
-        ensures fed { self.old.fed ≡ 0 }
         ensures err { OnErr result (self.new ≡ self.old) }
     {
         self.talk.reserve(4)?;
@@ -67,6 +67,7 @@ impl Session {
         requires fits { self.old.own < 2 ^ 64 - 1 }
         ensures ok { OnOk result (self.new ≡ record self.old {
           unread = drop 1 self.old.unread;
+          fed = self.old.fed - 1;
           transcript = self.old.transcript ++ In line ∷ Out (time_text now) ∷ Out why.now ∷ Out (ready_text 1) ∷ [];
           own = suc self.old.own;
           own_at_command = self.old.own;
@@ -102,6 +103,7 @@ impl Session {
         self.regs = Regs::new();
         self.blocks = 0;
         self.fill = None;
+        self.debugger = None;
         Ok(Turn::Done(Step {
             ending: Ending::LoggedOut,
             clock: true,
@@ -143,11 +145,11 @@ impl Session {
         ensures ok { OnOk result (self.new ≡ record self.old {
           inner = record self.old.inner { state = Working; regs = no_registers; blocks = blocks; fill = Some fill };
           unread = drop 1 self.old.unread;
+          fed = self.old.fed - 1;
           transcript = self.old.transcript ++ In line ∷ Out (time_text now) ∷ [];
           own = suc self.old.own;
           own_at_command = self.old.own;
         }) }
-        ensures fed { self.old.fed ≡ 0 }
         ensures err { OnErr result (self.new ≡ self.old) }
     {
         self.talk.reserve(2)?;
@@ -247,6 +249,10 @@ impl Session {
                 let done = self.assemble(core, files, line, name, now)?;
                 Ok(Turn::Done(done))
             }
+            Command::Link(name) => {
+                let done = self.link(core, files, line, name, now)?;
+                Ok(Turn::Done(done))
+            }
             Command::Start => Ok(Turn::Done(self.start(core, line, now)?)),
             Command::Save(name) => {
                 let done = self.save(core, files, line, name, now)?;
@@ -255,6 +261,11 @@ impl Session {
             Command::Resume(name) => self.resume(core, files, line, name, now),
             Command::Registers => Ok(Turn::Done(self.tell_registers(core, line, now)?)),
             Command::WordAt { place } => Ok(Turn::Done(self.tell_word(core, line, place, now)?)),
+            Command::Debug => Ok(Turn::Done(self.open_debugger(core, line, now)?)),
+            Command::RunFile(name) => {
+                let done = self.run_file(core, files, line, name, now)?;
+                Ok(Turn::Done(done))
+            }
             Command::BadArguments => {
                 self.say_why(line, b"BAD ARGUMENTS", now)?;
                 Ok(Turn::Done(DONE))
@@ -276,6 +287,7 @@ impl Session {
     ) -> Result<Turn, StepFault>
         requires on { self.old.on ≡ true }
         requires works { works_in self.old.inner.state ≡ false }
+        requires shut { self.old.inner.debugger ≡ None }
         requires size { length (M.words core.now) ≡ 256 * self.old.inner.blocks }
         requires port { P.Usable files.old }
         requires quota { P.quota files.old ≡ self.old.inner.account.tracks }

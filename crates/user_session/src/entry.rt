@@ -15,7 +15,8 @@ ghost use Rattle.user_model.specs.Session.{works_in};
 ghost use Rattle.user_model.specs.Texts.{ready_text, stop_text};
 ghost use Rattle.ctss_types.specs.declared.file.FileBody.{FileBody};
 ghost use Rattle.user_session.specs.Stores.{stored, Over, Uses};
-ghost use Rattle.user_session.specs.Turns.{IsTurn, Enters};
+ghost use Rattle.user_session.specs.Turns.{Enters, Runs};
+ghost use Rattle.user_model.specs.Programs.{at_break};
 
 use crate::file_entry::WENT;
 use crate::session::Session;
@@ -59,7 +60,6 @@ impl Session {
               ∷ Out (ready_text (suc self.old.own - self.old.own_at_command)) ∷ [];
           own = suc self.old.own;
         }) }
-        ensures fed { self.old.fed ≡ 0 }
         ensures err { OnErr result (self.new ≡ self.old) }
     {
         self.talk.reserve(2)?;
@@ -110,7 +110,6 @@ impl Session {
           };
           own = suc self.old.own;
         } }
-        ensures fed { self.old.fed ≡ 0 }
     {
         answer(&mut self.regs, arguments, reply, value);
         self.own += 1;
@@ -267,6 +266,7 @@ impl Session {
         self.regs = Regs::new();
         self.blocks = 0;
         self.fill = None;
+        self.debugger = None;
         Ok(Turn::Done(STOPPED))
     }
 
@@ -366,6 +366,7 @@ impl Session {
         requires on { self.old.on ≡ true }
         requires works { works_in self.old.inner.state ≡ true }
         requires filled { self.old.inner.fill ≡ None }
+        requires unbroken { at_break self.old.inner ≡ false }
         requires at { step_of self.old.inner.regs (M.words core.old) ≡ entry name }
         requires size { length (M.words core.old) ≡ 256 * self.old.inner.blocks }
         requires port { P.Usable files.old }
@@ -374,7 +375,7 @@ impl Session {
         requires time { now < 2 ^ 35 }
         ensures turn { IfOk result (λ turn. Over (P.tells files.old)
             (stored (M.words core.old) (P.files files.old)) (stored (M.words core.new) (P.files files.new))
-            (IsTurn turn now self.old self.new)) }
+            (Runs turn now self.old self.new)) }
         ensures account { self.new.inner.account ≡ self.old.inner.account }
         ensures err { OnErr result (self.new ≡ self.old) }
         ensures err_core { OnErr result (M.words core.new ≡ M.words core.old) }

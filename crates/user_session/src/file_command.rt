@@ -42,7 +42,6 @@ impl Session {
     pub(crate) fn count_command(&mut self)
         requires fits { self.old.own < 2 ^ 64 - 1 }
         ensures user { self.new ≡ record self.old { own = suc self.old.own; own_at_command = self.old.own } }
-        ensures fed { self.old.fed ≡ 0 }
     {
         self.own_at_command = self.own;
         self.own += 1;
@@ -58,11 +57,11 @@ impl Session {
         requires fits { self.old.own < 2 ^ 64 - 1 }
         ensures ok { OnOk result (self.new ≡ record self.old {
           unread = drop 1 self.old.unread;
+          fed = self.old.fed - 1;
           transcript = self.old.transcript ++ In line ∷ Out (time_text now) ∷ out_all (lines.now ++ ready_text 1 ∷ []);
           own = suc self.old.own;
           own_at_command = self.old.own;
         }) }
-        ensures fed { self.old.fed ≡ 0 }
         ensures err { OnErr result (self.new ≡ self.old) }
     {
         self.talk.reserve(lines.len() + 3)?;

@@ -8,7 +8,9 @@ ghost use Rattle.ctss_types.specs.declared.file.CommonOp.{CommonOp};
 ghost use Rattle.ctss_types.specs.declared.file.FileBody.{FileBody};
 ghost use Rattle.user_session.specs.Changes.{IsStored, IsEntryFor};
 ghost use Rattle.user_session.specs.Stores.{stored, Over, OfSome, IsToMake, Uses, Reads};
-ghost use Rattle.user_session.specs.Turns.{IsReplied, IsTurn, Instructs};
+ghost use Rattle.user_session.specs.Turns.{IsReplied, IsTurn, Instructs, Runs};
+ghost use Rattle.user_model.specs.Answers.{DidBreak, marked};
+ghost use Rattle.user_model.specs.Programs.{at_break};
 ghost use Rattle.file_model.specs.Commons.{ReplyFits};
 
 use crate::entry::STOPPED;
@@ -38,7 +40,6 @@ impl Session {
         requires fits { self.old.own < 2 ^ 64 - 1 }
         ensures ok { OnOk result (OfSome (P.tells files.old) (P.files files.old)
             (λ fs. IsStored with fs self.old self.new (M.words core.old) (M.words core.new))) }
-        ensures fed { self.old.fed ≡ 0 }
         ensures err { OnErr result (self.new ≡ self.old) }
         ensures err_core { OnErr result (M.words core.new ≡ M.words core.old) }
         ensures keeps { M.Keeps core.old core.new }
@@ -83,6 +84,7 @@ impl Session {
         requires on { self.old.on ≡ true }
         requires works { works_in self.old.inner.state ≡ true }
         requires filled { self.old.inner.fill ≡ None }
+        requires unbroken { at_break self.old.inner ≡ false }
         requires size { length (M.words core.old) ≡ 256 * self.old.inner.blocks }
         requires fits { self.old.own < 2 ^ 64 - 1 }
         ensures does { (fs : List FileBody) → IfOk result (λ done. Instructs done now self.old self.new
@@ -119,7 +121,75 @@ impl Session {
         }
     }
 
-    /// The next instruction of a program, and the supervisor entry that it comes to.
+    /// The next instruction of a program, and the supervisor entry that it comes to. An open debugger doesn't know of it yet.
+    fn go_on<M: MemoryPort, P: FilePort>(
+        &mut self,
+        core: &mut M,
+        files: &mut P,
+        now: u64,
+    ) -> Result<Turn, StepFault>
+        requires on { self.old.on ≡ true }
+        requires works { works_in self.old.inner.state ≡ true }
+        requires filled { self.old.inner.fill ≡ None }
+        requires unbroken { at_break self.old.inner ≡ false }
+        requires size { length (M.words core.old) ≡ 256 * self.old.inner.blocks }
+        requires port { P.Usable files.old }
+        requires quota { P.quota files.old ≡ self.old.inner.account.tracks }
+        requires fits { self.old.own < 2 ^ 64 - 1 }
+        requires time { now < 2 ^ 35 }
+        ensures turn { IfOk result (λ turn. Over (P.tells files.old)
+            (stored (M.words core.old) (P.files files.old)) (stored (M.words core.new) (P.files files.new))
+            (Runs turn now self.old self.new)) }
+        ensures account { self.new.inner.account ≡ self.old.inner.account }
+        ensures err { OnErr result (self.new ≡ self.old) }
+        ensures err_core { OnErr result (M.words core.new ≡ M.words core.old) }
+        ensures keeps { M.Keeps core.old core.new }
+        ensures uses { Uses P.FilePort result files.old files.new }
+    {
+        match self.instruct(core, now)? {
+            Instructed::Done(step) => Ok(Turn::Done(step)),
+            Instructed::Entry(name) => self.enter(core, files, name, now),
+        }
+    }
+
+    /// Whether a program is to stop before its next instruction.
+    fn is_at_break(&self) -> bool
+        ensures { result ≡ at_break self.now.inner }
+    {
+        match &self.debugger {
+            Some(debugger) => debugger.meets(self.regs.ic),
+            None => false,
+        }
+    }
+
+    /// A break: the program stops before its next instruction.
+    #[tactic(auto, using(user_model::proofs::CoreLaws::recut_same))]
+    fn make_break<M: MemoryPort>(&mut self, core: &M) -> Result<Step, NoMemory>
+        requires on { self.old.on ≡ true }
+        requires size { length (M.words core.now) ≡ 256 * self.old.inner.blocks }
+        requires fits { self.old.own < 2 ^ 64 - 1 }
+        ensures row { (fs : List FileBody) → IfOk result (λ s. DidBreak s.ending s.clock self.old self.new
+            (stored (M.words core.now) fs) (stored (M.words core.now) fs)) }
+        ensures account { self.new.inner.account ≡ self.old.inner.account }
+        ensures err { OnErr result (self.new ≡ self.old) }
+    {
+        self.talk.reserve(2)?;
+        let n = self.own + 1 - self.own_at_command;
+        self.talk.say_stop(b"BREAK", self.regs.ic, n);
+        self.stop();
+        Ok(STOPPED)
+    }
+
+    /// The program has done an own step: an open debugger knows.
+    fn mark(&mut self)
+        ensures { self.new ≡ marked self.old }
+    {
+        if let Some(debugger) = &mut self.debugger {
+            debugger.stepped();
+        }
+    }
+
+    /// The next step of a program that has its core: a break, or an instruction with the supervisor entry that it comes to.
     fn run<M: MemoryPort, P: FilePort>(
         &mut self,
         core: &mut M,
@@ -143,17 +213,24 @@ impl Session {
         ensures keeps { M.Keeps core.old core.new }
         ensures uses { Uses P.FilePort result files.old files.new }
     {
-        match self.instruct(core, now)? {
-            Instructed::Done(step) => Ok(Turn::Done(step)),
-            Instructed::Entry(name) => self.enter(core, files, name, now),
+        if self.is_at_break() {
+            let broken = self.make_break(core)?;
+            return Ok(Turn::Done(broken));
+        }
+        match self.go_on(core, files, now)? {
+            Turn::Done(step) => {
+                self.mark();
+                Ok(Turn::Done(step))
+            }
+            other => Ok(other),
         }
     }
 
-    /// Whether a program works, with nothing that is still to be stored.
+    /// Whether a program works without the debugger, with nothing that is still to be stored.
     fn is_at_work(&self) -> bool
         ensures { result ≡ true → IsAtWork self.now }
     {
-        self.on && works_in(self.state) && self.fill.is_none()
+        self.on && works_in(self.state) && self.fill.is_none() && self.debugger.is_none()
     }
 
     /// Does as many instructions of a program that works as go on, at most so many, and says how many steps they were.
@@ -177,6 +254,7 @@ impl Session {
         requires on { self.old.on ≡ true }
         requires works { works_in self.old.inner.state ≡ true }
         requires filled { self.old.inner.fill ≡ None }
+        requires unbroken { at_break self.old.inner ≡ false }
         requires asks { (op : CommonOp) × IsEntryFor op self.old (M.words core.old) }
         requires size { length (M.words core.old) ≡ 256 * self.old.inner.blocks }
         requires fits { self.old.own < 2 ^ 64 - 1 }
@@ -195,7 +273,9 @@ impl Session {
         let Ok(call) = read_call(&self.regs, core, name) else {
             unreachable!()
         };
-        self.call_replied(core, call, reply)
+        let step = self.call_replied(core, call, reply);
+        self.mark();
+        step
     }
 
     /// A step that made a common operation goes on with its reply, and is done.
@@ -262,6 +342,10 @@ impl Session {
             return Ok(Turn::Waits);
         }
         if !self.works() {
+            if self.is_debugged() {
+                let turn = self.debug(core, files, now)?;
+                return Ok(turn);
+            }
             return self.take_line(core, files, now);
         }
         match self.fill {

@@ -30,7 +30,7 @@ fn saved_name(name: Word) -> FileName
 
 impl Session {
     /// Whether a program stopped, and is there.
-    fn is_dormant(&self) -> bool
+    pub(crate) fn is_dormant(&self) -> bool
         ensures { result ≡ is_dormant self.now.inner.state }
     {
         is_dormant(self.state)

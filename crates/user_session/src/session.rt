@@ -1,5 +1,5 @@
-ghost use Rattle.std.specs.Prelude.{◌≡◌, ◌<◌, ◌≤◌, ◌+◌, ◌-◌, ◌^◌, ◌++◌, ◌∷◌, ◌↔◌, [], ℕ, true, false, OnOk, OnErr, IfOk, slice_get};
-ghost use Rattle.user_model.specs.Session.{first_state, works_in};
+ghost use Rattle.std.specs.Prelude.{◌≡◌, ◌<◌, ◌≤◌, ◌+◌, ◌-◌, ◌^◌, ◌++◌, ◌∷◌, ◌↔◌, [], ℕ, true, false, not, OnOk, OnErr, IfOk, slice_get};
+ghost use Rattle.user_model.specs.Session.{first_state, is_none, works_in};
 ghost use Rattle.user_model.specs.Inner.{blocks_of};
 ghost use Rattle.user_model.specs.User.{typed, opened, cut};
 ghost use Rattle.time_sharing.specs.Machine.{Quit, Hang, Spent};
@@ -8,6 +8,7 @@ ghost use Rattle.time_sharing.specs.Rows.{some_line};
 use cpu_regs::Regs;
 use ctss_types::{Account, FileName, Item, Items, LineText, NoMemory};
 use dialogue::{Dialogue, Put};
+use fap_debug::Debug;
 use program_model::{Fill, ProgramState};
 use std::alloc::Global;
 use std::marker::Model;
@@ -28,6 +29,7 @@ pub struct Session {
     pub(crate) blocks: u8,
     pub(crate) fill: Option<Fill>,
     pub(crate) input: Option<FileName>,
+    pub(crate) debugger: Option<Debug>,
 }
 
 impl Model for Session {
@@ -48,11 +50,12 @@ impl Model for Session {
         core = [];
         fill = s.fill;
         input = s.input;
+        debugger = s.debugger;
       };
       on = s.on;
       unread = s.talk.unread;
       lines = s.talk.lines;
-      fed = 0;
+      fed = s.talk.fed;
       transcript = s.talk.transcript;
       own = s.own;
       own_at_command = s.own_at_command;
@@ -90,6 +93,7 @@ impl Session {
             blocks: 0,
             fill: None,
             input: None,
+            debugger: None,
         })
     }
 
@@ -144,6 +148,13 @@ impl Session {
         self.talk.has_line()
     }
 
+    /// Whether the debugger is open.
+    pub(crate) fn is_debugged(&self) -> bool
+        ensures { result ≡ not (is_none self.now.inner.debugger) }
+    {
+        self.debugger.is_some()
+    }
+
     /// The first unread line, which stays.
     pub(crate) fn first_line(&self) -> Option<LineText>
         ensures { result ≡ slice_get self.now.unread 0 }
@@ -186,7 +197,7 @@ impl Session {
         Ok(())
     }
 
-    /// A quit: the unread lines go, INPUT is over, and a program that works stops.
+    /// A quit: the unread lines go, INPUT is over, the debugger is closed, and a program that works stops.
     #[tactic(auto, unfolding(user_model::specs::User::cut))]
     pub fn quit(&mut self) -> Result<(), NoMemory>
         ensures ok { OnOk result (self.new ≡ cut Quit self.old) }
@@ -198,6 +209,7 @@ impl Session {
         }
         self.fill = None;
         self.input = None;
+        self.debugger = None;
         Ok(())
     }
 
@@ -214,6 +226,7 @@ impl Session {
         self.blocks = 0;
         self.fill = None;
         self.input = None;
+        self.debugger = None;
         Ok(())
     }
 

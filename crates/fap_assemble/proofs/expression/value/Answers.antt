@@ -1,17 +1,18 @@
-use Rattle.std.proofs.Common.{rules, take, arith}
+use Rattle.std.proofs.Common.{rules, arith}
 use Rattle.std.proofs.lemmas.Bool.Decides.{nat_tests}
 use Rattle.std.specs.Option.{option_map}
 use Rattle.fap_read.specs.Peeled.{parts_behind, sign_byte}
 use Rattle.fap_assemble.proofs.Expressions.{stopped, finished}
+use Rattle.fap_assemble.specs.Names.{names_in}
 use Rattle.fap_assemble.proofs.expression.value.Goals as goal
 
 pub returns-in_default-term-clause-value : goal.returns-in_default-term-clause-value
 returns-in_default-term-clause-value c =
-    stopped (take c.args.visible c.args.symbols.now) c.args.place c.args.text.now c.terms.sum (option_map (λ p. (p.0, p.1.now)) c.terms.next) c.in-Some.minus c.in-Some.rest.now
+    stopped (names_in c.args.names) c.args.place c.args.text.now c.terms.sum (option_map (λ p. (p.0, p.1.now)) c.terms.next) c.in-Some.minus c.in-Some.rest.now
     c.first_term.result.0.now (parts_behind (option_map (λ p. (p.0, p.1.now)) c.first_term.result.1)) (grind (arith, nat_tests)) (search rules)
     (c.first_term.ensures.parts (sign_byte c.in-Some.minus)) (search rules) c.terms.invariant.rest
 
 pub returns-clause-value : goal.returns-clause-value
 returns-clause-value c =
-    finished (take c.args.visible c.args.symbols.now) c.args.place c.args.text.now c.terms.sum (option_map (λ p. (p.0, p.1.now)) c.terms.next) (grind (arith, nat_tests)) (search rules)
+    finished (names_in c.args.names) c.args.place c.args.text.now c.terms.sum (option_map (λ p. (p.0, p.1.now)) c.terms.next) (grind (arith, nat_tests)) (search rules)
     c.terms.invariant.rest

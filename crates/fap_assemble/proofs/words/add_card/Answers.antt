@@ -1,6 +1,6 @@
 use Rattle.std.proofs.Common.{rules, ◌≡◌, ℕ, List, subst}
 use Rattle.std.specs.Prelude.{OnOk}
-use Rattle.fap_assemble.specs.Runs.{words_in}
+use Rattle.bss_loader.specs.Runs.{words_in}
 use Rattle.fap_assemble.specs.Wholes.{whole_in}
 use Rattle.fap_assemble.proofs.CardWords.{right_said, room_said, words_read}
 use Rattle.fap_assemble.proofs.words.add_card.Goals as goal

@@ -10,6 +10,7 @@ use Rattle.user_model.specs.Programs.{step_asks, entry_asks}
 use Rattle.user_model.specs.User.{User, in_store}
 use Rattle.user_session.specs.Changes.{CallTook}
 use Rattle.user_session.specs.Stores.{stored}
+use Rattle.user_session.specs.Turns.{IsReplied}
 use Rattle.user_session.proofs.Enters.{entry_took}
 use Rattle.user_session.proofs.session.Session.entry_replied.Goals as goal
 
@@ -22,9 +23,10 @@ returns-clause-step g c = λ op fs asks.
     ∙ ap (λ (ws : List ℕ). call_of c.self.inside.regs ws c.in-Entry.name) (sym c.in-Entry.ensures.stays.1) ∙ sym c.in-Ok.ensures.value in
     let makes : entry_asks (Ok c.in-Ok.call) core ≡ Some op =
     ap (λ (x : Result Call EntryFault). entry_asks x core) (sym call) ∙ ap (λ (s : machine.Step). step_asks s (in_store (stored core []) c.args.self.now).inner) (sym found) ∙ asks in
-    let row = subst (λ (ws : List ℕ). CallTook c.in-Ok.call c.args.reply.now c.call_replied.result.ending c.call_replied.result.clock c.args.self.now c.call_replied.new.self (stored ws fs) (stored (g.M.MemoryPort.words c.call_replied.new.core) fs)) c.in-Entry.ensures.stays.1 (c.call_replied.ensures.row fs) in
-    entry_took c.args.now c.args.reply.now c.args.self.now c.call_replied.new.self (stored core fs) (stored (g.M.MemoryPort.words c.call_replied.new.core) fs) c.in-Entry.name (Ok c.in-Ok.call) op c.call_replied.result
-    c.requires.works c.requires.filled found call c.requires.on (ap (λ (u : User). u.fed) (sym c.self.view_is)) (makes, row)
+    let row = subst (λ (ws : List ℕ). CallTook c.in-Ok.call c.args.reply.now c.call_replied-step.result.ending c.call_replied-step.result.clock c.args.self.now c.call_replied-step.new.self (stored ws fs) (stored (g.M.MemoryPort.words c.call_replied-step.new.core) fs)) c.in-Entry.ensures.stays.1 (c.call_replied-step.ensures.row fs) in
+    subst (λ (q : User). IsReplied c.call_replied-step.result op c.args.reply.now c.args.now c.args.self.now q (stored core fs) (stored (g.M.MemoryPort.words c.call_replied-step.new.core) fs)) (sym c.mark.ensures)
+    (entry_took c.args.now c.args.reply.now c.args.self.now c.call_replied-step.new.self (stored core fs) (stored (g.M.MemoryPort.words c.call_replied-step.new.core) fs) c.in-Entry.name (Ok c.in-Ok.call) op c.call_replied-step.result
+    c.requires.works c.requires.filled c.requires.unbroken found call c.requires.on (makes, row))
 
 pub returns-clause-keeps : goal.returns-clause-keeps
-returns-clause-keeps g c = g.met.M.MemoryPort.goes_on _ _ _ c.in-Entry.ensures.keeps c.call_replied.ensures.keeps
+returns-clause-keeps g c = g.met.M.MemoryPort.goes_on _ _ _ c.in-Entry.ensures.keeps c.call_replied-step.ensures.keeps

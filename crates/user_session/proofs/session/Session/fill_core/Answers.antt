@@ -10,6 +10,6 @@ returns-clause-turn g c =
     over_read _ (g.M.MemoryPort.words c.args.core.now) (g.M.MemoryPort.words c.store.new.core) (g.P.FilePort.files c.args.files.now) _ _ (c.in_ok-store.ensures.reads.files (λ e. cc)) (
       told.0,
       told.1,
-      fill_turn c.args.now c.args.self.now _ _ _ c.args.with _ _ c.requires.works c.requires.waits c.requires.on c.in_ok-store.ensures.fed
+      fill_turn c.args.now c.args.self.now _ _ _ c.args.with _ _ c.requires.works c.requires.waits c.requires.on
           (refl, told.2.user, recut_same _ _ (g.met.M.MemoryPort.same_size _ _ c.in_ok-store.ensures.keeps ∙ c.requires.size) ∙ told.2.core, refl, refl, refl, tt),
     )

@@ -22,3 +22,8 @@ pub returns-in_ok-tell_word-in-WordAt-clause-row : goal.returns-in_ok-tell_word-
 returns-in_ok-tell_word-in-WordAt-clause-row g c =
     let are = g.met.P.FilePort.is_known c.args.files.now c.requires.port in
     rw c.in-WordAt.is (over_these _ _ _ _ are are (c.in_ok-tell_word-in-WordAt.ensures.row (g.P.FilePort.files c.args.files.now)))
+
+pub returns-in_ok-open_debugger-in-Debug-clause-row : goal.returns-in_ok-open_debugger-in-Debug-clause-row
+returns-in_ok-open_debugger-in-Debug-clause-row g c =
+    let are = g.met.P.FilePort.is_known c.args.files.now c.requires.port in
+    rw c.in-Debug.is (over_these _ _ _ _ are are (c.in_ok-open_debugger-in-Debug.ensures.row (g.P.FilePort.files c.args.files.now)))

@@ -16,19 +16,23 @@ pub entry_replied-requires-clause-filled : goal.entry_replied-requires-clause-fi
 entry_replied-requires-clause-filled g c =
     (asked_filled (in_store (stored (g.M.MemoryPort.words c.args.core.now) c.requires.asks.1.had) c.args.self.now) c.requires.asks.0 (sym c.works.ensures ∙ c.if-works.true) c.requires.asks.1.makes).0
 
+pub entry_replied-requires-clause-unbroken : goal.entry_replied-requires-clause-unbroken
+entry_replied-requires-clause-unbroken g c =
+    (asked_filled (in_store (stored (g.M.MemoryPort.words c.args.core.now) c.requires.asks.1.had) c.args.self.now) c.requires.asks.0 (sym c.works.ensures ∙ c.if-works.true) c.requires.asks.1.makes).1
+
 pub entry_replied-requires-clause-asks : goal.entry_replied-requires-clause-asks
 entry_replied-requires-clause-asks g c =
     let core = g.M.MemoryPort.words c.args.core.now in (
       c.requires.asks.0,
       asks_anywhere (step_of c.args.self.now.inner.regs core) core [] c.requires.asks.1.had c.args.self.now
-          ∙ (asked_filled (in_store (stored core c.requires.asks.1.had) c.args.self.now) c.requires.asks.0 (sym c.works.ensures ∙ c.if-works.true) c.requires.asks.1.makes).1,
+          ∙ (asked_filled (in_store (stored core c.requires.asks.1.had) c.args.self.now) c.requires.asks.0 (sym c.works.ensures ∙ c.if-works.true) c.requires.asks.1.makes).2,
     )
 
 pub returns-then-works-clause-step : goal.returns-then-works-clause-step
 returns-then-works-clause-step g c = λ op asks.
     let core = g.M.MemoryPort.words c.args.core.now in
     let is = asks_anywhere (step_of c.args.self.now.inner.regs core) core [] asks.had c.args.self.now
-    ∙ (asked_filled (in_store (stored core asks.had) c.args.self.now) op (sym c.works.ensures ∙ c.if-works.true) asks.makes).1 in
+    ∙ (asked_filled (in_store (stored core asks.had) c.args.self.now) op (sym c.works.ensures ∙ c.if-works.true) asks.makes).2 in
     record { had = asks.had; has = asks.had; was = asks.was; now = asks.was; does = c.entry_replied.ensures.step op asks.had is }
 
 pub unreachable-requires : goal.unreachable-requires
@@ -46,13 +50,13 @@ returns-clause-step g c = λ op asks.
     let p : User = in_store (stored core asks.had) c.args.self.now in
     let idle : works_in c.args.self.now.inner.state ≡ false = sym c.works.ensures ∙ c.if-works.false in
     let asked = asked_command p op c.in-Some.line idle (sym c.in-Some.ensures) asks.makes in
-    let makes : command_asks c.command_of.result p.inner ≡ Some op = ap (λ (d : Command). command_asks d p.inner) c.command_of.ensures ∙ asked.1 in
+    let makes : command_asks c.command_of.result p.inner ≡ Some op = ap (λ (d : Command). command_asks d p.inner) c.command_of.ensures ∙ asked.2 in
     ok_map _ _ c.copy_replied.result
     (λ s row. record {
       had = asks.had;
       has = row.0;
       was = asks.was;
       now = row.1;
-      does = command_took c.args.now c.args.reply.now c.args.self.now c.copy_replied.new.self (stored core asks.had) (stored core row.0) c.in-Some.line c.command_of.result op s idle asked.0 (sym c.in-Some.ensures) (sym c.command_of.ensures) (asked_on p asks.can) (ap (λ (u : User). u.fed) (sym c.self.view_is)) (makes, row.2);
+      does = command_took c.args.now c.args.reply.now c.args.self.now c.copy_replied.new.self (stored core asks.had) (stored core row.0) c.in-Some.line c.command_of.result op s idle asked.0 asked.1 (sym c.in-Some.ensures) (sym c.command_of.ensures) (asked_on p asks.can) (makes, row.2);
     })
     (c.copy_replied.ensures.row asks.had asks.was)

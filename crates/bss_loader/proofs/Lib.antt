@@ -1,0 +1,4 @@
+pub mod Runs
+pub mod Words
+pub mod Names
+pub mod Links

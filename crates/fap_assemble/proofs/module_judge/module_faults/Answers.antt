@@ -1,0 +1,49 @@
+use Rattle.std.proofs.Common.{rules, arith, ◌+◌, ◌∙◌, ◌++◌, ◌∷◌, [], take, drop, sym, ap, refl, List, ℕ}
+use Rattle.link_model.specs.Moves.{Moved}
+use Rattle.fap_assemble.specs.Steps.{texts}
+use Rattle.fap_assemble.specs.Follows.{numbered}
+use Rattle.fap_assemble.specs.Judging.{past_of, relocated_in, moved_at, module_fault_by}
+use Rattle.fap_assemble.specs.ModuleFollows.{moved_by_cards}
+use Rattle.fap_assemble.proofs.Judging.{past_next, fault_same, past_entries, past_entry_cards, past_externs, past_extern_cards}
+use Rattle.fap_assemble.proofs.ModuleFollows.{seen_moved, faults_rest, moved_taken, stands_taken, texts_taken, fault_here}
+use Rattle.fap_assemble.proofs.module_judge.module_faults.Goals as goal
+
+pub with-requires-clause-entries : goal.with-requires-clause-entries
+with-requires-clause-entries c = past_entries c.args.cards.now c.loop-card.card-index c.loop-card.past c.loop-card.invariant.past (omega (arith, c.requires.few))
+
+pub with-requires-clause-entry_cards : goal.with-requires-clause-entry_cards
+with-requires-clause-entry_cards c = past_entry_cards c.args.cards.now c.loop-card.card-index c.loop-card.past c.loop-card.invariant.past (omega (arith, c.requires.few))
+
+pub with-requires-clause-externs : goal.with-requires-clause-externs
+with-requires-clause-externs c = past_externs c.args.cards.now c.loop-card.card-index c.loop-card.past c.loop-card.invariant.past (omega (arith, c.requires.few))
+
+pub with-requires-clause-extern_cards : goal.with-requires-clause-extern_cards
+with-requires-clause-extern_cards c = past_extern_cards c.args.cards.now c.loop-card.card-index c.loop-card.past c.loop-card.invariant.past (omega (arith, c.requires.few))
+
+pub loop-card-preserved : goal.loop-card-preserved
+loop-card-preserved c =
+    let r = c.args.r.now in
+    let cards = c.args.cards.now in
+    let i = c.loop-card.card-index in
+    let text = c.as_slice-text.result.now in
+    let so_far = texts (take c.loop-card.card-index c.args.cards.now) in
+    let m = moved_by_cards c.args.r.now.externs (texts (take c.loop-card.card-index c.args.cards.now)) in
+    record {
+      rest = faults_rest (relocated_in r) cards i c.card-item.result text m (moved_by_cards r.externs (texts (take (i + 1) cards))) so_far (texts (take (i + 1) cards))
+          c.loop-card.number (c.loop-card.number + 1) _ (numbered c.loop-card.faults) (numbered c.judge_card.new.faults) _
+          c.loop-card-test.true c.card-item.is c.as_slice-text.ensures c.loop-card.invariant.rest
+          (fault_here r c.loop-card.spot cards i c.card-item.result text c.loop-card.past (module_fault_by (relocated_in r) c.loop-card.past (moved_at r c.loop-card.spot) text)
+          c.loop-card-test.true c.card-item.is c.as_slice-text.ensures c.loop-card.invariant.stands c.loop-card.invariant.past refl)
+          c.in_ok-judge_card.ensures
+          (moved_taken r.externs cards i c.card-item.result text c.loop-card-test.true c.card-item.is c.as_slice-text.ensures)
+          (texts_taken cards i c.card-item.result c.loop-card-test.true c.card-item.is ∙ ap (λ (x : List ℕ). so_far ++ x ∷ []) (sym c.as_slice-text.ensures))
+          refl;
+      past = past_next so_far text c.loop-card.past c.in_ok-more.more c.loop-card.invariant.past c.in_ok-more.ensures
+          ∙ ap past_of (sym (texts_taken cards i c.card-item.result c.loop-card-test.true c.card-item.is ∙ ap (λ (x : List ℕ). so_far ++ x ∷ []) (sym c.as_slice-text.ensures)));
+      stands = stands_taken r c.loop-card.spot c.in_ok-next.next cards i c.card-item.result text c.loop-card-test.true c.card-item.is c.as_slice-text.ensures
+          c.loop-card.invariant.stands c.in_ok-next.ensures.place c.in_ok-next.ensures.visible c.in_ok-next.ensures.weighed;
+      number = omega (arith, c.loop-card.invariant.number);
+      place = omega (arith, c.loop-card.invariant.place, c.in_ok-next.ensures.near);
+      visible = omega (arith, c.loop-card.invariant.visible, c.in_ok-next.ensures.few);
+      weighed = omega (arith, c.loop-card.invariant.weighed, c.in_ok-next.ensures.fewer);
+    }

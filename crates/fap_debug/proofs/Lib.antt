@@ -1,0 +1,2 @@
+pub mod Octals
+pub mod Places

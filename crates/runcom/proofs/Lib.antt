@@ -1,0 +1,2 @@
+pub mod LinesMade
+pub mod Parts

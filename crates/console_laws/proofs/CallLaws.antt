@@ -10,10 +10,12 @@ use Rattle.console_link.specs.declared.link.LinkGot.TheVariants as got
 use Rattle.console_link.specs.declared.link.LinkTook.{LinkTook}
 use Rattle.console_link.specs.declared.link.LinkTook.TheVariants as took
 use Rattle.console_link.specs.Links.{CallList, Done, DidAccept, DidClose, DidWrite, with_call, call_of}
-use Rattle.console_server.specs.Readings.{Gave, did_read, Nothing, Then, MayStop, IsReading}
-use Rattle.console_server.specs.Turns.{Talk, HeardOf, Told, Wrote, MayPut, IsPutting, IsHeard, AreHeard, IsToldOf, AreTold, if_over, free_from, put_first, talk_of, seats_with, calls_of_new, calls_accepted, seated, last_accept, calls_heard, all_calls_heard, all_seats_after, calls_told, all_calls_told, seats_to_read, seats_to_write}
-use Rattle.console_server.proofs.DeskLaws.{false_is}
-use Rattle.console_laws.specs.Laws.{FewCalls, CallsAreTold}
+use Rattle.console_server.specs.Readings.{Gave, did_read, Nothing, Then, MayStop, IsReading, GoesOn, ReadsOn}
+use Rattle.console_server.specs.Turns.{Talk, Desk, HeardOf, Told, Wrote, TurnAnswers, MayPut, IsPutting, IsHeard, AreHeard, IsHeardPart, AreHeardUntil, IsToldOf, AreTold, if_over, free_from, put_first, talk_of, seats_with, calls_of_new, calls_accepted, seated, last_accept, calls_heard, all_calls_heard, all_seats_after, calls_told, all_calls_told, all_seats_told, seats_to_read, seats_to_write, calls_of_turn, desk_after}
+use Rattle.console_server.specs.Server.{Waiting, Hanging, Accepting, Dialling, Reading, Advancing, calls_to_read}
+use Rattle.console_server.specs.Conversation.{calls_of_turns}
+use Rattle.console_server.proofs.DeskLaws.{false_is, none_called}
+use Rattle.console_laws.specs.Laws.{FewCalls, FewCallsUntil, FewCallsInTurns, CallsAreTold}
 
 -- reads and writes
 
@@ -29,6 +31,16 @@ few_reads over (r ∷ reads) left h = by_answer r.answer (λ n k. few_reads over
     by_answer got.End more m = omega (arith, none_left reads m.2, h.0)
     by_answer got.NotYet more m = omega (arith, none_left reads m.2, h.0)
     by_answer got.Failed more m = omega (arith, none_left reads m.2, h.0)
+
+few_reads_on : (reads : List Gave) (left rest : ℕ) → ReadsOn reads left rest → length reads ≤ left
+few_reads_on [] left rest h = omega arith
+few_reads_on (r ∷ reads) left rest h = by_answer r.answer (λ n k. few_reads_on reads n rest k) h.1
+  where
+    by_answer : (answer : LinkGot) → ((n : ℕ) → ReadsOn reads n rest → length reads ≤ n) → GoesOn answer left r.bytes (λ n. ReadsOn reads n rest) → suc (length reads) ≤ left
+    by_answer (got.Bytes n) more m = omega (arith, m.0, m.1, more (left - n) m.3)
+    by_answer got.End more m = false_is m
+    by_answer got.NotYet more m = false_is m
+    by_answer got.Failed more m = false_is m
 
 few_puts : (lost : Bool) (puts : List Wrote) (may : ℕ) (rest : List ℕ) → IsPutting lost puts may rest → length puts ≤ may
 few_puts lost [] may rest h = omega arith
@@ -47,10 +59,23 @@ few_heard : (s : Option Talk) (reads : List Gave) (over : Bool) → IsHeard s re
 few_heard None reads over h = omega arith
 few_heard (Some t) reads over h = omega (arith, length-append (map (did_read t.id) reads) (if_over over (DidClose t.id ∷ [])), length-map reads (did_read t.id), few_reads over reads 1024 h, one_close over (DidClose t.id))
 
+-- a console that was read in part
+few_heard_part : (s : Option Talk) (reads : List Gave) (over : Bool) → IsHeardPart s reads over → length (calls_heard s reads over) ≤ 1025
+few_heard_part None reads over h = omega arith
+few_heard_part (Some t) reads true h = few_heard (Some t) reads true h
+few_heard_part (Some t) reads false h = omega (arith, length-append (map (did_read t.id) reads) [], length-map reads (did_read t.id), few_reads_on reads 1024 h.0 h.1)
+
 few_all_heard : (seats : List (Option Talk)) (hs : List HeardOf) → AreHeard seats hs → length (all_calls_heard seats hs) ≤ 1025 * length seats
 few_all_heard [] hs h = omega arith
 few_all_heard (s ∷ seats) [] h = false_is h
 few_all_heard (s ∷ seats) (x ∷ hs) h = omega (arith, length-append (calls_heard s x.reads x.over) (all_calls_heard seats hs), few_heard s x.reads x.over h.0, few_all_heard seats hs h.1)
+
+few_heard_until : (seats : List (Option Talk)) (hs : List HeardOf) → AreHeardUntil seats hs → length (all_calls_heard seats hs) ≤ 1025 * length seats
+few_heard_until [] hs h = omega arith
+few_heard_until (s ∷ seats) [] h = false_is h
+few_heard_until (s ∷ seats) (x ∷ []) h =
+    omega (arith, length-append (calls_heard s x.reads x.over) (all_calls_heard seats []), ap length (none_called seats), few_heard_part s x.reads x.over h)
+few_heard_until (s ∷ seats) (x ∷ y ∷ hs) h = omega (arith, length-append (calls_heard s x.reads x.over) (all_calls_heard seats (y ∷ hs)), few_heard s x.reads x.over h.0, few_heard_until seats (y ∷ hs) h.1)
 
 abbrev did_put : ℕ → Wrote → Done
 did_put id p = DidWrite id p.answer p.bytes
@@ -95,6 +120,11 @@ after_length [] hs = refl
 after_length (s ∷ seats) [] = refl
 after_length (s ∷ seats) (h ∷ hs) = ap suc (after_length seats hs)
 
+told_length : (seats : List (Option Talk)) (ts : List Told) → length (all_seats_told seats ts) ≡ length seats
+told_length [] ts = refl
+told_length (s ∷ seats) [] = refl
+told_length (s ∷ seats) (t ∷ ts) = ap suc (told_length seats ts)
+
 pub few_calls : FewCalls
 few_calls texts shown desk turn many is =
     let first = seats_to_read texts desk turn in
@@ -106,6 +136,43 @@ few_calls texts shown desk turn many is =
     let one : length first ≡ length desk.seats = seated_length texts desk.seats turn.accepts in
     let two : length second ≡ length first = after_length first turn.heard in
     omega (arith, length-append ns (ls ++ (hs ++ ts)), length-append ls (hs ++ ts), length-append hs ts, few_accepts texts desk.seats turn.accepts, one_last turn.accepts, few_all_heard first turn.heard is.heard, few_all_told shown 0 second turn.told is.told, is.accepts)
+
+-- a turn that failed
+
+few_to_read : (texts : List (List ℕ)) (desk : Desk) (turn : TurnAnswers) → length desk.seats ≡ 32 → length turn.accepts ≤ 32 →
+    length (all_calls_heard (seats_to_read texts desk turn) turn.heard) ≤ 1025 * length (seats_to_read texts desk turn) → length (calls_to_read texts desk turn) ≤ 164000
+few_to_read texts desk turn many few heard =
+    let ns = calls_accepted texts desk.seats turn.accepts in
+    let ls = last_accept turn.accepts in
+    let hs = all_calls_heard (seats_to_read texts desk turn) turn.heard in
+    omega (arith, length-append ns (ls ++ hs), length-append ls hs, few_accepts texts desk.seats turn.accepts, one_last turn.accepts, seated_length texts desk.seats turn.accepts, heard, few, many)
+
+pub few_calls_until : FewCallsUntil
+few_calls_until texts desk turn Waiting many is = omega arith
+few_calls_until texts desk turn Hanging many is = omega arith
+few_calls_until texts desk turn Accepting many is =
+    omega (arith, length-append (calls_accepted texts desk.seats turn.accepts) (DidAccept accepted.Failed ∷ []), few_accepts texts desk.seats turn.accepts, is)
+few_calls_until texts desk turn Dialling many is = omega (arith, few_accepts texts desk.seats turn.accepts, is)
+few_calls_until texts desk turn Reading many is = few_to_read texts desk turn many is.0 (few_heard_until (seats_to_read texts desk turn) turn.heard is.1)
+few_calls_until texts desk turn Advancing many is = few_to_read texts desk turn many is.0 (few_all_heard (seats_to_read texts desk turn) turn.heard is.1)
+
+-- turns one after another
+
+pub desk_length : (texts : List (List ℕ)) (desk : Desk) (turn : TurnAnswers) → length (desk_after texts desk turn).seats ≡ length desk.seats
+desk_length texts desk turn =
+    told_length (seats_to_write texts desk turn) turn.told ∙ after_length (seats_to_read texts desk turn) turn.heard ∙ seated_length texts desk.seats turn.accepts
+
+pub few_calls_in_turns : FewCallsInTurns
+few_calls_in_turns texts desk [] many are = omega arith
+few_calls_in_turns texts desk (t ∷ turns) many are =
+    let next = desk_after texts desk t.answers in
+    let here = calls_of_turn texts desk t.answers in
+    omega (
+      arith,
+      length-append here (calls_of_turns t.shown next turns),
+      few_calls texts t.shown desk t.answers many are.0,
+      few_calls_in_turns t.shown next turns (desk_length texts desk t.answers ∙ many) are.1.1,
+    )
 
 -- the list of calls
 

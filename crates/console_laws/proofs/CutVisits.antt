@@ -1,7 +1,7 @@
 -- The visits of turns and of one that failed.
-use Rattle.std.specs.Prelude.{true, false, ◌^◌, length, take, drop, get_or, Some, None}
-use Rattle.std.specs.List.{All, Contains}
-use Rattle.std.proofs.Common.{◌≡◌, ℕ, zero, suc, ◌-◌, ◌*◌, ◌<◌, ◌≤◌, List, [], ◌∷◌, ◌++◌, refl, sym, ◌∙◌, ap, subst}
+use Rattle.std.specs.Prelude.{Bool, true, false, length, take, drop, replicate, get_or, Some, None}
+use Rattle.std.specs.List.{All, Contains, list_any}
+use Rattle.std.proofs.Common.{◌≡◌, ℕ, zero, suc, ◌-◌, ◌*◌, ◌≤◌, List, [], ◌∷◌, ◌++◌, refl, sym, ◌∙◌, ap, subst}
 use Rattle.std.proofs.lemmas.List.{append_assoc, append-nil, take-append-drop, take_at, drop_at}
 use Rattle.ctss_types.specs.declared.script.Event.{Event}
 use Rattle.ctss_types.specs.declared.script.Timed.{Timed}
@@ -11,18 +11,19 @@ use Rattle.live_core.specs.Core.{Grows}
 use Rattle.console_server.specs.Readings.{DidAll}
 use Rattle.console_server.specs.Turns.{Desk, HeardOf, TurnAnswers, end_of, hangs, dials, seated, calls_accepted, last_accept, all_calls_heard, all_events_heard, seats_to_write, events_of_turn}
 use Rattle.console_server.specs.History.{events_in}
-use Rattle.console_server.specs.Server.{CutAt, Waiting, Hanging, Accepting, Dialling, Reading, Advancing, calls_until, GivenUntil}
-use Rattle.console_server.specs.Conversation.{TurnSeen, calls_of_turns, events_of_turns, desk_behind, texts_behind}
-use Rattle.console_server.specs.Visits.{Visit, events_at}
+use Rattle.console_server.specs.Server.{CutAt, Waiting, Hanging, Accepting, Dialling, Reading, Advancing, calls_until, IsTurnUntil, GivenUntil}
+use Rattle.console_server.specs.Conversation.{TurnSeen, AreTurns, calls_of_turns, events_of_turns, desk_behind, texts_behind}
+use Rattle.console_server.specs.Visits.{Visit, events_at, AreCountable}
 use Rattle.console_server.proofs.DeskLaws.{none_called}
 use Rattle.console_server.proofs.HistoryLaws.{texts_end}
 use Rattle.console_laws.specs.VisitLaws.{accepted_in, accepted_each, accepted_until, CutEventsAreVisits}
-use Rattle.console_laws.proofs.Watching.{Watch, watched, all_watched, IsNow, Watched}
+use Rattle.console_laws.proofs.Watching.{Watch, none_heard, watched, all_watched, IsNow, Watched}
 use Rattle.console_laws.proofs.AtConsole.{at_both}
 use Rattle.console_laws.proofs.VisitSteps.{turn_read}
 use Rattle.console_laws.proofs.Passing.{passed_all, tells_still, tells_same, did_split}
 use Rattle.console_laws.proofs.KeptSteps.{Kept, accept_quiet, kept_read}
-use Rattle.console_laws.proofs.Visiting.{Came, came_still, all_came, heard_turns, kept_turns, grows_none, short_at, nothing_watched, nothing_kept, nothing_at, visits_of, all_heard, all_in_order, all_places, all_taken, all_sent}
+use Rattle.console_laws.proofs.EndSteps.{HasEnded, any_back, EndsRead, none_heard_end, all_heard_end, until_heard_end, any_watched, none_ended, ended_read, ended_turns}
+use Rattle.console_laws.proofs.Visiting.{Came, came_still, all_came, heard_turns, kept_turns, grows_none, short_at, nothing_watched, nothing_kept, nothing_at, visits_of, all_heard, all_in_order, all_places, all_taken, all_sent, all_ended}
 
 -- what the link answered until then
 
@@ -91,6 +92,26 @@ module _ (console : ℕ) (whole : List ℕ) (one : 1 ≤ console) (n : ℕ) (tex
       kept_read console whole one n texts grows desk (until turn at) (first_call at ∷ []) (last_call turn at) a b w (first_quiet at) (last_quiet turn at) tells
       (subst (λ (ds : List Done). DidAll ds a b) (calls_are texts desk turn at) did) now h
 
+-- a console that was read to its connection's end
+ends_until : (i : ℕ) (texts : List (List ℕ)) (desk : Desk) (turn : TurnAnswers) (at : CutAt) → IsTurnUntil texts desk turn at →
+    EndsRead (get_or (seated texts desk.seats (accepted_until turn at)) i None) (get_or (heard_until turn at) i none_heard).reads (get_or (heard_until turn at) i none_heard).over
+ends_until i texts desk turn Waiting is = none_heard_end i (seated texts desk.seats [])
+ends_until i texts desk turn Hanging is = none_heard_end i (seated texts desk.seats [])
+ends_until i texts desk turn Accepting is = none_heard_end i (seated texts desk.seats turn.accepts)
+ends_until i texts desk turn Dialling is = none_heard_end i (seated texts desk.seats turn.accepts)
+ends_until i texts desk turn Reading is = until_heard_end i (seated texts desk.seats turn.accepts) turn.heard is.1
+ends_until i texts desk turn Advancing is = all_heard_end i (seated texts desk.seats turn.accepts) turn.heard is.1
+
+-- the calls of the reads are among those until then
+within_until : (texts : List (List ℕ)) (desk : Desk) (turn : TurnAnswers) (at : CutAt) (p : Done → Bool) → list_any p (all_calls_heard (seated texts desk.seats (accepted_until turn at)) (heard_until turn at)) ≡ true →
+    list_any p (calls_until texts desk turn at) ≡ true
+within_until texts desk turn at p k =
+    let news = calls_accepted texts desk.seats (accepted_until turn at) in
+    let last = last_call turn at in
+    let heard = all_calls_heard (seated texts desk.seats (accepted_until turn at)) (heard_until turn at) in
+    subst (λ (ds : List Done). list_any p ds ≡ true) (sym (calls_are texts desk turn at))
+    (any_back p (first_call at ∷ []) (news ++ (last ++ heard)) (any_back p news (last ++ heard) (any_back p last heard k)))
+
 -- the events that were given until then, and the rest of what came
 
 abbrev IfAdvancing : CutAt → Type 0 → Type 0
@@ -149,7 +170,7 @@ accepted_last zero (u ∷ turns) t = refl
 accepted_last (suc k) (u ∷ turns) t = accepted_last k turns t
 
 pub cut_events_are_visits : CutEventsAreVisits
-cut_events_are_visits console texts desk turns answers at events a c one free unlost lawful shorts did given =
+cut_events_are_visits console texts desk turns answers at events a c one free unlost lawful did given =
     let i = console - 1 in
     let n = length turns in
     let here = texts_behind texts turns in
@@ -159,14 +180,13 @@ cut_events_are_visits console texts desk turns answers at events a c one free un
     let all = turns ++ last ∷ [] in
     let ends : texts_behind texts all ≡ here = texts_end texts turns last in
     let whole = get_or (texts_behind texts all) i [] in
-    let short : length whole < 2 ^ 64 = subst (λ (l : List (List ℕ)). length (get_or l i []) < 2 ^ 64) (sym ends) (short_at i here shorts) in
     let grows : Grows (get_or here i []) whole = subst (λ (l : List (List ℕ)). Grows (get_or here i []) (get_or l i [])) (sym ends) (grows_none (get_or here i [])) in
-    let P = Came console one texts all short in
+    let P = Came console one texts all in
     let start : Watched P (get_or desk.seats i None) (get_or desk.failed i false) [] nothing_watched = nothing_at P i desk free unlost in
     let before = events_in (events_of_turns 0 texts desk turns) in
     let w = all_watched console 0 texts desk turns nothing_watched in
     let h : Watched P (get_or left.seats i None) (get_or left.failed i false) (events_at console before) w =
-    heard_turns console one texts all short 0 texts desk turns (last ∷ []) [] nothing_watched refl refl lawful start in
+    heard_turns console one texts all 0 texts desk turns (last ∷ []) [] nothing_watched refl refl lawful start in
     let behind : last ∷ [] ≡ drop n all = sym (drop_at turns (last ∷ []) n refl) in
     let there : here ≡ texts_behind texts (take n all) = ap (texts_behind texts) (sym (take_at turns (last ∷ []) n refl)) in
     let full = events_of_turn (1000 * n) here left cut in
@@ -174,14 +194,18 @@ cut_events_are_visits console texts desk turns answers at events a c one free un
     let seats = seats_to_write here left cut in
     let end = watched console n here left cut w in
     let read : Watched P (get_or seats i None) false heard end =
-    turn_read console P (came_still console one texts all short) one n here (1000 * n) left cut (events_at console before) w (all_came console one texts all short n here last [] behind there) h in
+    turn_read console P (came_still console one texts all) one n here (1000 * n) left cut (events_at console before) w (all_came console one texts all n here last [] behind there) h in
+    let over : IsTurnUntil here left answers at → All (HasEnded (calls_of_turns texts desk turns ++ calls_until here left answers at)) end.past = λ lawful_until.
+    ended_read console one n here left cut (calls_of_turns texts desk turns) (calls_until here left answers at) (events_at console before) w (ends_until i here left answers at lawful_until) (within_until here left answers at)
+    (any_watched P (get_or left.seats i None) (get_or left.failed i false) (events_at console before) w h)
+    (ended_turns console one 0 texts desk turns [] [] nothing_watched lawful (any_watched P (get_or desk.seats i None) (get_or desk.failed i false) [] nothing_watched start) (none_ended (get_or desk.failed i false))) in
     let rest = rest_until (1000 * n) here left answers at events given in
     let places = all_places P (get_or seats i None) false heard end read in
     let parts = did_split (calls_of_turns texts desk turns) (calls_until here left answers at) a c did in
     let kept : c.tells ≡ true → Kept console whole c seats end = λ tells.
     let told : a.tells ≡ true = sym (tells_same (calls_of_turns texts desk turns ++ calls_until here left answers at) a c did) ∙ tells in
     let kept_before : Kept console whole parts.0 left.seats w =
-    kept_turns console one texts all short 0 texts desk turns (last ∷ []) a parts.0 [] nothing_watched refl refl lawful (sym ends) told parts.1 start (nothing_kept console whole a desk free) in
+    kept_turns console one texts all 0 texts desk turns (last ∷ []) a parts.0 [] nothing_watched refl refl lawful (sym ends) told parts.1 start (nothing_kept console whole a desk free) in
     kept_until console whole one n here grows left answers at parts.0 c w (tells_still (calls_of_turns texts desk turns) a parts.0 told parts.1) parts.2 h.now kept_before in (
       visits_of end,
       events_at console rest.0,
@@ -193,9 +217,11 @@ cut_events_are_visits console texts desk turns answers at events a c one free un
         order = all_in_order P (get_or seats i None) false heard end read;
         places = λ k d lt. (places k d lt).place ∙ ap (λ (l : List (List ℕ)). end_of l (Some console)) (texts_taken (get_or (visits_of end) k d).turn texts turns last refl);
         taken = λ tells. all_taken console whole c seats end (kept tells);
-        sent = λ tells. subst
-            (λ (l : List (List ℕ)). All (λ (v : Visit). (c.passed v.id).sent ≡ take (length (c.passed v.id).sent) (drop v.place (get_or l i []))) (visits_of end)) ends (all_sent console whole c seats end (kept tells));
+        sent = λ tells short. subst
+            (λ (l : List (List ℕ)). All (λ (v : Visit). (c.passed v.id).sent ≡ take (length (c.passed v.id).sent) (drop v.place (get_or l i []))) (visits_of end)) ends
+            (all_sent console whole c seats end (short_at i (texts_behind texts all) (subst AreCountable (sym ends) short)) (kept tells));
       },
       λ k d lt. subst (λ (l : List ℕ). Contains l (get_or (visits_of end) k d).id) (accepted_last (get_or (visits_of end) k d).turn turns last) (places k d lt).number,
+      λ lawful_until. all_ended P (calls_of_turns texts desk turns ++ calls_until here left answers at) (get_or seats i None) false heard end read (over lawful_until),
       λ is. ap (events_at console) (subst (λ (x : CutAt). IfAdvancing x (rest.0 ≡ [])) is rest.2),
     )

@@ -64,20 +64,28 @@ begins_longer place ys text whole rest grows begins is = by_place (decide place 
             not_cons y zs f = cc
 
 module _ (console : ℕ) (whole : List ℕ) where
+  -- a count of bytes can hold the text's length
+  abbrev pub IsShort : Type 0
+  IsShort = length whole < 2 ^ 64
+
   -- what passed over a visit's connection
   pub record Carried (s : LinkSeen) (v : Visit) : Type 0 where
     pub given : WasGiven s v.id
     pub taken : (s.passed v.id).taken ≡ v.bytes
-    pub sent : Begins (s.passed v.id).sent (drop v.place whole)
+    pub sent : IsShort → Begins (s.passed v.id).sent (drop v.place whole)
 
   pub record IsOver (s : LinkSeen) (seats : List (Option Talk)) (v : Visit) : Type 0 where
     pub carried : Carried s v
     pub apart : (j : ℕ) → IsApart v.id (get_or seats j None)
 
+  -- it is sent its text from there on
+  abbrev pub IsPlaceOf : LinkSeen → Visit → Talk → Type 0
+  IsPlaceOf s v t = (t.place ≡ v.place + length (s.passed v.id).sent) × (t.place ≤ length whole)
+
   -- the seat of the visit that isn't over
   abbrev pub IsSeatOf : LinkSeen → Visit → Option Talk → Type 0
   IsSeatOf s v None = Unit {0}
-  IsSeatOf s v (Some t) = (t.id ≡ v.id) × (t.place ≡ v.place + length (s.passed v.id).sent) × (t.place ≤ length whole)
+  IsSeatOf s v (Some t) = (t.id ≡ v.id) × (IsShort → IsPlaceOf s v t)
 
   pub record IsOn (s : LinkSeen) (seats : List (Option Talk)) (v : Visit) : Type 0 where
     pub carried : Carried s v
@@ -94,12 +102,12 @@ module _ (console : ℕ) (whole : List ℕ) where
       record {
         given = given v.id c.given;
         taken = ap (λ (p : Passed). p.taken) is ∙ c.taken;
-        sent = (c.sent.0, c.sent.1 ∙ ap (λ (p : Passed). p.sent ++ c.sent.0) (sym is));
+        sent = λ short. let rest = c.sent short in (rest.0, rest.1 ∙ ap (λ (p : Passed). p.sent ++ rest.0) (sym is));
       }
 
   seat_still : (a b : LinkSeen) (v : Visit) (o : Option Talk) → b.passed v.id ≡ a.passed v.id → IsSeatOf a v o → IsSeatOf b v o
   seat_still a b v None is h = tt
-  seat_still a b v (Some t) is h = (h.0, h.1 ∙ ap (λ (p : Passed). v.place + length p.sent) (sym is), h.2)
+  seat_still a b v (Some t) is h = (h.0, λ short. ((h.1 short).0 ∙ ap (λ (p : Passed). v.place + length p.sent) (sym is), (h.1 short).1))
 
   on_more : (Q R : ℕ → Type 0) (o : Option Talk) → ((k : ℕ) → Q k → R k) → OnSeat Q o → OnSeat R o
   on_more Q R None f h = tt
@@ -209,7 +217,7 @@ module _ (console : ℕ) (whole : List ℕ) where
                     carried = record {
                       given = heard_given v.id on.carried.given;
                       taken = ap (λ (p : Passed). p.taken) passed ∙ ap (λ (l : List ℕ). l ++ bytes_of reads) on.carried.taken;
-                      sent = (on.carried.sent.0, on.carried.sent.1 ∙ ap (λ (p : Passed). p.sent ++ on.carried.sent.0) (sym passed));
+                      sent = λ short. let rest = on.carried.sent short in (rest.0, rest.1 ∙ ap (λ (p : Passed). p.sent ++ rest.0) (sym passed));
                     };
                     apart = λ j ne. heard_apart v.id j (on.apart j ne);
                     seat = subst (IsSeatOf b (record v { bytes = v.bytes ++ bytes_of reads })) (sym here) (seat_is over passed was);
@@ -217,7 +225,7 @@ module _ (console : ℕ) (whole : List ℕ) where
                 where
                   seat_is : (o : Bool) → b.passed v.id ≡ record (a.passed v.id) { taken = (a.passed v.id).taken ++ bytes_of reads } → IsSeatOf a v (Some t) → IsSeatOf b (record v { bytes = v.bytes ++ bytes_of reads }) (seat_after (Some t) reads o)
                   seat_is true passed was = tt
-                  seat_is false passed was = (was.0, was.1 ∙ ap (λ (p : Passed). v.place + length p.sent) (sym passed), was.2)
+                  seat_is false passed was = (was.0, λ short. ((was.1 short).0 ∙ ap (λ (p : Passed). v.place + length p.sent) (sym passed), (was.1 short).1))
 
               by_over : (over : Bool) → get_or (all_seats_after seats hs) (console - 1) None ≡ seat_after (Some t) reads over → Kept b (all_seats_after seats hs) (read (Some t) reads over w)
               by_over true here = end_step b (all_seats_after seats hs) w.past (with_bytes (bytes_of reads) w.now) here given past (goes_on true here w.now h.now)
@@ -244,22 +252,23 @@ module _ (console : ℕ) (whole : List ℕ) where
           ∙ ap (λ (k : ℕ). record (a.passed k) { sent = (a.passed k).sent ++ sent_of (get_or ts (console - 1) none_told).puts }) id
 
       -- what is sent now goes on where what was sent ended
-      sent_goes_on : (t : Talk) (v : Visit) → Grows (get_or shown (console - 1) []) whole → get_or seats (console - 1) None ≡ Some t → (on : IsOn a seats v) → Begins (sent_of (get_or ts (console - 1) none_told).puts) on.carried.sent.0
-      sent_goes_on t v grows is on =
+      sent_goes_on : (t : Talk) (v : Visit) → Grows (get_or shown (console - 1) []) whole → get_or seats (console - 1) None ≡ Some t → (on : IsOn a seats v) (short : IsShort) → Begins (sent_of (get_or ts (console - 1) none_told).puts) (on.carried.sent short).0
+      sent_goes_on t v grows is on short =
           let was = subst (IsSeatOf a v) is on.seat in
           let sent = (a.passed v.id).sent in
-          let rest = on.carried.sent.0 in
+          let begun = on.carried.sent short in
+          let rest = begun.0 in
           let puts = (get_or ts (console - 1) none_told).puts in
           let lost = (get_or ts (console - 1) none_told).lost in
           let zero_plus : console - 1 ≡ 0 + (console - 1) = omega arith in
           let lawful : IsPutting lost puts 4096 (drop t.place (get_or shown (console - 1) [])) =
           subst (λ (o : Option Talk). IsToldOf (get_or shown (console - 1) []) o puts lost) is (told_lawful shown 0 (console - 1) (console - 1) seats ts zero_plus are) in
           let from_here : drop t.place whole ≡ rest =
-          ap (λ (n : ℕ). drop n whole) was.1 ∙ sym (drop-drop (length sent) v.place whole) ∙ ap (drop (length sent)) on.carried.sent.1 ∙ drop_at sent rest (length sent) refl in
+          ap (λ (n : ℕ). drop n whole) (was.1 short).0 ∙ sym (drop-drop (length sent) v.place whole) ∙ ap (drop (length sent)) begun.1 ∙ drop_at sent rest (length sent) refl in
           begins_longer t.place (sent_of puts) (get_or shown (console - 1) []) whole rest grows (sent_begins lost puts 4096 (drop t.place (get_or shown (console - 1) [])) lawful) from_here
 
-      pub kept_told : (w : Watch) → Grows (get_or shown (console - 1) []) whole → length whole < 2 ^ 64 → Kept a seats w → Kept b (all_seats_told seats ts) w
-      kept_told w grows short h = record { given = given; past = past; now = by_seat (get_or seats (console - 1) None) refl (seat_sent shown 0 (console - 1) seats ts are) w.now h.now }
+      pub kept_told : (w : Watch) → Grows (get_or shown (console - 1) []) whole → Kept a seats w → Kept b (all_seats_told seats ts) w
+      kept_told w grows h = record { given = given; past = past; now = by_seat (get_or seats (console - 1) None) refl (seat_sent shown 0 (console - 1) seats ts are) w.now h.now }
         where
           puts : List Wrote
           puts = (get_or ts (console - 1) none_told).puts
@@ -284,7 +293,9 @@ module _ (console : ℕ) (whole : List ℕ) where
                 carried = record {
                   given = told_given v.id on.carried.given;
                   taken = ap (λ (p : Passed). p.taken) passed ∙ on.carried.taken;
-                  sent = (more.0, on.carried.sent.1 ∙ ap (λ (l : List ℕ). (a.passed v.id).sent ++ l) more.1 ∙ sym (append_assoc (a.passed v.id).sent (sent_of puts) more.0) ∙ ap (λ (p : Passed). p.sent ++ more.0) (sym passed));
+                  sent = λ short.
+                      let rest = (more short).0 in
+                      (rest, (on.carried.sent short).1 ∙ ap (λ (l : List ℕ). (a.passed v.id).sent ++ l) (more short).1 ∙ sym (append_assoc (a.passed v.id).sent (sent_of puts) rest) ∙ ap (λ (p : Passed). p.sent ++ rest) (sym passed));
                 };
                 apart = λ j ne. told_apart v.id j (on.apart j ne);
                 seat = subst (IsSeatOf b v) (sym (next ∙ ap (λ (o : Option Talk). seat_told o puts (get_or ts (console - 1) none_told).lost) is)) (seat_is (get_or ts (console - 1) none_told).lost);
@@ -293,8 +304,8 @@ module _ (console : ℕ) (whole : List ℕ) where
               passed : b.passed v.id ≡ record (a.passed v.id) { sent = (a.passed v.id).sent ++ sent_of puts }
               passed = told_on_it t v is on
 
-              more : Begins (sent_of puts) on.carried.sent.0
-              more = sent_goes_on t v grows is on
+              more : (short : IsShort) → Begins (sent_of puts) (on.carried.sent short).0
+              more short = sent_goes_on t v grows is on short
 
               was : IsSeatOf a v (Some t)
               was = subst (IsSeatOf a v) is on.seat
@@ -302,29 +313,30 @@ module _ (console : ℕ) (whole : List ℕ) where
               long : length (b.passed v.id).sent ≡ length (a.passed v.id).sent + length (sent_of puts)
               long = ap (λ (p : Passed). length p.sent) passed ∙ length-append (a.passed v.id).sent (sent_of puts)
 
-              left : length whole - v.place ≡ length (a.passed v.id).sent + (length (sent_of puts) + length more.0)
-              left =
-                  sym (length-drop v.place whole) ∙ ap length on.carried.sent.1 ∙ length-append (a.passed v.id).sent on.carried.sent.0
-                  ∙ ap (λ (n : ℕ). length (a.passed v.id).sent + n) (ap length more.1 ∙ length-append (sent_of puts) more.0)
+              left : (short : IsShort) → length whole - v.place ≡ length (a.passed v.id).sent + (length (sent_of puts) + length (more short).0)
+              left short =
+                  sym (length-drop v.place whole) ∙ ap length (on.carried.sent short).1 ∙ length-append (a.passed v.id).sent (on.carried.sent short).0
+                  ∙ ap (λ (n : ℕ). length (a.passed v.id).sent + n) (ap length (more short).1 ∙ length-append (sent_of puts) (more short).0)
 
-              within : t.place + length (sent_of puts) ≤ length whole
-              within = fits (length whole) v.place t.place (length (a.passed v.id).sent) (length (sent_of puts)) (length more.0) was.1 was.2 left
+              within : (short : IsShort) → t.place + length (sent_of puts) ≤ length whole
+              within short =
+                  fits (length whole) v.place t.place (length (a.passed v.id).sent) (length (sent_of puts)) (length (more short).0) (was.1 short).0 (was.1 short).1 (left short)
                 where
                   fits : (size place now sent new rest : ℕ) → now ≡ place + sent → now ≤ size → size - place ≡ sent + (new + rest) → now + new ≤ size
                   fits size place now sent new rest e le d = omega (arith, e, le, d)
 
               seat_is : (l : Bool) → IsSeatOf b v (seat_told (Some t) puts l)
               seat_is true = tt
-              seat_is false = (was.0, count ∙ more_place ∙ ap (λ (n : ℕ). v.place + n) (sym long), subst (λ (n : ℕ). n ≤ length whole) (sym count) within)
+              seat_is false = (was.0, λ short. (count short ∙ more_place short ∙ ap (λ (n : ℕ). v.place + n) (sym long), subst (λ (n : ℕ). n ≤ length whole) (sym (count short)) (within short)))
                 where
                   least : (n most : ℕ) → n ≤ most → most < 2 ^ 64 → min n (2 ^ 64 - 1) ≡ n
                   least n most le lt = omega (arith, le, lt)
 
-                  count : min (t.place + length (sent_of puts)) (2 ^ 64 - 1) ≡ t.place + length (sent_of puts)
-                  count = least (t.place + length (sent_of puts)) (length whole) within short
+                  count : (short : IsShort) → min (t.place + length (sent_of puts)) (2 ^ 64 - 1) ≡ t.place + length (sent_of puts)
+                  count short = least (t.place + length (sent_of puts)) (length whole) (within short) short
 
-                  more_place : t.place + length (sent_of puts) ≡ v.place + (length (a.passed v.id).sent + length (sent_of puts))
-                  more_place = plus t.place v.place (length (a.passed v.id).sent) (length (sent_of puts)) was.1
+                  more_place : (short : IsShort) → t.place + length (sent_of puts) ≡ v.place + (length (a.passed v.id).sent + length (sent_of puts))
+                  more_place short = plus t.place v.place (length (a.passed v.id).sent) (length (sent_of puts)) (was.1 short).0
                     where
                       plus : (n p m l : ℕ) → n ≡ p + m → n + l ≡ p + (m + l)
                       plus n p m l e = omega (arith, e)
@@ -381,7 +393,7 @@ module _ (console : ℕ) (whole : List ℕ) where
             given = come_given (talk_of texts (Some c) id) refl h.given;
             past = come_past (talk_of texts (Some c) id) w refl h.past;
             now = record {
-              carried = record { given = new_given id a b tells did; taken = ap (λ (p : Passed). p.taken) nothing_yet; sent = (drop (end_of texts (Some console)) whole, ap (λ (p : Passed). p.sent ++ drop (end_of texts (Some console)) whole) (sym nothing_yet)) };
+              carried = record { given = new_given id a b tells did; taken = ap (λ (p : Passed). p.taken) nothing_yet; sent = λ short. (drop (end_of texts (Some console)) whole, ap (λ (p : Passed). p.sent ++ drop (end_of texts (Some console)) whole) (sym nothing_yet)) };
               apart = λ j ne. subst (IsApart id) (sym (put_there 1 j (talk_of texts (Some c) id) seats (elsewhere j ne))) (given_apart (get_or seats j None) (h.given j));
               seat = subst (IsSeatOf b (new_visit console turn texts id)) (sym (put_here 1 c (console - 1) (talk_of texts (Some c) id) seats free (is ∙ number_of console one))) seat;
             };
@@ -401,7 +413,7 @@ module _ (console : ℕ) (whole : List ℕ) where
           place_is = ap (λ (n : ℕ). end_of texts (Some n)) is
 
           seat : IsSeatOf b (new_visit console turn texts id) (Some (talk_of texts (Some c) id))
-          seat = (refl, place_is ∙ plus_none (end_of texts (Some console)) (length (b.passed id).sent) (ap (λ (p : Passed). length p.sent) nothing_yet), subst (λ (n : ℕ). n ≤ length whole) (sym place_is) end_within)
+          seat = (refl, λ short. (place_is ∙ plus_none (end_of texts (Some console)) (length (b.passed id).sent) (ap (λ (p : Passed). length p.sent) nothing_yet), subst (λ (n : ℕ). n ≤ length whole) (sym place_is) end_within))
             where
               plus_none : (n m : ℕ) → m ≡ 0 → n ≡ n + m
               plus_none n m e = omega (arith, e)
@@ -459,10 +471,10 @@ module _ (console : ℕ) (whole : List ℕ) where
         kept_heard three_part.0 b at_three_part seats answers.heard three_part.2 w2 listened
 
     -- a whole turn
-    pub kept_turn : (shown : List (List ℕ)) (desk : Desk) (answers : TurnAnswers) (a b : LinkSeen) (w : Watch) → Grows (get_or shown (console - 1) []) whole → length whole < 2 ^ 64 → a.tells ≡ true →
+    pub kept_turn : (shown : List (List ℕ)) (desk : Desk) (answers : TurnAnswers) (a b : LinkSeen) (w : Watch) → Grows (get_or shown (console - 1) []) whole → a.tells ≡ true →
         IsTurn texts shown desk answers → DidAll (calls_of_turn texts desk answers) a b → IsNow (get_or desk.seats (console - 1) None) (get_or desk.failed (console - 1) false) w.now → Kept a desk.seats w →
         Kept b (desk_after texts desk answers).seats (watched console turn texts desk answers w)
-    kept_turn shown desk answers a b w longer short tells lawful did now h =
+    kept_turn shown desk answers a b w longer tells lawful did now h =
         let second = seats_to_write texts desk answers in
         let news = calls_accepted texts desk.seats answers.accepts in
         let last = last_accept answers.accepts in
@@ -474,4 +486,4 @@ module _ (console : ℕ) (whole : List ℕ) where
         let parts = did_split reads told a b (subst (λ (ds : List Done). DidAll ds a b) calls did) in
         let heard_all : Kept parts.0 second (watched console turn texts desk answers w) =
         kept_read desk answers (DidWait 10 false ∷ []) last a parts.0 w (λ k p. refl) (accept_quiet answers.accepts) tells parts.1 now h in
-        kept_told parts.0 b (tells_still reads a parts.0 tells parts.1) second shown answers.told lawful.told parts.2 (watched console turn texts desk answers w) longer short heard_all
+        kept_told parts.0 b (tells_still reads a parts.0 tells parts.1) second shown answers.told lawful.told parts.2 (watched console turn texts desk answers w) longer heard_all

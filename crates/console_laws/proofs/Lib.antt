@@ -7,5 +7,6 @@ pub mod AtConsole
 pub mod VisitSteps
 pub mod Passing
 pub mod KeptSteps
+pub mod EndSteps
 pub mod Visiting
 pub mod CutVisits

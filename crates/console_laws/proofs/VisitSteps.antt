@@ -176,6 +176,15 @@ module _ (console : ℕ) (P : Visit → Type 0) (keeps : (v w : Visit) → v.id 
         (append_assoc events (events_at console first) (events_at console rest) ∙ ap (λ (l : List Event). events ++ l) (sym (at_both console first rest)))
         (all_come_step tick (seats_with texts id seats) ids (events ++ events_at console first) (come console turn texts (free_from 1 seats) id w) (λ k d lt. news (suc k) d (omega (arith, lt))) (come_step tick id seats events w (news 0 id (omega arith)) h))
 
+    -- a turn up to its accepts
+    pub turn_come : (tick : ℕ) (desk : Desk) (answers : TurnAnswers) (events : List Event) (w : Watch) → All (λ (id : ℕ). P (new_visit console turn texts id)) answers.accepts →
+        Watched P (get_or desk.seats (console - 1) None) (get_or desk.failed (console - 1) false) events w →
+        Watched P (get_or (seats_to_read texts desk answers) (console - 1) None) false ((events ++ hang_if (get_or desk.failed (console - 1) false)) ++ events_at console (dials tick texts desk.seats answers.accepts))
+        (all_come console turn texts desk.seats answers.accepts (ended_if (get_or desk.failed (console - 1) false) w))
+    turn_come tick desk answers events w news h =
+        let lost = get_or desk.failed (console - 1) false in
+        all_come_step tick desk.seats answers.accepts (events ++ hang_if lost) (ended_if lost w) news (hang_step (get_or desk.seats (console - 1) None) lost events w h)
+
     -- a turn up to its reads
     pub turn_read : (tick : ℕ) (desk : Desk) (answers : TurnAnswers) (events : List Event) (w : Watch) → All (λ (id : ℕ). P (new_visit console turn texts id)) answers.accepts →
         Watched P (get_or desk.seats (console - 1) None) (get_or desk.failed (console - 1) false) events w →
@@ -195,8 +204,7 @@ module _ (console : ℕ) (P : Visit → Type 0) (keeps : (v w : Visit) → v.id 
         let w1 = ended_if lost w in
         let w2 = all_come console turn texts desk.seats answers.accepts w1 in
         let w3 = read_at console texts desk answers w2 in
-        let h1 : Watched P (get_or desk.seats i None) false one_events w1 = hang_step (get_or desk.seats i None) lost events w h in
-        let h2 : Watched P (get_or first i None) false two_events w2 = all_come_step tick desk.seats answers.accepts one_events w1 news h1 in
+        let h2 : Watched P (get_or first i None) false two_events w2 = turn_come tick desk answers events w news h in
         let h3 : Watched P (seat_after (get_or first i None) heard.reads heard.over) false three_events w3 = read_step tick (get_or first i None) heard.reads heard.over two_events w2 h2 in
         let h4 : Watched P (get_or second i None) false three_events w3 = subst (λ (o : Option Talk). Watched P o false three_events w3) (sym (seat_heard i first answers.heard)) h3 in
         let events_are : three_events ≡ events ++ events_at console (events_of_turn tick texts desk answers) =

@@ -1,25 +1,27 @@
 -- The visits of many turns.
 use Rattle.std.specs.Prelude.{Bool, true, false, ◌^◌, replicate, length, take, drop, get_or, Option, Some, None}
-use Rattle.std.specs.List.{All, AllZip, Contains, flat_map}
+use Rattle.std.specs.List.{All, AllZip, Contains, flat_map, list_any}
 use Rattle.std.proofs.Common.{◌≡◌, ℕ, zero, suc, ◌-◌, ◌*◌, ◌<◌, ◌≤◌, List, [], ◌∷◌, ◌++◌, refl, sym, ◌∙◌, ap, subst, arith}
 use Rattle.std.proofs.lemmas.List.{append_assoc, append-nil, take_at}
 use Rattle.std.proofs.lemmas.List.Elements.{All-append, All-cons, All-nil, Contains-get_or}
 use Rattle.ctss_types.specs.declared.script.Event.{Event}
 use Rattle.ctss_types.specs.declared.script.Event.TheVariants.{Dial, Hang}
 use Rattle.console_wire.specs.Items.{items_from}
-use Rattle.console_link.specs.Links.{LinkSeen}
+use Rattle.console_link.specs.Links.{LinkSeen, Done}
 use Rattle.live_core.specs.Core.{Grows}
 use Rattle.console_server.specs.Readings.{DidAll, Nothing}
 use Rattle.console_server.specs.Turns.{Talk, Desk, if_over, end_of, calls_of_turn, events_of_turn, desk_after}
 use Rattle.console_server.specs.History.{events_in}
 use Rattle.console_server.specs.Conversation.{TurnSeen, AreTurns, calls_of_turns, events_of_turns, desk_behind, texts_behind}
-use Rattle.console_server.specs.Visits.{Visit, OneAtATime, events_of_visit, events_at}
+use Rattle.console_server.specs.Visits.{Visit, OneAtATime, events_of_visit, events_at, AreCountable, HaveEnded, ends_it}
+use Rattle.console_server.proofs.DeskLaws.{false_is}
 use Rattle.console_laws.specs.VisitLaws.{accepted_in, EventsAreVisits}
 use Rattle.console_laws.proofs.Watching.{Watch, new_visit, watched, all_watched, said, IsNow, OnNow, Watched}
 use Rattle.console_laws.proofs.AtConsole.{at_both}
 use Rattle.console_laws.proofs.VisitSteps.{fm_both, turn_step}
 use Rattle.console_laws.proofs.Passing.{tells_still, tells_same, did_split, OnSeat, WasGiven}
 use Rattle.console_laws.proofs.KeptSteps.{Begins, IsOver, IsOn, Kept, kept_turn}
+use Rattle.console_laws.proofs.EndSteps.{HasEnded, any_watched, ended_turns, none_ended}
 
 -- the texts
 
@@ -75,7 +77,7 @@ accepted_at zero t turns (x ∷ all) is = ap (λ (s : TurnSeen). s.answers.accep
 accepted_at (suc n) t turns [] is = no_turn t turns is
 accepted_at (suc n) t turns (x ∷ all) is = accepted_at n t turns all is
 
-module _ (console : ℕ) (one : 1 ≤ console) (start : List (List ℕ)) (all : List TurnSeen) (short : length (get_or (texts_behind start all) (console - 1) []) < 2 ^ 64) where
+module _ (console : ℕ) (one : 1 ≤ console) (start : List (List ℕ)) (all : List TurnSeen) where
   -- a visit that came in its turn, and is sent its text from where that ended then
   pub record Came (v : Visit) : Type 0 where
     pub place : v.place ≡ end_of (texts_behind start (take v.turn all)) (Some console)
@@ -128,7 +130,7 @@ module _ (console : ℕ) (one : 1 ≤ console) (start : List (List ℕ)) (all : 
       let last = get_or (texts_behind start all) i [] in
       let grown : Grows (get_or texts i []) last = subst (λ (l : List (List ℕ)). Grows (get_or texts i []) (get_or l i [])) whole (grows_behind i texts desk (t ∷ turns) lawful) in
       let grown_next : Grows (get_or t.shown i []) last = subst (λ (l : List (List ℕ)). Grows (get_or t.shown i []) (get_or l i [])) whole (grows_behind i t.shown next turns lawful.1.1) in
-      let k1 = kept_turn console last one n texts grown t.shown desk t.answers a parts.0 w grown_next short tells lawful.0 parts.1 h.now k in
+      let k1 = kept_turn console last one n texts grown t.shown desk t.answers a parts.0 w grown_next tells lawful.0 parts.1 h.now k in
       kept_turns (suc n) t.shown next turns behind parts.0 b (events ++ events_at console here) w1 (left_next n t (turns ++ behind) all left) (texts_next n start t (turns ++ behind) all left) lawful.1.1 whole
       (tells_still (calls_of_turn texts desk t.answers) a parts.0 tells parts.1) parts.2 h1 k1
 
@@ -181,7 +183,7 @@ none_lost zero i = refl
 none_lost (suc n) zero = refl
 none_lost (suc n) (suc i) = none_lost n i
 
-pub short_at : (i : ℕ) (texts : List (List ℕ)) → All (λ (text : List ℕ). length text < 2 ^ 64) texts → length (get_or texts i []) < 2 ^ 64
+pub short_at : (i : ℕ) (texts : List (List ℕ)) → AreCountable texts → length (get_or texts i []) < 2 ^ 64
 short_at i [] h = omega arith
 short_at zero (t ∷ texts) h = h 0 t (omega arith)
 short_at (suc i) (t ∷ texts) h = short_at i texts (λ k d lt. h (suc k) d (omega (arith, lt)))
@@ -219,12 +221,23 @@ all_taken console whole b seats w k =
     all_visits (λ (v : Visit). (b.passed v.id).taken ≡ v.bytes) w.past w.now
     (λ j d lt. (k.past j d lt).carried.taken) (now_more (IsOn console whole b seats) (λ (v : Visit). (b.passed v.id).taken ≡ v.bytes) w.now (λ v on. on.carried.taken) k.now)
 
-pub all_sent : (console : ℕ) (whole : List ℕ) (b : LinkSeen) (seats : List (Option Talk)) (w : Watch) → Kept console whole b seats w →
+pub all_sent : (console : ℕ) (whole : List ℕ) (b : LinkSeen) (seats : List (Option Talk)) (w : Watch) → length whole < 2 ^ 64 → Kept console whole b seats w →
     All (λ (v : Visit). (b.passed v.id).sent ≡ take (length (b.passed v.id).sent) (drop v.place whole)) (visits_of w)
-all_sent console whole b seats w k =
+all_sent console whole b seats w short k =
     all_visits (λ (v : Visit). (b.passed v.id).sent ≡ take (length (b.passed v.id).sent) (drop v.place whole)) w.past w.now
-    (λ j d lt. as_taken _ _ (k.past j d lt).carried.sent)
-    (now_more (IsOn console whole b seats) (λ (v : Visit). (b.passed v.id).sent ≡ take (length (b.passed v.id).sent) (drop v.place whole)) w.now (λ v on. as_taken _ _ on.carried.sent) k.now)
+    (λ j d lt. as_taken _ _ ((k.past j d lt).carried.sent short))
+    (now_more (IsOn console whole b seats) (λ (v : Visit). (b.passed v.id).sent ≡ take (length (b.passed v.id).sent) (drop v.place whole)) w.now (λ v on. as_taken _ _ (on.carried.sent short)) k.now)
+
+-- those of whose end the core heard are those that are over
+pub all_ended : (P : Visit → Type 0) (calls : List Done) (seat : Option Talk) (lost : Bool) (events : List Event) (w : Watch) → Watched P seat lost events w → All (HasEnded calls) w.past → HaveEnded calls (visits_of w)
+all_ended P calls seat lost events w h ends = all_visits Ends w.past w.now (λ k d lt is. ends k d lt) (by_now w.now h.now)
+  where
+    Ends : Visit → Type 0
+    Ends v = v.hung ≡ true → list_any (ends_it v.id) calls ≡ true
+
+    by_now : (now : Option Visit) → IsNow seat lost now → OnNow Ends now
+    by_now None fits = tt
+    by_now (Some v) fits = λ is. false_is (sym is ∙ not_over seat lost v fits)
 
 -- nothing is heard yet of a desk without connections
 pub nothing_at : (P : Visit → Type 0) (i : ℕ) (desk : Desk) → desk.seats ≡ replicate 32 None → desk.failed ≡ replicate 32 false → Watched P (get_or desk.seats i None) (get_or desk.failed i false) [] nothing_watched
@@ -235,11 +248,10 @@ nothing_at P i desk free unlost =
     (subst (λ (l : Bool). Watched P None l [] nothing_watched) (sym lost) (nothing_heard P))
 
 pub events_are_visits : EventsAreVisits
-events_are_visits console texts desk turns a b one free unlost lawful shorts did =
+events_are_visits console texts desk turns a b one free unlost lawful did =
     let i = console - 1 in
     let whole = get_or (texts_behind texts turns) i [] in
-    let short : length whole < 2 ^ 64 = short_at i (texts_behind texts turns) shorts in
-    let P = Came console one texts turns short in
+    let P = Came console one texts turns in
     let start : Watched P (get_or desk.seats i None) (get_or desk.failed i false) [] nothing_watched = nothing_at P i desk free unlost in
     let w = all_watched console 0 texts desk turns nothing_watched in
     let events = events_in (events_of_turns 0 texts desk turns) in
@@ -247,16 +259,19 @@ events_are_visits console texts desk turns a b one free unlost lawful shorts did
     let seat = get_or seats i None in
     let lost = get_or (desk_behind texts desk turns).failed i false in
     let here : turns ++ [] ≡ turns = append-nil turns in
-    let h : Watched P seat lost (events_at console events) w = heard_turns console one texts turns short 0 texts desk turns [] [] nothing_watched here refl lawful start in
+    let ends : All (HasEnded (calls_of_turns texts desk turns)) w.past =
+    (ended_turns console one 0 texts desk turns [] [] nothing_watched lawful (any_watched P (get_or desk.seats i None) (get_or desk.failed i false) [] nothing_watched start) (none_ended (get_or desk.failed i false))).past in
+    let h : Watched P seat lost (events_at console events) w = heard_turns console one texts turns 0 texts desk turns [] [] nothing_watched here refl lawful start in
     let kept : b.tells ≡ true → Kept console whole b seats w = λ tells.
-    kept_turns console one texts turns short 0 texts desk turns [] a b [] nothing_watched here refl lawful refl (sym (tells_same (calls_of_turns texts desk turns) a b did) ∙ tells) did start (nothing_kept console whole a desk free) in (
+    kept_turns console one texts turns 0 texts desk turns [] a b [] nothing_watched here refl lawful refl (sym (tells_same (calls_of_turns texts desk turns) a b did) ∙ tells) did start (nothing_kept console whole a desk free) in (
       visits_of w,
       record {
         heard = all_heard P seat lost (events_at console events) w h;
         order = all_in_order P seat lost (events_at console events) w h;
         places = λ k d lt. (all_places P seat lost (events_at console events) w h k d lt).place;
         taken = λ tells. all_taken console whole b seats w (kept tells);
-        sent = λ tells. all_sent console whole b seats w (kept tells);
+        sent = λ tells short. all_sent console whole b seats w (short_at i (texts_behind texts turns) short) (kept tells);
       },
       λ k d lt. (all_places P seat lost (events_at console events) w h k d lt).number,
+      all_ended P (calls_of_turns texts desk turns) seat lost (events_at console events) w h ends,
     )

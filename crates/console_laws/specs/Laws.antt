@@ -1,10 +1,12 @@
 -- claim: how many calls a turn makes, that a link which lists its calls lists them all, why reading and writing stop,
 -- whose counts a call moves, and what passes over a connection.
-use Rattle.std.specs.Prelude.{◌≡◌, ℕ, ◌-◌, ◌≤◌, Bool, true, false, List, ◌++◌, length, map, if◌then◌else◌, Some}
+use Rattle.std.specs.Prelude.{◌≡◌, ℕ, ◌-◌, ◌*◌, ◌≤◌, Bool, true, false, List, ◌++◌, length, map, if◌then◌else◌, Some}
 use Rattle.std.specs.List.{All}
 use Rattle.console_link.specs.Links.{LinkSeen, CallList, Counts, Done, call_of, names, accepts, is_at}
 use Rattle.console_server.specs.Readings.{Gave, bytes_of, did_read, DidAll, IsReading}
 use Rattle.console_server.specs.Turns.{Desk, TurnAnswers, calls_of_turn, IsTurn, Wrote, sent_of, IsPutting}
+use Rattle.console_server.specs.Server.{CutAt, IsTurnUntil, calls_until}
+use Rattle.console_server.specs.Conversation.{TurnSeen, AreTurns, calls_of_turns}
 use Rattle.console_server.specs.Writings.{did_write}
 use Rattle.console_laws.specs.Stops.{WhyStopped, WhyWritingStopped}
 
@@ -13,6 +15,18 @@ abbrev pub FewCalls : Type 0
 FewCalls =
     (texts shown : List (List ℕ)) (desk : Desk) (turn : TurnAnswers) → length desk.seats ≡ 32
     → IsTurn texts shown desk turn → length (calls_of_turn texts desk turn) ≤ 164000
+
+-- and so does one that failed
+abbrev pub FewCallsUntil : Type 0
+FewCallsUntil =
+    (texts : List (List ℕ)) (desk : Desk) (turn : TurnAnswers) (at : CutAt) → length desk.seats ≡ 32
+    → IsTurnUntil texts desk turn at → length (calls_until texts desk turn at) ≤ 164000
+
+-- turns one after another make at most so many each
+abbrev pub FewCallsInTurns : Type 0
+FewCallsInTurns =
+    (texts : List (List ℕ)) (desk : Desk) (turns : List TurnSeen) → length desk.seats ≡ 32
+    → AreTurns texts desk turns → length (calls_of_turns texts desk turns) ≤ 164000 * length turns
 
 -- a link that lists its calls, and has the room, lists these in order
 abbrev pub CallsAreTold : Type 0

@@ -1,6 +1,6 @@
 -- claim: what the core hears at a console over many turns is what the console's connections sent, one after another; and so far, where
 -- a turn failed.
-use Rattle.std.specs.Prelude.{◌≡◌, ℕ, zero, suc, ◌-◌, ◌*◌, ◌<◌, ◌≤◌, ◌^◌, true, false, List, [], ◌∷◌, ◌++◌, length, take, drop, map, replicate, get_or, Some, None}
+use Rattle.std.specs.Prelude.{◌≡◌, ℕ, zero, suc, ◌-◌, ◌*◌, ◌≤◌, true, false, List, [], ◌∷◌, ◌++◌, length, take, drop, map, replicate, get_or, Some, None}
 use Rattle.std.specs.List.{All, Contains, flat_map}
 use Rattle.ctss_types.specs.declared.script.Event.{Event}
 use Rattle.ctss_types.specs.declared.script.Timed.{Timed}
@@ -8,9 +8,9 @@ use Rattle.console_link.specs.Links.{LinkSeen}
 use Rattle.console_server.specs.Readings.{DidAll}
 use Rattle.console_server.specs.Turns.{Desk, TurnAnswers, end_of}
 use Rattle.console_server.specs.History.{events_in}
-use Rattle.console_server.specs.Server.{CutAt, Waiting, Hanging, Accepting, Dialling, Reading, Advancing, calls_until, GivenUntil}
+use Rattle.console_server.specs.Server.{CutAt, Waiting, Hanging, Accepting, Dialling, Reading, Advancing, IsTurnUntil, calls_until, GivenUntil}
 use Rattle.console_server.specs.Conversation.{TurnSeen, AreTurns, calls_of_turns, events_of_turns, desk_behind, texts_behind}
-use Rattle.console_server.specs.Visits.{Visit, OneAtATime, events_of_visit, events_at, AreVisits}
+use Rattle.console_server.specs.Visits.{Visit, OneAtATime, events_of_visit, events_at, AreCountable, HaveEnded, AreVisits}
 
 -- the numbers of the connections that were accepted in a turn
 abbrev pub accepted_in : ℕ → List TurnSeen → List ℕ
@@ -27,11 +27,11 @@ abbrev pub EventsAreVisits : Type 0
 EventsAreVisits =
     (console : ℕ) (texts : List (List ℕ)) (desk : Desk) (turns : List TurnSeen) (a b : LinkSeen) → 1 ≤ console
     → desk.seats ≡ replicate 32 None → desk.failed ≡ replicate 32 false → AreTurns texts desk turns
-    → All (λ (text : List ℕ). length text < 2 ^ 64) (texts_behind texts turns)
     → DidAll (calls_of_turns texts desk turns) a b
     → (visits : List Visit)
     × AreVisits console texts turns (events_in (events_of_turns 0 texts desk turns)) b visits
     × HaveCome turns visits
+    × HaveEnded (calls_of_turns texts desk turns) visits
 
 -- the numbers of the connections that were accepted in each turn, and in one that failed
 abbrev pub accepted_each : List TurnSeen → List (List ℕ)
@@ -57,21 +57,22 @@ pub record AreVisitsSoFar (console : ℕ) (texts : List (List ℕ)) (turns : Lis
   pub order : OneAtATime visits
   pub places : All (λ (v : Visit). v.place ≡ end_of (texts_behind texts (take v.turn turns)) (Some console)) visits
   pub taken : link.tells ≡ true → All (λ (v : Visit). (link.passed v.id).taken ≡ v.bytes) visits
-  pub sent : link.tells ≡ true
+  pub sent : link.tells ≡ true → AreCountable (texts_behind texts turns)
       → All (λ (v : Visit). (link.passed v.id).sent ≡ take (length (link.passed v.id).sent) (drop v.place (get_or (texts_behind texts turns) (console - 1) []))) visits
 
 -- From a desk without connections on, behind turns and one that failed, the events at a console are a beginning of those of its visits:
--- all of them, where the core was to go on.
+-- all of them, where the core was to go on. A Hang is of a connection that ended, if the turn read only as far as it may.
 abbrev pub CutEventsAreVisits : Type 0
 CutEventsAreVisits =
     (console : ℕ) (texts : List (List ℕ)) (desk : Desk) (turns : List TurnSeen) (answers : TurnAnswers) (at : CutAt)
     (events : List Timed) (a c : LinkSeen) → 1 ≤ console
     → desk.seats ≡ replicate 32 None → desk.failed ≡ replicate 32 false → AreTurns texts desk turns
-    → All (λ (text : List ℕ). length text < 2 ^ 64) (texts_behind texts turns)
     → DidAll (calls_of_turns texts desk turns
     ++ calls_until (texts_behind texts turns) (desk_behind texts desk turns) answers at) a c
     → GivenUntil (1000 * length turns) (texts_behind texts turns) (desk_behind texts desk turns) answers at events
     → (visits : List Visit) × (more : List Event)
     × AreVisitsSoFar console texts turns (events_in (events_of_turns 0 texts desk turns) ++ events) more c visits
     × HaveComeUntil turns answers at visits
+    × (IsTurnUntil (texts_behind texts turns) (desk_behind texts desk turns) answers at → HaveEnded (calls_of_turns texts desk turns
+    ++ calls_until (texts_behind texts turns) (desk_behind texts desk turns) answers at) visits)
     × (at ≡ Advancing → more ≡ [])

@@ -4,13 +4,15 @@
 //! The definitions stand in `specs/`. The functions here do nothing: each carries a law.
 #![tactic(auto)]
 
-ghost use Rattle.console_laws.specs.Laws.{FewCalls, CallsAreTold, ReadingStops, WritingStops, OthersLeaveIt, CountsNeverFall, ReadsAreTaken, WritesAreSent};
+ghost use Rattle.console_laws.specs.Laws.{FewCalls, FewCallsUntil, FewCallsInTurns, CallsAreTold, ReadingStops, WritingStops, OthersLeaveIt, CountsNeverFall, ReadsAreTaken, WritesAreSent};
 ghost use Rattle.console_laws.specs.VisitLaws.{EventsAreVisits, CutEventsAreVisits};
 
-/// A turn makes few calls.
-#[tactic(auto, using(crate::proofs::CallLaws::few_calls))]
+/// A turn makes few calls, whether it was done or failed, and turns one after another few each.
+#[tactic(auto, using(crate::proofs::CallLaws::few_calls, crate::proofs::CallLaws::few_calls_until, crate::proofs::CallLaws::few_calls_in_turns))]
 pub fn few_calls()
-    ensures { FewCalls }
+    ensures turn { FewCalls }
+    ensures until { FewCallsUntil }
+    ensures turns { FewCallsInTurns }
 {}
 
 /// A link that lists its calls lists all of them, in order, where it has the room.

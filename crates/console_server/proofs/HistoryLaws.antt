@@ -1,8 +1,8 @@
 -- One more turn behind others.
 use Rattle.std.specs.Prelude.{map, length, take, None}
 use Rattle.std.specs.List.{AllZip}
-use Rattle.std.proofs.Common.{◌≡◌, ℕ, suc, ◌+◌, ◌*◌, ◌<◌, List, [], ◌∷◌, ◌++◌, refl, sym, ◌∙◌, ap, subst, arith, length-append}
-use Rattle.std.proofs.lemmas.List.{append_assoc, append-nil}
+use Rattle.std.proofs.Common.{◌≡◌, ℕ, zero, suc, ◌+◌, ◌*◌, ◌<◌, ◌≤◌, List, [], ◌∷◌, ◌++◌, refl, sym, ◌∙◌, ap, subst, arith, ◌⊎◌, inl, inr, length-append}
+use Rattle.std.proofs.lemmas.List.{append_assoc, append-nil, take-append-le, take_all}
 use Rattle.ctss_types.specs.declared.script.Timed.{Timed}
 use Rattle.console_link.specs.Links.{LinkSeen, Done}
 use Rattle.console_server.specs.declared.fault.ServeFault.{ServeFault}
@@ -12,7 +12,7 @@ use Rattle.console_server.specs.Turns.{Desk, IsTurn, calls_of_turn, events_of_tu
 use Rattle.console_server.specs.Seats.{StandAll}
 use Rattle.console_server.specs.History.{heard_in, events_in}
 use Rattle.console_server.specs.Server.{ServerState, IsDeskOf, TurnIsDone, TurnIsCut, IsCutTurn, calls_until, ends_with}
-use Rattle.console_server.specs.Conversation.{TurnSeen, AreTurns, calls_of_turns, events_of_turns, desk_behind, texts_behind, TurnsAreDone, TurnsAreCut}
+use Rattle.console_server.specs.Conversation.{TurnSeen, AreTurns, calls_of_turns, events_of_turns, desk_behind, texts_behind, HasShown, AreShown, TurnsAreDone, TurnsAreCut}
 use Rattle.console_server.proofs.Following.{did_both}
 
 plus_none : (m : ℕ) → m ≡ m + 0
@@ -69,6 +69,37 @@ lawful_end texts desk [] t before here grows = (here, (grows, tt))
 lawful_end texts desk (u ∷ turns) t before here grows = (before.0, (before.1.0, lawful_end u.shown (desk_after texts desk u.answers) turns t before.1.1 here grows))
 
 module _ {C L : Type 0} (goes : C → List CoreCall → C → Type 0) (none : (a : C) → goes a [] a) (on : (a b c : C) (hs gs : List CoreCall) → goes a hs b → goes b gs c → goes a (hs ++ gs) c) (see : C → CoreSeen) (look : L → LinkSeen) where
+  abbrev no_events : List (List Timed)
+  no_events = []
+
+  abbrev no_turns : List TurnSeen
+  no_turns = []
+
+  -- before the first turn the texts are those of the core itself
+  shown_none : (o : C) → AreShown goes see o no_events (see o).texts no_turns
+  shown_none o zero le = (o, none o, refl)
+  shown_none o (suc k) le = (o, none o, refl)
+
+  -- one turn more: the texts up to it are those of before, and the last are those of the core behind it
+  shown_more : (o q : C) (given : List (List Timed)) (es : List Timed) (texts : List (List ℕ)) (turns : List TurnSeen) (t : TurnSeen) → length given ≡ length turns → AreShown goes see o given texts turns →
+      goes o (heard_in 0 (given ++ es ∷ [])) q → (see q).texts ≡ t.shown → AreShown goes see o (given ++ es ∷ []) texts (turns ++ t ∷ [])
+  shown_more o q given es texts turns t many before here is k le = by_place (decide k (length turns))
+    where
+      decide : (a b : ℕ) → (a ≤ b) ⊎ (b < a)
+      decide a b = grind arith
+
+      Goal : List (List Timed) → List TurnSeen → Type 0
+      Goal gs ts = HasShown goes see o (heard_in 0 gs) (texts_behind texts ts)
+
+      by_place : (k ≤ length turns) ⊎ (length turns < k) → Goal (take k (given ++ es ∷ [])) (take k (turns ++ t ∷ []))
+      by_place (inl lt) =
+          subst (λ (ts : List TurnSeen). Goal (take k (given ++ es ∷ [])) ts) (sym (take-append-le k turns (t ∷ []) lt))
+          (subst (λ (gs : List (List Timed)). Goal gs (take k turns)) (sym (take-append-le k given (es ∷ []) (omega (arith, many, lt)))) (before k lt))
+      by_place (inr gt) =
+          subst (λ (ts : List TurnSeen). Goal (take k (given ++ es ∷ [])) ts) (sym (take_all k (turns ++ t ∷ []) (omega (arith, length-append turns (t ∷ []), gt))))
+          (subst (λ (gs : List (List Timed)). Goal gs (turns ++ t ∷ [])) (sym (take_all k (given ++ es ∷ []) (omega (arith, length-append given (es ∷ []), many, gt))))
+          (q, here, is ∙ sym (texts_end texts turns t)))
+
   pub turns_none : (desk : Desk) (o : ServerState C L) → IsDeskOf o desk → TurnsAreDone goes see look 0 desk o o
   turns_none desk o d = record {
     turns = [];
@@ -78,6 +109,7 @@ module _ {C L : Type 0} (goes : C → List CoreCall → C → Type 0) (none : (a
     core = none o.core;
     noted = sym (append-nil o.events);
     shown = refl;
+    each = shown_none o.core;
     seats = d.seats;
     failed = sym d.failed;
   }
@@ -102,6 +134,7 @@ module _ {C L : Type 0} (goes : C → List CoreCall → C → Type 0) (none : (a
       ap (heard_in 0) events ∙ heard_end 0 given es ∙ ap (λ (k : ℕ). heard_in 0 given ++ (map Took es ++ Went (1000 * (k + 1)) None ∷ [])) place in
       let core : goes p.core (map Took es ++ Went (1000 * (n + 1)) None ∷ []) q.core =
       subst (λ (ts : List (List ℕ)). goes p.core (map Took (events_of_turn (1000 * n) ts here d.turn) ++ Went (1000 * (n + 1)) None ∷ []) q.core) s.shown d.core in
+      let all_core : goes o.core (heard_in 0 (events_of_turns 0 texts desk (s.turns ++ t ∷ []))) q.core = subst (λ (l : List CoreCall). goes o.core l q.core) (sym calls) (on o.core p.core q.core _ _ s.core core) in
       let noted : q.events ≡ p.events ++ es = subst (λ (ts : List (List ℕ)). q.events ≡ p.events ++ events_of_turn (1000 * n) ts here d.turn) s.shown d.noted in
       record {
         turns = s.turns ++ t ∷ [];
@@ -109,9 +142,11 @@ module _ {C L : Type 0} (goes : C → List CoreCall → C → Type 0) (none : (a
         lawful = lawful_end texts desk s.turns t s.lawful (subst (λ (ts : List (List ℕ)). IsTurn ts t.shown here d.turn) s.shown d.lawful) (subst (λ (ts : List (List ℕ)). AllZip Grows ts t.shown) s.shown d.went.texts);
         link = subst (λ (ds : List Done). DidAll ds (look o.link.now) (look q.link.now)) (sym (calls_end texts desk s.turns t))
             (did_both _ _ _ _ _ s.link (subst (λ (ts : List (List ℕ)). DidAll (calls_of_turn ts here d.turn) (look p.link.now) (look q.link.now)) s.shown d.link));
-        core = subst (λ (l : List CoreCall). goes o.core l q.core) (sym calls) (on o.core p.core q.core _ _ s.core core);
+        core = all_core;
         noted = noted ∙ ap (λ (l : List Timed). l ++ es) s.noted ∙ append_assoc o.events (events_in given) es ∙ ap (λ (l : List Timed). o.events ++ l) (sym (ap events_in events ∙ events_end given es));
         shown = sym (texts_end texts s.turns t);
+        each = subst (λ (l : List (List Timed)). AreShown goes see o.core l texts (s.turns ++ t ∷ [])) (sym events)
+            (shown_more o.core q.core given es texts s.turns t (turns_long 0 texts desk s.turns) s.each (subst (λ (l : List (List Timed)). goes o.core (heard_in 0 l) q.core) events all_core) refl);
         seats = subst (λ (k : Desk). StandAll q.seats k.seats) (sym (desk_end texts desk s.turns t)) (subst (λ (ts : List (List ℕ)). StandAll q.seats (desk_after ts here d.turn).seats) s.shown d.seats_are);
         failed = subst (λ (k : Desk). q.failed ≡ k.failed) (sym (desk_end texts desk s.turns t)) (subst (λ (ts : List (List ℕ)). q.failed ≡ (desk_after ts here d.turn).failed) s.shown d.failed_are);
       }
@@ -132,6 +167,7 @@ module _ {C L : Type 0} (goes : C → List CoreCall → C → Type 0) (none : (a
         turns = s.turns;
         few = omega (arith, s.many, lt);
         lawful = s.lawful;
+        each = s.each;
         answers = d.answers;
         at = d.at;
         events = d.events;

@@ -1,5 +1,5 @@
 -- claim: turns one after another: their calls, their events, and the desk behind them, by what the link answered.
-use Rattle.std.specs.Prelude.{◌≡◌, ℕ, suc, ◌*◌, ◌<◌, List, [], ◌∷◌, ◌++◌, length, take, map}
+use Rattle.std.specs.Prelude.{◌≡◌, ℕ, suc, ◌*◌, ◌<◌, ◌≤◌, List, [], ◌∷◌, ◌++◌, length, take, map}
 use Rattle.std.specs.List.{AllZip}
 use Rattle.ctss_types.specs.declared.script.Timed.{Timed}
 use Rattle.console_link.specs.Links.{LinkSeen, Done}
@@ -40,6 +40,15 @@ abbrev pub texts_behind : List (List ℕ) → List TurnSeen → List (List ℕ)
 texts_behind texts [] = texts
 texts_behind texts (t ∷ turns) = texts_behind t.shown turns
 
+-- a core that such calls lead to has shown these texts
+abbrev pub HasShown : {C : Type 0} → (C → List CoreCall → C → Type 0) → (C → CoreSeen) → C → List CoreCall → List (List ℕ) → Type 0
+HasShown {C = C} goes see old calls texts = (mid : C) × goes old calls mid × ((see mid).texts ≡ texts)
+
+-- The texts before the first turn and behind each are those of a core that was given the events up to there.
+abbrev pub AreShown : {C : Type 0} → (C → List CoreCall → C → Type 0) → (C → CoreSeen) → C → List (List Timed) → List (List ℕ) → List TurnSeen → Type 0
+AreShown goes see old given texts turns =
+    (k : ℕ) → k ≤ length turns → HasShown goes see old (heard_in 0 (take k given)) (texts_behind texts (take k turns))
+
 -- From the one to the other so many turns were done, from number 0 on.
 pub record TurnsAreDone {C L : Type 0} (goes : C → List CoreCall → C → Type 0) (see : C → CoreSeen) (look : L → LinkSeen) (count : ℕ) (desk : Desk) (old new : ServerState C L) : Type 0 where
   pub turns : List TurnSeen
@@ -49,6 +58,7 @@ pub record TurnsAreDone {C L : Type 0} (goes : C → List CoreCall → C → Typ
   pub core : goes old.core (heard_in 0 (events_of_turns 0 (see old.core).texts desk turns)) new.core
   pub noted : new.events ≡ old.events ++ events_in (events_of_turns 0 (see old.core).texts desk turns)
   pub shown : (see new.core).texts ≡ texts_behind (see old.core).texts turns
+  pub each : AreShown goes see old.core (events_of_turns 0 (see old.core).texts desk turns) (see old.core).texts turns
   pub seats : StandAll new.seats (desk_behind (see old.core).texts desk turns).seats
   pub failed : new.failed ≡ (desk_behind (see old.core).texts desk turns).failed
 
@@ -58,6 +68,7 @@ pub record TurnsAreCut {C L : Type 0} (goes : C → List CoreCall → C → Type
   pub turns : List TurnSeen
   pub few : length turns < count
   pub lawful : AreTurns (see old.core).texts desk turns
+  pub each : AreShown goes see old.core (events_of_turns 0 (see old.core).texts desk turns) (see old.core).texts turns
   pub answers : TurnAnswers
   pub at : CutAt
   pub events : List Timed

@@ -1,5 +1,5 @@
 -- claim: what contracts see of a server, when it can do a turn, and what a turn leaves that was not done to its end.
-use Rattle.std.specs.Prelude.{◌≡◌, ◌≢◌, ℕ, ◌+◌, ◌*◌, ◌<◌, ◌≤◌, Bool, true, false, List, [], ◌∷◌, ◌++◌, length, take, map, Option, Some, None}
+use Rattle.std.specs.Prelude.{◌≡◌, ◌≢◌, ℕ, ◌+◌, ◌*◌, ◌<◌, ◌≤◌, Bool, true, false, List, [], ◌∷◌, ◌++◌, length, take, map, replicate, Option, Some, None}
 use Rattle.std.specs.Borrow.{MutBor}
 use Rattle.faults.specs.Faults.{Rose}
 use Rattle.ctss_types.specs.declared.script.Timed.{Timed}
@@ -12,6 +12,7 @@ use Rattle.console_server.specs.declared.fault.ServeFault.{ServeFault}
 use Rattle.console_server.specs.declared.fault.ServeFault.TheVariants as serve
 use Rattle.console_server.specs.declared.tasks.Task.{Task}
 use Rattle.console_server.specs.declared.server.Server.{Server}
+use Rattle.console_server.specs.declared.server.Tables.{Tables}
 use Rattle.console_server.specs.Readings.{DidAll}
 use Rattle.console_server.specs.Turns.{Desk, TurnAnswers, AreHeard, AreHeardUntil, calls_accepted, last_accept, all_calls_heard, seats_to_read, hangs, dials, events_of_turn}
 use Rattle.console_server.specs.Seats.{AreSeated, StandAll}
@@ -28,6 +29,12 @@ pub record ServerState (C L : Type 0) : Type 0 where
 
 abbrev pub state : {C L : Type 0} → Server C L → ServerState C L
 state s = record { core = s.book.core; events = s.book.events.items; seats = s.seats.items; failed = s.failed.items; link = s.link }
+
+-- tables of 32 consoles of which none has a connection, and of no event
+pub record AreUnused (t : Tables) : Type 0 where
+  pub events : t.events.items ≡ []
+  pub seats : t.seats.items ≡ replicate 32 None
+  pub failed : t.failed.items ≡ replicate 32 false
 
 -- there are 32 consoles, and those that have a connection each have another one, which is open
 pub record HasTables {C L : Type 0} (look : L → LinkSeen) (s : ServerState C L) : Type 0 where

@@ -1,11 +1,15 @@
 -- claim: what a console heard of its connections over many turns, and what they were sent.
-use Rattle.std.specs.Prelude.{◌≡◌, ℕ, ◌-◌, Bool, true, nat_eq, List, [], ◌∷◌, ◌++◌, length, take, drop, map, filter, get_or, Some}
-use Rattle.std.specs.List.{All, flat_map}
+use Rattle.std.specs.Prelude.{◌≡◌, ℕ, ◌-◌, ◌<◌, ◌^◌, Bool, true, false, ◌&&◌, nat_eq, List, [], ◌∷◌, ◌++◌, length, take, drop, map, filter, get_or, Some}
+use Rattle.std.specs.List.{All, flat_map, list_any}
 use Rattle.ctss_types.specs.declared.script.Event.{Event}
 use Rattle.ctss_types.specs.declared.script.Event.TheVariants.{Dial, Hang}
 use Rattle.ctss_types.specs.declared.script.Timed.{Timed}
 use Rattle.console_wire.specs.Items.{items_from}
-use Rattle.console_link.specs.Links.{LinkSeen}
+use Rattle.console_link.specs.declared.link.LinkGot.{LinkGot}
+use Rattle.console_link.specs.declared.link.LinkGot.TheVariants as got
+use Rattle.console_link.specs.declared.link.LinkTook.{LinkTook}
+use Rattle.console_link.specs.declared.link.LinkTook.TheVariants as took
+use Rattle.console_link.specs.Links.{LinkSeen, Done, DidOpen, DidAccept, DidRead, DidWrite, DidClose, DidWait}
 use Rattle.console_server.specs.Turns.{if_over, end_of}
 use Rattle.console_server.specs.Conversation.{TurnSeen, texts_behind}
 
@@ -32,13 +36,41 @@ OneAtATime [] = Unit {0}
 OneAtATime (v ∷ []) = Unit {0}
 OneAtATime (v ∷ w ∷ visits) = (v.hung ≡ true) × OneAtATime (w ∷ visits)
 
+-- texts whose lengths are below 2^64
+abbrev pub AreCountable : List (List ℕ) → Type 0
+AreCountable texts = All (λ (text : List ℕ). length text < 2 ^ 64) texts
+
+-- a call on this connection that was answered by its end or by a fault
+abbrev pub ends_reading : LinkGot → Bool
+ends_reading (got.Bytes n) = false
+ends_reading got.End = true
+ends_reading got.NotYet = false
+ends_reading got.Failed = true
+
+abbrev pub ends_writing : LinkTook → Bool
+ends_writing (took.Bytes n) = false
+ends_writing took.NotYet = false
+ends_writing took.Failed = true
+
+abbrev pub ends_it : ℕ → Done → Bool
+ends_it id (DidOpen port failed) = false
+ends_it id (DidAccept answer) = false
+ends_it id (DidRead k answer bytes) = nat_eq k id && ends_reading answer
+ends_it id (DidWrite k answer bytes) = nat_eq k id && ends_writing answer
+ends_it id (DidClose k) = false
+ends_it id (DidWait millis failed) = false
+
+-- Of each connection of whose end the core heard, one of these calls was answered by that.
+abbrev pub HaveEnded : List Done → List Visit → Type 0
+HaveEnded calls visits = All (λ (v : Visit). v.hung ≡ true → list_any (ends_it v.id) calls ≡ true) visits
+
 -- The console's connections over these turns, in order: the core heard of each what its bytes say, the place is where the text
 -- ended at the beginning of the turn in which it came, and where the link tells its bytes, these are all that were taken from it,
--- and what was sent to it is a beginning of the text from its place on.
+-- and what was sent to it is a beginning of the text from its place on (of texts whose lengths a count of bytes can hold).
 pub record AreVisits (console : ℕ) (texts : List (List ℕ)) (turns : List TurnSeen) (events : List Timed) (link : LinkSeen) (visits : List Visit) : Type 0 where
   pub heard : events_at console events ≡ flat_map events_of_visit visits
   pub order : OneAtATime visits
   pub places : All (λ (v : Visit). v.place ≡ end_of (texts_behind texts (take v.turn turns)) (Some console)) visits
   pub taken : link.tells ≡ true → All (λ (v : Visit). (link.passed v.id).taken ≡ v.bytes) visits
-  pub sent : link.tells ≡ true
+  pub sent : link.tells ≡ true → AreCountable (texts_behind texts turns)
       → All (λ (v : Visit). (link.passed v.id).sent ≡ take (length (link.passed v.id).sent) (drop v.place (get_or (texts_behind texts turns) (console - 1) []))) visits

@@ -16,4 +16,4 @@ mod turn;
 mod writing;
 
 pub use fault::ServeFault;
-pub use server::{Finished, Server};
+pub use server::{Finished, Server, Tables};

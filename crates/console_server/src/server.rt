@@ -4,7 +4,7 @@ ghost use Rattle.live_core.specs.Core.{WentTo};
 ghost use Rattle.console_server.specs.Readings.{DidAll};
 ghost use Rattle.console_server.specs.Turns.{Desk};
 ghost use Rattle.console_server.specs.Conversation.{TurnsAreDone, TurnsAreCut};
-ghost use Rattle.console_server.specs.Server.{state, HasTables, IsReady, IsDeskOf, TurnIsDone, TurnIsCut, IsCause, closes};
+ghost use Rattle.console_server.specs.Server.{state, AreUnused, HasTables, IsReady, IsDeskOf, TurnIsDone, TurnIsCut, IsCause, closes};
 
 use crate::book::Book;
 use crate::closing::close_all;
@@ -12,7 +12,7 @@ use crate::fault::ServeFault;
 use crate::tasks::Task;
 use crate::turn::do_turn;
 use console_link::Link;
-use ctss_types::{NoMemory, TimedList};
+use ctss_types::{NoMemory, Timed, TimedList};
 use live_core::LiveCore;
 use std::alloc::Global;
 
@@ -43,30 +43,52 @@ fn no_tasks(alloc: Global) -> Result<Vec<Option<Task>>, NoMemory>
     Ok(seats)
 }
 
+/// The tables of a server that has served nobody: all of it that takes memory before its core and its link are handed in.
+#[derive(Drop)]
+pub struct Tables {
+    events: Vec<Timed>,
+    seats: Vec<Option<Task>>,
+    failed: Vec<bool>,
+}
+
+impl Tables {
+    /// Of 32 consoles.
+    pub fn new(alloc: Global) -> Result<Tables, NoMemory>
+        ensures { IfOk result AreUnused }
+    {
+        Ok(Tables {
+            events: Vec::new(alloc),
+            seats: no_tasks(alloc)?,
+            failed: vec![in alloc; false; 32]?,
+        })
+    }
+}
+
 impl<'a, C: LiveCore + Drop, L: Link> Server<'a, C, L> {
     /// A server of 32 consoles, none of which has a connection.
     #[tactic(auto, using(crate::proofs::CutLaws::none_seated))]
-    pub fn new(alloc: Global, core: C, link: &'a mut L) -> Result<Server<'a, C, L>, NoMemory>
-        ensures tables { IfOk result (λ server. HasTables L.seen (state server)) }
-        ensures state { IfOk result (λ server. state server ≡ record {
+    pub fn new(tables: Tables, core: C, link: &'a mut L) -> Server<'a, C, L>
+        requires unused { AreUnused tables }
+        ensures tables { HasTables L.seen (state result) }
+        ensures state { state result ≡ record {
           core = core;
           events = [];
           seats = replicate 32 None;
           failed = replicate 32 false;
           link = link.entry;
-        }) }
+        } }
     {
-        let seats = no_tasks(alloc)?;
-        let failed = vec![in alloc; false; 32]?;
-        Ok(Server {
-            book: Book {
-                core,
-                events: Vec::new(alloc),
-            },
+        let Tables {
+            events,
+            seats,
+            failed,
+        } = tables;
+        Server {
+            book: Book { core, events },
             link,
             seats,
             failed,
-        })
+        }
     }
 
     /// One turn: it waits once, accepts and reads what has come, hands the core its events, lets it go on to the turn's

@@ -4,7 +4,7 @@ ghost use Rattle.text_model.specs.Lawful.{IsLawful};
 
 use ctss_types::{ConsoleNo, Script, Timed};
 use live_core::LiveCore;
-use live_run::{Begun, begin};
+use live_run::{Begun, NewRun, begin};
 use medium::MemoryMedium;
 use script_read::read_script;
 use std::alloc::Global;
@@ -43,7 +43,7 @@ static SECOND: &[u8] =
 
 /// A script that is lawful.
 #[tactic(auto, using(text_model::proofs::LawfulLaws::scripts_are_lawful))]
-fn script_of(rt: &impl Abort, alloc: Global, text: &[u8]) -> Result<Script, Fail>
+pub(crate) fn script_of(rt: &impl Abort, alloc: Global, text: &[u8]) -> Result<Script, Fail>
     ensures { IfOk result IsLawful }
 {
     match read_script(alloc, text) {
@@ -107,7 +107,8 @@ fn each_console_shows_its_own_in_any_parts(rt: HostRuntime) -> Result<(), Fail> 
     let script = script_of(&rt, rt.alloc(), SCRIPT)?;
     let mut drum = MemoryMedium::new(rt.alloc(), 3840, 256, &[], &[], 0)?;
     let mut disk = MemoryMedium::new(rt.alloc(), 10000, 432, &[], &[], 0)?;
-    let Begun { mut run, wrote } = begin(rt.alloc(), &script, &mut drum, &mut disk)?;
+    let new = NewRun::new(rt.alloc(), &script)?;
+    let Begun { mut run, wrote } = begin(new, &script, &mut drum, &mut disk);
     let Ok(()) = wrote else {
         panic!(rt; "the disk failed");
     };

@@ -1,8 +1,13 @@
-use crate::links::peer_of;
-use console_link::{Link, LinkAt, LinkCall, MemoryLink};
-use console_server::Server;
-use ctss_types::{ConsoleNo, Event, NoMemory, RunFault, Timed};
+ghost use Rattle.std.specs.Prelude.{◌≡◌, false};
+
+use crate::links::link_of;
+use crate::rows::holds;
+use console_link::{Link, LinkAt, LinkCall};
+use console_server::{Finished, Server, Tables};
+use ctss_types::{ConsoleNo, Event, NoMemory, RunFault, Timed, TimedList};
 use live_core::LiveCore;
+use std::alloc::Global;
+use std::process::Abort;
 use std::test::Fail;
 
 /// A core that takes everything and shows nothing.
@@ -39,35 +44,74 @@ impl LiveCore for Silent {
     ghost goes_on = { λ a b c first second g h. tt };
 }
 
-fn kind_of(event: Event) -> u8 {
-    match event {
-        Event::Dial => b'D',
-        Event::Line(_) => b'L',
-        Event::Quit => b'Q',
-        Event::Hang => b'H',
+/// What happens at console 1.
+#[derive(Clone, Copy)]
+pub(crate) enum Happens {
+    Dial,
+    Line(&'static [u8]),
+    Hang,
+}
+
+/// A tick, and what happens then.
+pub(crate) type Row = (u64, Happens);
+
+/// Whether an event is this.
+fn is_event(event: Event, wanted: Happens) -> bool {
+    match wanted {
+        Happens::Dial => event == Event::Dial,
+        Happens::Line(text) => match event {
+            Event::Line(line) => line.as_slice() == text,
+            _ => false,
+        },
+        Happens::Hang => event == Event::Hang,
     }
 }
 
+/// Tries that these are the events.
+pub(crate) fn are_events(rt: &impl Abort, events: &[Timed], rows: &[Row]) {
+    assert!(rt; events.len() == rows.len());
+    for (row, (timed, (tick, wanted))) in events.iter().zip(rows).enumerate() {
+        let is_there = timed.tick == *tick && timed.console.number() == 1;
+        holds(rt, row, is_there && is_event(timed.event, *wanted));
+    }
+}
+
+/// Does two turns of a server, and gives the events.
+pub(crate) fn two_turns<C: LiveCore + Drop, L: Link>(
+    rt: &impl Abort,
+    alloc: Global,
+    core: C,
+    link: &mut L,
+) -> Result<TimedList, NoMemory>
+    requires ready { (C.seen core).is_ended ≡ false }
+    requires sound { C.Sound core }
+{
+    let tables = Tables::new(alloc)?;
+    let mut server = Server::new(tables, core, link);
+    assert!(rt; server.turns(2) == Ok(()));
+    let (finished, _) = server.finish();
+    let Finished { core, events } = finished;
+    drop(core);
+    Ok(events)
+}
+
+// The second read of the connection isn't ready, so that the second piece comes in the second turn.
+static HEARD: [Row; 4] = [
+    (0, Happens::Dial),
+    (0, Happens::Line(b"LOGIN ALFA")),
+    (1000, Happens::Line(b"SESAME")),
+    (1000, Happens::Hang),
+];
+
 #[test]
 fn a_connection_is_heard(rt: HostRuntime) -> Result<(), Fail> {
-    let mut peers = Vec::new(rt.alloc());
-    peers.push(peer_of(rt.alloc(), b"login alfa\r\nses", b"ame\r\n")?)?;
-    let not_ready = [LinkAt {
+    let not_ready = LinkAt {
         call: LinkCall::Read(0),
         number: 2,
-    }];
-    let mut link = MemoryLink::new(rt.alloc(), &peers, &[], &not_ready, 40, 8)?;
-    let mut server = Server::new(rt.alloc(), Silent, &mut link)?;
-    assert_eq!(rt; server.turn(0), Ok(()));
-    assert_eq!(rt; server.turn(1), Ok(()));
-    let (finished, _) = server.finish();
-    let mut kinds: Vec<u8> = Vec::new(rt.alloc());
-    let mut ticks: Vec<u64> = Vec::new(rt.alloc());
-    for timed in finished.events.as_slice() {
-        kinds.push(kind_of(timed.event))?;
-        ticks.push(timed.tick)?;
-    }
-    assert_eq!(rt; kinds.as_slice(), b"DLLH".as_slice());
-    assert_eq!(rt; ticks.as_slice(), [0u64, 0, 1000, 1000].as_slice());
+    };
+    let sends: [&[u8]; 2] = [b"login alfa\r\nses", b"ame\r\n"];
+    let mut link = link_of(rt.alloc(), sends, &[], &[not_ready], 40)?;
+    let events = two_turns(&rt, rt.alloc(), Silent, &mut link)?;
+    are_events(&rt, events.as_slice(), &HEARD);
     Ok(())
 }

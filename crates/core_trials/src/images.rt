@@ -8,12 +8,13 @@ ghost use Rattle.image_map.specs.Images.{size_of, image_in, where_told};
 ghost use Rattle.medium.specs.Damages.{IsDamage};
 
 use crate::rows::holds;
+use crate::telling::{Call, TellingDrum};
 use core_bank::Bank;
 use cpu_regs::{MemoryPort, Outside};
 use ctss_types::UserNo;
 use image_map::{DrumFault, Image, Plan, Port, store_in};
 use medium::{Damage, Medium, MemoryMedium};
-use std::alloc::Global;
+use std::alloc::{AllocError, Global};
 use std::process::Abort;
 use std::test::Fail;
 use word36::Word;
@@ -184,30 +185,77 @@ fn runs<D: Medium>(
     Ok(())
 }
 
+static IN_TURN: [Step; 15] = [
+    (1, Give(64)),
+    (2, Give(64)),
+    (3, Give(32)),
+    (1, Load(0, 0, 64, 0, STAYS)),
+    (1, Put(16383, -5)),
+    (1, Put(0, 6)),
+    (2, Load(0, 0, 64, 64, STAYS)),
+    (1, Resident(true)),
+    // Half of the first user's blocks stay in core.
+    (3, Load(32, 0, 32, 0, STAYS)),
+    (1, Resident(false)),
+    (2, Resident(true)),
+    (1, Load(32, 32, 0, 0, STAYS)),
+    (1, Get(16383, Ok(-5))),
+    (1, Get(0, Ok(6))),
+    (3, Load(32, 32, 0, 0, STAYS)),
+];
+
+/// Tries loads of three users over a drum.
+fn loads_in_turn<D: Medium>(rt: &impl Abort, alloc: Global, drum: &mut D) -> Result<(), Fail>
+    requires { Serves (D.contents drum.old) (D.record_count drum.old) (D.words_each drum.old) 160 }
+{
+    let mut image = Image::new(alloc, drum, 160, &[64, 64, 32])?;
+    assert!(rt; runs(rt, &mut image, &[0, 64, 64, 32], &IN_TURN) == Ok(()));
+    let _ = image.back();
+    Ok(())
+}
+
 #[test]
 fn loads_users_in_turn(rt: HostRuntime) -> Result<(), Fail> {
-    static STEPS: [Step; 15] = [
-        (1, Give(64)),
-        (2, Give(64)),
-        (3, Give(32)),
-        (1, Load(0, 0, 64, 0, STAYS)),
-        (1, Put(16383, -5)),
-        (1, Put(0, 6)),
-        (2, Load(0, 0, 64, 64, STAYS)),
-        (1, Resident(true)),
-        // Half of the first user's blocks stay in core.
-        (3, Load(32, 0, 32, 0, STAYS)),
-        (1, Resident(false)),
-        (2, Resident(true)),
-        (1, Load(32, 32, 0, 0, STAYS)),
-        (1, Get(16383, Ok(-5))),
-        (1, Get(0, Ok(6))),
-        (3, Load(32, 32, 0, 0, STAYS)),
-    ];
     let mut drum = MemoryMedium::new(rt.alloc(), 160, 256, &[], &[], 0)?;
-    let mut image = Image::new(rt.alloc(), &mut drum, 160, &[64, 64, 32])?;
-    assert!(rt; runs(&rt, &mut image, &[0, 64, 64, 32], &STEPS) == Ok(()));
-    let _ = image.back();
+    loads_in_turn(&rt, rt.alloc(), &mut drum)
+}
+
+/// So often a put, and behind it a get where there is one. These are the records of the first, and each time they rise by one.
+type Round = (u16, u16, Option<u16>);
+
+// A put goes to the least free record, and a get frees the record of its copy.
+static OF_THE_DRUM: [Round; 6] = [
+    // The third user comes for the first time: the first user's blocks 0 to 31 go to the records 0 to 31.
+    (32, 0, None),
+    // The first user is back: each block of the third user goes to the record that the get before has freed.
+    (1, 32, Some(0)),
+    (31, 0, Some(1)),
+    // The third user is back: its block 0 lies in record 32, and block b behind it in record b - 1.
+    (1, 31, Some(32)),
+    (1, 32, Some(0)),
+    (30, 0, Some(1)),
+];
+
+/// The calls of these rounds.
+fn calls_of(alloc: Global, rounds: &[Round]) -> Result<Vec<Call>, AllocError> {
+    let mut calls = Vec::new(alloc);
+    for (times, put, get) in rounds {
+        for k in 0..*times {
+            calls.push(Call::Put(put.saturating_add(k)))?;
+            if let Some(get) = get {
+                calls.push(Call::Get(get.saturating_add(k)))?;
+            }
+        }
+    }
+    Ok(calls)
+}
+
+#[test]
+fn asks_the_drum_for_what_moves(rt: HostRuntime) -> Result<(), Fail> {
+    let wanted = calls_of(rt.alloc(), &OF_THE_DRUM)?;
+    let mut drum = TellingDrum::new(rt.alloc(), 160)?;
+    loads_in_turn(&rt, rt.alloc(), &mut drum)?;
+    assert!(rt; drum.had(&wanted));
     Ok(())
 }
 

@@ -11,3 +11,5 @@ mod owners;
 mod rows;
 #[cfg(test)]
 mod slots;
+#[cfg(test)]
+mod telling;

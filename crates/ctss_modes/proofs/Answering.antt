@@ -12,7 +12,7 @@ use Rattle.ctss_modes.specs.Outcomes.{bare, IsOneOf}
 use Rattle.ctss_modes.specs.Devices.{DevicesSeen}
 use Rattle.ctss_modes.specs.Modes.{runs_script, reads_script, serves}
 use Rattle.ctss_modes.specs.Asm.{DeckIsWritten, CardsAreRefused, InputIsTooLong, CardsAreCutOff}
-use Rattle.ctss_modes.specs.Top.{IsRun, HasCause, IsCutOff, OfWords, RunIsStopped, RunLosesFiles, ScriptIsRefused, IsSilent, asks_run, asks_link, statuses_asked, statuses_of}
+use Rattle.ctss_modes.specs.Top.{IsRun, HasCause, IsCutOff, OfWords, RunIsStopped, RunLosesFiles, ScriptIsRefused, IsSilent, Unbegun, NotServed, SpendsFor, asks_run, asks_link, statuses_asked, statuses_of}
 use Rattle.ctss_modes.specs.Answer.{Answers, IsAnswer}
 use Rattle.ctss_modes.proofs.Allowed.{always, is_allowed, memory_is_allowed}
 use Rattle.ctss_modes.proofs.Cards.{cut_by_words}
@@ -50,6 +50,7 @@ pub record Scripted (mode : Mode) (old new : DevicesSeen) (o : Outcome) : Type 0
   pub stopped : (words : List (List ℕ)) → mode_of words ≡ Some mode → o.status ≡ 5 → RunIsStopped words old new o
   pub lost : (words : List (List ℕ)) → mode_of words ≡ Some mode → o.status ≡ 6 → RunLosesFiles words old new o
   pub silent : IsOneOf o.status (3 ∷ 7 ∷ 8 ∷ []) → IsSilent o.status old new o
+  pub spent : IsOneOf o.status (7 ∷ 8 ∷ []) → SpendsFor mode old new
   pub unlinked : serves mode ≡ false → new.link ≡ old.link
 
 scripted_words : (mode : Mode) (old new : DevicesSeen) (o : Outcome) → Scripted mode old new o → (words : List (List ℕ)) → mode_of words ≡ Some mode → Answers words old new o
@@ -72,6 +73,7 @@ scripted_words mode old new o s words asked =
       stopped = s.stopped words asked;
       lost = s.lost words asked;
       silent = s.silent;
+      spent = λ h m is. subst (λ (k : Mode). SpendsFor k old new) (one_mode (mode_of words) mode m asked is) (s.spent h);
       apart = record {
         media = λ h. absurd (let wrong : true ≡ false = sym s.runs ∙ subst (λ (m : Option Mode). asks_run m ≡ false) asked h in cc);
         link = λ h. s.unlinked (subst (λ (m : Option Mode). asks_link m ≡ false) asked h);
@@ -116,6 +118,7 @@ assembles_words old new o s words asked =
       stopped = λ h. absurd (grind (arith, h, s.statuses, nat_tests));
       lost = λ h. absurd (grind (arith, h, s.statuses, nat_tests));
       silent = λ h. s.silent (grind (arith, h, s.statuses, nat_tests));
+      spent = λ h m is. subst (λ (k : Mode). SpendsFor k old new) (one_mode (mode_of words) Asm m asked is) s.media;
       apart = record { media = λ h. s.media; link = λ h. s.link };
       allowed = allowed;
       complete = λ none. complete words old new o causes allowed none;
@@ -165,6 +168,7 @@ refuses_words old new o s words none =
       stopped = λ h. absurd (grind (arith, h, s.statuses, nat_tests));
       lost = λ h. absurd (grind (arith, h, s.statuses, nat_tests));
       silent = λ h. absurd (grind (arith, h, s.statuses, nat_tests));
+      spent = λ h m is. absurd (none_asked words m none is);
       apart = record { media = λ h. s.media; link = λ h. s.link };
       allowed = allowed;
       complete = λ n. complete words old new o causes allowed n;
@@ -174,6 +178,13 @@ pub refuses : (old new : DevicesSeen) (o : Outcome) → Refuses old new o → Is
 refuses old new o s = record { to_words = refuses_words old new o s }
 
 -- want of memory before anything was done
+nothing_spent : (mode : Mode) (seen : DevicesSeen) → SpendsFor mode seen seen
+nothing_spent Replay seen = Unbegun refl refl
+nothing_spent Dump seen = Unbegun refl refl
+nothing_spent (Load n) seen = Unbegun refl refl
+nothing_spent Asm seen = refl
+nothing_spent (Serve port turns) seen = NotServed refl refl
+
 pub no_memory : (words : List (List ℕ)) (seen : DevicesSeen) → Answers words seen seen (bare 8 0 0)
 no_memory words seen =
     record {
@@ -190,6 +201,7 @@ no_memory words seen =
       stopped = λ h. absurd (omega (arith, h));
       lost = λ h. absurd (omega (arith, h));
       silent = λ h. record { outcome = refl; same = refl; media = λ k. refl; link = λ k. refl };
+      spent = λ h mode asked. nothing_spent mode seen;
       apart = record { media = λ h. refl; link = λ h. refl };
       allowed = memory_is_allowed words seen (bare 8 0 0) refl;
       complete = λ none. complete words seen seen (bare 8 0 0) (memory_has_causes seen seen (bare 8 0 0) refl) (memory_is_allowed words seen (bare 8 0 0) refl) none;

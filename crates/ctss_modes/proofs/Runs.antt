@@ -64,3 +64,7 @@ agrees_at_start events old new back is agrees = record {
 
 pub no_entry : (events : List Timed) (old new : Bare) → run_with no_places new ≡ with_all_events events (run_with no_places old) → old.entries ≡ [] → new.entries ≡ []
 no_entry events old new is none = ap (λ (q : Run). q.system.entries) is ∙ none
+
+pub one_entry : (e : Timed) (old new : Bare) → run_with no_places new ≡ with_one_event e (run_with no_places old) → new.entries ≡ old.entries
+unfolding with_one_event
+one_entry e old new is = ap (λ (q : Run). q.system.entries) is

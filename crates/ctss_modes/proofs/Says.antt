@@ -23,15 +23,16 @@ use Rattle.live_laws.specs.Parts.{live_script}
 use Rattle.live_serve.specs.Talks.{IsTalk}
 use Rattle.live_serve.specs.declared.ending.Served.{Served}
 use Rattle.live_serve.specs.declared.ending.Served.TheVariants.{Done, DrumFailed, DiskFailed}
-use Rattle.live_serve.specs.Live.{IsServed, IsLiveRecord, IsStopped as LiveIsStopped, IsLost as LiveIsLost}
+use Rattle.live_serve.specs.Live.{IsServed, IsLiveRecord, IsStopped as LiveIsStopped, IsLost as LiveIsLost, HasSpent as HasLiveSpent, BehindTurns}
+use Rattle.live_laws.specs.Beginnings.{IsBeginning}
 use Rattle.console_link.specs.Links.{LinkSeen}
 use Rattle.live_run.specs.Media.{MediaSeen}
 use Rattle.ctss_modes.specs.declared.outcome.Outcome.{Outcome}
 use Rattle.ctss_modes.specs.Outcomes.{bare, failed}
 use Rattle.ctss_modes.specs.Devices.{DevicesSeen}
-use Rattle.ctss_modes.specs.Played.{IsStopped, IsDone, IsLost}
+use Rattle.ctss_modes.specs.Played.{IsDone, IsCut, IsLost, HasSpent, InSteps}
 use Rattle.ctss_modes.specs.Modes.{runs_script, reads_script, replays, serves, script_for, Comes, IsSpelled, IsRefused, text_for}
-use Rattle.ctss_modes.specs.Top.{IsRun, RunIsStopped, ScriptIsStopped, StopsFor, RunLosesFiles, ScriptLosesFiles, LosesFor, ScriptIsRefused, OfRefusal, OfRun, IsCutOff, IsSilent, statuses_for, statuses_live}
+use Rattle.ctss_modes.specs.Top.{IsRun, RunIsStopped, ScriptIsStopped, StopsFor, RunLosesFiles, ScriptLosesFiles, LosesFor, ScriptIsRefused, OfRefusal, OfRun, IsCutOff, IsSilent, ScriptSpends, Unbegun, Begun, SpendsFor, statuses_for, statuses_live}
 
 -- a list with one more behind its first
 one_more_said : (a n rest : Bool) → (a || rest) ≡ true → (a || (n || rest)) ≡ true
@@ -185,7 +186,7 @@ replays_alone Asm is = refl
 replays_alone (Serve port turns) is = sym is
 
 pub is_stopped : (words : List (List ℕ)) (mode : Mode) → serves mode ≡ false → (old new : DevicesSeen) (o : Outcome) (script : Script) → mode_of words ≡ Some mode → Comes mode old new script
-    → new.output.held ≡ old.output.held → (old.media.tells ≡ true → IsStopped script o.run old.media.drum_calls new.media.drum_calls) → (o.card ≡ 0) × (o.cause ≡ 0) → RunIsStopped words old new o
+    → new.output.held ≡ old.output.held → IsCut script old.media new.media o.run → (o.card ≡ 0) × (o.cause ≡ 0) → RunIsStopped words old new o
 is_stopped words mode alone old new o script asked comes silent stopped numbers =
     record {
       mode = mode;
@@ -209,7 +210,7 @@ is_lost words mode alone old new o script asked comes silent lost numbers =
     record {
       mode = mode;
       asked = asked;
-      loses = loses_for mode alone old new o (record { script = script; comes = comes; lacks = lost.lacks });
+      loses = loses_for mode alone old new o (record { script = script; comes = comes; lost = lost });
       silent = silent;
       card = numbers.0;
       cause = numbers.1;
@@ -223,7 +224,7 @@ silent_by status n old new o is h = subst (λ (k : ℕ). IsSilent k old new o) (
 abbrev pub live_by : ℕ → Script → List Timed → Script
 live_by turns base events = live_script base events (1000 * turns)
 
-comes_live : (port turns : ℕ) (old new : DevicesSeen) (base : Script) (events : List Timed) → IsSpelled (Serve port turns) old.input.left new.input.left base → IsTalk port turns events old.link new.link → Comes (Serve port turns) old new (live_by turns base events)
+comes_live : (port turns : ℕ) (old new : DevicesSeen) (base : Script) (events : List Timed) → IsSpelled (Serve port turns) old.input.left new.input.left base → IsTalk base old.media.tells port turns events old.link new.link → Comes (Serve port turns) old new (live_by turns base events)
 comes_live port turns old new base events spelled talk = record { base = base; events = events; spelled = spelled; talk = talk; script_is = refl }
 
 done_live : (turns : ℕ) (old new : DevicesSeen) (base : Script) (events : List Timed) (rec run : Record) → IsLiveRecord base turns events old.media new.media rec → run ≡ rec → IsDone (live_by turns base events) old.media new.media run
@@ -231,28 +232,52 @@ done_live turns old new base events rec run live is =
     subst (IsDone (live_by turns base events) old.media new.media) (sym is) (record { record_is = live.record_is; counted = live.counted; lie = live.lie })
 
 pub live_run : (port turns : ℕ) (old new : DevicesSeen) (o : Outcome) (base : Script) (events : List Timed) (rec : Record) → IsSpelled (Serve port turns) old.input.left new.input.left base
-    → IsLiveRecord base turns events old.media new.media rec → IsTalk port turns events old.link new.link → o.run ≡ rec → (o.card ≡ 0) × (o.cause ≡ 0)
+    → IsLiveRecord base turns events old.media new.media rec → IsTalk base old.media.tells port turns events old.link new.link → o.run ≡ rec → (o.card ≡ 0) × (o.cause ≡ 0)
     → new.output.held ≡ after old.output.held (text_for (Serve port turns) (live_by turns base events) o.run) → IsRun (Serve port turns) old new o
 live_run port turns old new o base events rec spelled live talk is numbers written =
     is_run (Serve port turns) old new o (live_by turns base events) (comes_live port turns old new base events spelled talk) (done_live turns old new base events rec o.run live is) numbers written
 
 pub live_cut : (words : List (List ℕ)) (port turns : ℕ) → mode_of words ≡ Some (Serve port turns) → (old new : DevicesSeen) (o : Outcome) (base : Script) (events : List Timed) (rec : Record) → IsSpelled (Serve port turns) old.input.left new.input.left base
-    → IsLiveRecord base turns events old.media new.media rec → IsTalk port turns events old.link new.link → o.run ≡ rec → (o.card ≡ 0) × (o.cause ≡ 0)
+    → IsLiveRecord base turns events old.media new.media rec → IsTalk base old.media.tells port turns events old.link new.link → o.run ≡ rec → (o.card ≡ 0) × (o.cause ≡ 0)
     → GrewByProperPrefix old.output.held (text_for (Serve port turns) (live_by turns base events) o.run) new.output.held → IsCutOff words old new o
 live_cut words port turns asked old new o base events rec spelled live talk is numbers part =
     cut_run words (Serve port turns) asked old new o (live_by turns base events) (comes_live port turns old new base events spelled talk) (done_live turns old new base events rec o.run live is) numbers part
 
 pub live_stopped : (words : List (List ℕ)) (port turns : ℕ) → mode_of words ≡ Some (Serve port turns) → (old new : DevicesSeen) (o : Outcome) (base : Script) (rec : Record) → IsSpelled (Serve port turns) old.input.left new.input.left base
-    → new.output.held ≡ old.output.held → LiveIsStopped base turns old.media new.media rec → o ≡ failed 5 rec → RunIsStopped words old new o
+    → new.output.held ≡ old.output.held → LiveIsStopped base port turns old.media new.media old.link new.link rec → o ≡ failed 5 rec → RunIsStopped words old new o
 live_stopped words port turns asked old new o base rec spelled silent stopped is =
     subst (RunIsStopped words old new) (sym is)
-    (record { mode = Serve port turns; asked = asked; stopped = record { base = base; spelled = spelled; stopped = stopped.stopped }; silent = silent; card = refl; cause = refl })
+    (record { mode = Serve port turns; asked = asked; stopped = record { base = base; spelled = spelled; stopped = stopped }; silent = silent; card = refl; cause = refl })
 
 pub live_lost : (words : List (List ℕ)) (port turns : ℕ) → mode_of words ≡ Some (Serve port turns) → (old new : DevicesSeen) (o : Outcome) (base : Script) (rec : Record) → IsSpelled (Serve port turns) old.input.left new.input.left base
     → new.output.held ≡ old.output.held → LiveIsLost base port turns old.media new.media old.link new.link rec → o ≡ failed 6 rec → RunLosesFiles words old new o
 live_lost words port turns asked old new o base rec spelled silent lost is =
     subst (RunLosesFiles words old new) (sym is)
-    (record { mode = Serve port turns; asked = asked; loses = record { base = base; spelled = spelled; lacks = lost.lacks }; silent = silent; card = refl; cause = refl })
+    (record { mode = Serve port turns; asked = asked; loses = record { base = base; spelled = spelled; lost = lost }; silent = silent; card = refl; cause = refl })
+
+-- no record came
+
+spends_for : (mode : Mode) → serves mode ≡ false → runs_script mode ≡ true → (old new : DevicesSeen) → ScriptSpends mode old new → SpendsFor mode old new
+spends_for Replay alone runs old new s = s
+spends_for Dump alone runs old new s = s
+spends_for (Load n) alone runs old new s = s
+spends_for Asm alone runs old new s = cc
+spends_for (Serve port turns) alone runs old new s = cc
+
+pub unbegun : (mode : Mode) → serves mode ≡ false → runs_script mode ≡ true → (old new : DevicesSeen) → new.media.drum_calls ≡ old.media.drum_calls → new.link ≡ old.link → SpendsFor mode old new
+unbegun mode alone runs old new drum link = spends_for mode alone runs old new (Unbegun drum link)
+
+pub script_spends : (mode : Mode) → serves mode ≡ false → runs_script mode ≡ true → (old new : DevicesSeen) (script : Script) → Comes mode old new script → HasSpent script old.media new.media → SpendsFor mode old new
+script_spends mode alone runs old new script comes spent = spends_for mode alone runs old new (Begun script comes spent)
+
+-- a record came, and memory lacked behind it
+pub spent_when_done : (script : Script) (was now : MediaSeen) (rec : Record) → IsDone script was now rec → HasSpent script was now
+spent_when_done script was now rec done = InSteps rec.entries done.counted (λ told. subst (λ (r : Record). IsBeginning rec.entries r.entries) (done.record_is told) ([], sym (append-nil rec.entries)))
+
+pub live_spent_when_done : (base : Script) (port turns : ℕ) (was now : MediaSeen) (a b : LinkSeen) (events : List Timed) (rec : Record) → IsLiveRecord base turns events was now rec × IsTalk base was.tells port turns events a b
+    → HasLiveSpent base port turns was now a b
+live_spent_when_done base port turns was now a b events rec done =
+    BehindTurns events done.1 rec.entries done.0.counted (λ told. subst (λ (r : Record). IsBeginning rec.entries r.entries) (done.0.record_is told) ([], sym (append-nil rec.entries)))
 
 -- what is true of all bytes that came is true of those that were told
 pub of_told : (left rest : Option (List ℕ)) (bytes : List ℕ) (P : List ℕ → Type 0) → left ≡ prepended bytes rest → IsAtEnd rest → P bytes → WhereTold left P
@@ -302,10 +327,10 @@ live_told_no_memory left = by_base 8 (λ said. at_8 said) left
 -- what was served, by how it ended
 
 module _ (base : Script) (port turns : ℕ) (was now : MediaSeen) (a b : LinkSeen) (s : Served) (is_served : IsServed base port turns was now a b s) where
-  pub all_served : (events : List Timed) (rec : Record) → s ≡ Done events rec → IsLiveRecord base turns events was now rec × IsTalk port turns events a b
+  pub all_served : (events : List Timed) (rec : Record) → s ≡ Done events rec → IsLiveRecord base turns events was now rec × IsTalk base was.tells port turns events a b
   all_served events rec is = subst (λ (x : Served). IsServed base port turns was now a b x) is is_served
 
-  pub drum_ended : (rec : Record) → s ≡ DrumFailed rec → LiveIsStopped base turns was now rec
+  pub drum_ended : (rec : Record) → s ≡ DrumFailed rec → LiveIsStopped base port turns was now a b rec
   drum_ended rec is = subst (λ (x : Served). IsServed base port turns was now a b x) is is_served
 
   pub disk_ended : (rec : Record) → s ≡ DiskFailed rec → LiveIsLost base port turns was now a b rec

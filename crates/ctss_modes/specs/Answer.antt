@@ -8,7 +8,7 @@ use Rattle.ctss_modes.specs.Outcomes.{IsOneOf}
 use Rattle.ctss_modes.specs.Devices.{DevicesSeen}
 use Rattle.ctss_modes.specs.Modes.{runs_script}
 use Rattle.ctss_modes.specs.Asm.{DeckIsWritten}
-use Rattle.ctss_modes.specs.Top.{IsRun, IsRefusal, HasCause, IsCutOff, RunIsStopped, RunLosesFiles, IsSilent, LeavesUnasked, IsAllowed, NothingFailed, IsComplete}
+use Rattle.ctss_modes.specs.Top.{IsRun, IsRefusal, HasCause, IsCutOff, RunIsStopped, RunLosesFiles, IsSilent, SpendsFor, LeavesUnasked, IsAllowed, NothingFailed, IsComplete}
 
 pub record Answers (words : List (List ℕ)) (old new : DevicesSeen) (result : Outcome) : Type 0 where
   pub headline : (mode : Mode) → mode_of words ≡ Some mode → runs_script mode ≡ true → result.status ≡ 0 → IsRun mode old new result
@@ -19,6 +19,7 @@ pub record Answers (words : List (List ℕ)) (old new : DevicesSeen) (result : O
   pub stopped : result.status ≡ 5 → RunIsStopped words old new result
   pub lost : result.status ≡ 6 → RunLosesFiles words old new result
   pub silent : IsOneOf result.status (3 ∷ 7 ∷ 8 ∷ []) → IsSilent result.status old new result
+  pub spent : IsOneOf result.status (7 ∷ 8 ∷ []) → (mode : Mode) → mode_of words ≡ Some mode → SpendsFor mode old new
   pub apart : LeavesUnasked words old new
   pub allowed : IsAllowed words old result
   pub complete : NothingFailed old new → IsComplete words old result

@@ -16,7 +16,7 @@ use Rattle.text_model.specs.Summary.{summary_of}
 use Rattle.script_read.specs.Bases.{base_of}
 use Rattle.live_laws.specs.Parts.{live_script}
 use Rattle.live_serve.specs.Talks.{IsTalk}
-use Rattle.ctss_modes.specs.Devices.{DevicesSeen}
+use Rattle.ctss_modes.specs.Devices.{InputSeen, DevicesSeen}
 
 abbrev pub ModeAsked : Type 0
 ModeAsked = Mode
@@ -78,23 +78,23 @@ pub record IsSpelled (mode : Mode) (left rest : Option (List ℕ)) (script : Scr
   pub spelled : script_for mode bytes ≡ Ok script
 
 -- nothing was read, and this is the script that is made of the number
-pub record IsMade (n : ℕ) (left rest : Option (List ℕ)) (script : Script) : Type 0 where
-  pub unread : rest ≡ left
+pub record IsMade (n : ℕ) (was now : InputSeen) (script : Script) : Type 0 where
+  pub unread : now ≡ was
   pub made : script ≡ made_script n
 
 -- A base script came, people talked over the link at this port for so many turns, and this is the base with the events that they
--- gave.
+-- gave; where drum and disk tell their records, they were sent what the consoles show in its run.
 pub record IsLive (mode : Mode) (port turns : ℕ) (old new : DevicesSeen) (script : Script) : Type 0 where
   pub base : Script
   pub events : List Timed
   pub spelled : IsSpelled mode old.input.left new.input.left base
-  pub talk : IsTalk port turns events old.link new.link
+  pub talk : IsTalk base old.media.tells port turns events old.link new.link
   pub script_is : script ≡ live_script base events (1000 * turns)
 
 abbrev pub Comes : Mode → DevicesSeen → DevicesSeen → Script → Type 0
 Comes Replay old new script = IsSpelled Replay old.input.left new.input.left script
 Comes Dump old new script = IsSpelled Dump old.input.left new.input.left script
-Comes (Load n) old new script = IsMade n old.input.left new.input.left script
+Comes (Load n) old new script = IsMade n old.input new.input script
 Comes Asm old new script = true ≡ false
 Comes (Serve port turns) old new script = IsLive (Serve port turns) port turns old new script
 

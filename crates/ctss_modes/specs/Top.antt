@@ -19,8 +19,8 @@ use Rattle.ctss_modes.specs.declared.outcome.Outcome.{Outcome}
 use Rattle.ctss_modes.specs.Outcomes.{empty_record, bare, IsOneOf}
 use Rattle.ctss_modes.specs.Devices.{DevicesSeen, Stands}
 use Rattle.file_tracks.specs.Lying.{LieOn}
-use Rattle.live_serve.specs.Live.{StopsInTurn, LacksFiles as LiveLacksFiles}
-use Rattle.ctss_modes.specs.Played.{IsStopped, IsDone, LacksFiles}
+use Rattle.live_serve.specs.Live.{IsStopped as IsLiveStopped, IsLost as IsLiveLost, HasSpent as HasLiveSpent}
+use Rattle.ctss_modes.specs.Played.{IsDone, IsCut, IsLost, HasSpent}
 use Rattle.ctss_modes.specs.Modes.{Comes, IsSpelled, IsRefused, text_for, reads_script, runs_script, serves}
 use Rattle.ctss_modes.specs.Asm.{IsTextOfCards, CardsAreRefused, InputIsTooLong, statuses_for_cards, status_of_cards}
 
@@ -41,25 +41,24 @@ pub record IsRun (mode : Mode) (old new : DevicesSeen) (result : Outcome) : Type
   pub card : result.card ≡ 0
   pub cause : result.cause ≡ 0
 
--- Where drum and disk tell their records, the run is the record of some whole steps of the script, behind which a user is to be brought
--- into core; where the drum tells its calls, that load was cut off by the last one.
+-- The drum failed in the run of this script.
 pub record ScriptIsStopped (mode : Mode) (old new : DevicesSeen) (result : Outcome) : Type 0 where
   pub script : Script
   pub comes : Comes mode old new script
-  pub stopped : old.media.tells ≡ true → IsStopped script result.run old.media.drum_calls new.media.drum_calls
+  pub stopped : IsCut script old.media new.media result.run
 
--- the same of a turn of live consoles
-pub record LiveIsStopped (mode : Mode) (turns : ℕ) (old new : DevicesSeen) (result : Outcome) : Type 0 where
+-- the same of live consoles, in a turn
+pub record LiveIsStopped (mode : Mode) (port turns : ℕ) (old new : DevicesSeen) (result : Outcome) : Type 0 where
   pub base : Script
   pub spelled : IsSpelled mode old.input.left new.input.left base
-  pub stopped : old.media.tells ≡ true → StopsInTurn base turns old.media new.media result.run
+  pub stopped : IsLiveStopped base port turns old.media new.media old.link new.link result.run
 
 abbrev pub StopsFor : Mode → DevicesSeen → DevicesSeen → Outcome → Type 0
 StopsFor Replay old new result = ScriptIsStopped Replay old new result
 StopsFor Dump old new result = ScriptIsStopped Dump old new result
 StopsFor (Load n) old new result = ScriptIsStopped (Load n) old new result
 StopsFor Asm old new result = true ≡ false
-StopsFor (Serve port turns) old new result = LiveIsStopped (Serve port turns) turns old new result
+StopsFor (Serve port turns) old new result = LiveIsStopped (Serve port turns) port turns old new result
 
 -- the drum failed, and nothing was written
 pub record RunIsStopped (words : List (List ℕ)) (old new : DevicesSeen) (result : Outcome) : Type 0 where
@@ -70,18 +69,17 @@ pub record RunIsStopped (words : List (List ℕ)) (old new : DevicesSeen) (resul
   pub card : result.card ≡ 0
   pub cause : result.cause ≡ 0
 
--- The disk failed, and nothing was written: where drum and disk tell their records, the run is a record without files, of some whole
--- steps of the script or of all.
+-- The disk failed in the run of this script, or before or behind it.
 pub record ScriptLosesFiles (mode : Mode) (old new : DevicesSeen) (result : Outcome) : Type 0 where
   pub script : Script
   pub comes : Comes mode old new script
-  pub lacks : old.media.tells ≡ true → LacksFiles script result.run
+  pub lost : IsLost script old.media new.media result.run
 
 -- the same of live consoles
 pub record LiveLosesFiles (mode : Mode) (port turns : ℕ) (old new : DevicesSeen) (result : Outcome) : Type 0 where
   pub base : Script
   pub spelled : IsSpelled mode old.input.left new.input.left base
-  pub lacks : old.media.tells ≡ true → LiveLacksFiles base port turns old.link new.link result.run
+  pub lost : IsLiveLost base port turns old.media new.media old.link new.link result.run
 
 abbrev pub LosesFor : Mode → DevicesSeen → DevicesSeen → Outcome → Type 0
 LosesFor Replay old new result = ScriptLosesFiles Replay old new result
@@ -97,6 +95,23 @@ pub record RunLosesFiles (words : List (List ℕ)) (old new : DevicesSeen) (resu
   pub silent : new.output.held ≡ old.output.held
   pub card : result.card ≡ 0
   pub cause : result.cause ≡ 0
+
+-- No record came of a script's run, as memory lacked: drum and link had not been called, or this script was run, over the drum's calls.
+pub data ScriptSpends (mode : Mode) (old new : DevicesSeen) : Type 0 where
+  Unbegun : new.media.drum_calls ≡ old.media.drum_calls → new.link ≡ old.link → ScriptSpends mode old new
+  Begun : (script : Script) → Comes mode old new script → HasSpent script old.media new.media → ScriptSpends mode old new
+
+-- the same of live consoles, of which the listener may have failed too
+pub data LiveSpends (mode : Mode) (port turns : ℕ) (old new : DevicesSeen) : Type 0 where
+  NotServed : new.media.drum_calls ≡ old.media.drum_calls → new.link ≡ old.link → LiveSpends mode port turns old new
+  Serving : (base : Script) → IsSpelled mode old.input.left new.input.left base → HasLiveSpent base port turns old.media new.media old.link new.link → LiveSpends mode port turns old new
+
+abbrev pub SpendsFor : Mode → DevicesSeen → DevicesSeen → Type 0
+SpendsFor Replay old new = ScriptSpends Replay old new
+SpendsFor Dump old new = ScriptSpends Dump old new
+SpendsFor (Load n) old new = ScriptSpends (Load n) old new
+SpendsFor Asm old new = new.media ≡ old.media
+SpendsFor (Serve port turns) old new = LiveSpends (Serve port turns) port turns old new
 
 -- the script that came is refused, and so it was written; no call of drum, disk or link was made
 pub record ScriptIsRefused (mode : Mode) (old new : DevicesSeen) (result : Outcome) : Type 0 where

@@ -10,7 +10,7 @@ ghost use Rattle.live_run.specs.Media.{media_seen};
 ghost use Rattle.ctss_modes.specs.Outcomes.{IsOneOf};
 ghost use Rattle.ctss_modes.specs.Modes.{IsSpelled};
 ghost use Rattle.ctss_modes.specs.Devices.{InputSeen, output_seen, devices, seen};
-ghost use Rattle.ctss_modes.specs.Top.{IsRun, RunIsStopped, RunLosesFiles, ScriptIsRefused, HasCause, IsCutOff, IsSilent, statuses_live};
+ghost use Rattle.ctss_modes.specs.Top.{IsRun, RunIsStopped, RunLosesFiles, ScriptIsRefused, HasCause, IsCutOff, IsSilent, SpendsFor, statuses_live};
 
 use crate::modes::write_run;
 use crate::outcome::Outcome;
@@ -59,6 +59,10 @@ fn host<K: Sink, D: Medium, F: Medium, L: Link>(
     ensures cause { (input : InputSeen) → HasCause
         (devices input (output_seen K.Sink sink.old) (media_seen D.Medium F.Medium drum.old disk.old) (L.seen link.old))
         (devices input (output_seen K.Sink sink.new) (media_seen D.Medium F.Medium drum.new disk.new) (L.seen link.new)) result }
+    ensures spent { (was now : InputSeen) → IsSpelled (Mode.Serve port turns) was.left now.left base
+        → IsOneOf result.status (7 ∷ 8 ∷ []) → SpendsFor (Mode.Serve port turns)
+        (devices was (output_seen K.Sink sink.old) (media_seen D.Medium F.Medium drum.old disk.old) (L.seen link.old))
+        (devices now (output_seen K.Sink sink.new) (media_seen D.Medium F.Medium drum.new disk.new) (L.seen link.new)) }
     ensures silent { (was now : InputSeen) → IsOneOf result.status (7 ∷ 8 ∷ []) → IsSilent result.status
         (devices was (output_seen K.Sink sink.old) (media_seen D.Medium F.Medium drum.old disk.old) (L.seen link.old))
         (devices now (output_seen K.Sink sink.new) (media_seen D.Medium F.Medium drum.new disk.new) (L.seen link.new)) result }
@@ -116,6 +120,9 @@ pub(crate) fn serve_consoles<S: Source, K: Sink, D: Medium, F: Medium, L: Link>(
     ensures silent { IsOneOf result.status (3 ∷ 7 ∷ 8 ∷ []) → IsSilent result.status
         (seen S.Source K.Sink D.Medium F.Medium input.old sink.old drum.old disk.old (L.seen link.old))
         (seen S.Source K.Sink D.Medium F.Medium input.new sink.new drum.new disk.new (L.seen link.new)) result }
+    ensures spent { IsOneOf result.status (7 ∷ 8 ∷ []) → SpendsFor (Mode.Serve port turns)
+        (seen S.Source K.Sink D.Medium F.Medium input.old sink.old drum.old disk.old (L.seen link.old))
+        (seen S.Source K.Sink D.Medium F.Medium input.new sink.new drum.new disk.new (L.seen link.new)) }
     ensures statuses { WhereTold (S.left input.old) (λ bytes. IsOneOf result.status (statuses_live (base_of bytes))) }
 {
     let bytes = match read_bytes(alloc, input) {

@@ -14,10 +14,10 @@ ghost use Rattle.track_store.specs.Tracks.{Serves as Holds};
 ghost use Rattle.live_run.specs.Media.{media_seen};
 ghost use Rattle.console_link.specs.Links.{LinkSeen};
 ghost use Rattle.ctss_modes.specs.Outcomes.{bare, IsOneOf};
-ghost use Rattle.ctss_modes.specs.Played.{IsDone, IsCut, IsLost};
+ghost use Rattle.ctss_modes.specs.Played.{IsDone, IsCut, IsLost, HasSpent};
 ghost use Rattle.ctss_modes.specs.Modes.{runs_script, replays, text_for};
 ghost use Rattle.ctss_modes.specs.Devices.{InputSeen, output_seen, devices, seen};
-ghost use Rattle.ctss_modes.specs.Top.{IsRun, RunIsStopped, RunLosesFiles, ScriptIsRefused, HasCause, IsCutOff, IsSilent, statuses_for};
+ghost use Rattle.ctss_modes.specs.Top.{IsRun, RunIsStopped, RunLosesFiles, ScriptIsRefused, HasCause, IsCutOff, IsSilent, SpendsFor, statuses_for};
 
 use crate::outcome::Outcome;
 use crate::record::record_script;
@@ -146,6 +146,8 @@ fn perform<K: Sink, D: Medium, F: Medium>(
         → GrewByProperPrefix (K.held sink.old) (text_for mode script.now result.run) (K.held sink.new) }
     ensures cause { result.status ≡ 4 → Rose (K.faults sink.old) (K.faults sink.new) }
     ensures memory { result.status ≡ 8 → result ≡ bare 8 0 0 }
+    ensures spent { result.status ≡ 8 → HasSpent script.now
+        (media_seen D.Medium F.Medium drum.old disk.old) (media_seen D.Medium F.Medium drum.new disk.new) }
     ensures silent { IsOneOf result.status (5 ∷ 6 ∷ 8 ∷ []) → K.held sink.new ≡ K.held sink.old }
 {
     match record_script(alloc, script, drum, disk) {
@@ -189,6 +191,9 @@ pub(crate) fn replay<S: Source, K: Sink, D: Medium, F: Medium>(
     ensures silent { (link : LinkSeen) → IsOneOf result.status (3 ∷ 8 ∷ []) → IsSilent result.status
         (seen S.Source K.Sink D.Medium F.Medium script.old sink.old drum.old disk.old link)
         (seen S.Source K.Sink D.Medium F.Medium script.new sink.new drum.new disk.new link) result }
+    ensures spent { (link : LinkSeen) → result.status ≡ 8
+        → SpendsFor mode (seen S.Source K.Sink D.Medium F.Medium script.old sink.old drum.old disk.old link)
+        (seen S.Source K.Sink D.Medium F.Medium script.new sink.new drum.new disk.new link) }
     ensures statuses { WhereTold (S.left script.old) (λ bytes. IsOneOf result.status (statuses_for (script_of bytes))) }
 {
     let bytes = match read_bytes(alloc, script) {
@@ -234,6 +239,9 @@ pub(crate) fn load<K: Sink, D: Medium, F: Medium>(
     ensures silent { (input : InputSeen) (link : LinkSeen) → result.status ≡ 8
         → IsSilent 8 (devices input (output_seen K.Sink sink.old) (media_seen D.Medium F.Medium drum.old disk.old) link)
         (devices input (output_seen K.Sink sink.new) (media_seen D.Medium F.Medium drum.new disk.new) link) result }
+    ensures spent { (input : InputSeen) (link : LinkSeen) → result.status ≡ 8
+        → SpendsFor (Mode.Load n) (devices input (output_seen K.Sink sink.old) (media_seen D.Medium F.Medium drum.old disk.old) link)
+        (devices input (output_seen K.Sink sink.new) (media_seen D.Medium F.Medium drum.new disk.new) link) }
 {
     match make_script(alloc, n) {
         Ok(script) => perform(alloc, Mode::Load(n), &script, sink, drum, disk),

@@ -1,5 +1,5 @@
 //! The record of a script, over drum and disk.
-ghost use Rattle.std.specs.Prelude.{◌≡◌, IfOk, OnOk};
+ghost use Rattle.std.specs.Prelude.{◌≡◌, IfOk, OnOk, OnErr};
 ghost use Rattle.std.specs.List.{All};
 ghost use Rattle.drum_slots.specs.Kept.{Serves};
 ghost use Rattle.track_store.specs.Tracks.{Serves as Holds};
@@ -14,11 +14,12 @@ ghost use Rattle.supervisor.specs.Seen.{run_with};
 ghost use Rattle.supervisor.specs.Steps.{Lasts};
 ghost use Rattle.supervisor.specs.Whole.{whole_of};
 ghost use Rattle.live_run.specs.Media.{media_seen};
-ghost use Rattle.ctss_modes.specs.Played.{IsPlayed, IsScriptRun};
+ghost use Rattle.live_run.specs.Starts.{IsNew};
+ghost use Rattle.ctss_modes.specs.Played.{IsPlayed, IsScriptRun, HasSpent};
 
-use ctss_types::{NoMemory, RunFault, Script, Timed};
+use ctss_types::{NoMemory, RunFault, Script, StepFault, Timed};
 use image_map::Image;
-use live_run::{Begun, Played, begin, finish};
+use live_run::{Begun, NewRun, Played, begin, finish};
 use medium::Medium;
 use std::alloc::Global;
 use supervisor::Supervisor;
@@ -31,6 +32,8 @@ fn give_all(supervisor: &mut Supervisor, events: &[Timed]) -> Result<(), NoMemor
     ensures given { (places : Places)
         → OnOk result (run_with places supervisor.new ≡ with_all_events events.now (run_with places supervisor.old)) }
     ensures texts { supervisor.new.texts ≡ supervisor.old.texts }
+    ensures ended { supervisor.new.ended ≡ supervisor.old.ended }
+    ensures entries { supervisor.new.entries ≡ supervisor.old.entries }
 {
     for event in events {
         supervisor.take(*event)?;
@@ -49,38 +52,55 @@ pub struct ScriptRun<'a, 'd, D: Medium, F: Medium> {
 /// The run of a script: all its events are given, and it goes to the script's end, unless drum or disk fails or memory lacks. Where the
 /// first files can't be written it never begins.
 pub fn run_script<'a, 'd, D: Medium, F: Medium>(
-    alloc: Global,
+    new: NewRun,
     script: &Script,
     drum: &'a mut D,
     disk: &'d mut F,
-) -> Result<ScriptRun<'a, 'd, D, F>, NoMemory>
+) -> ScriptRun<'a, 'd, D, F>
+    requires new { IsNew script.now new }
     requires lawful { IsLawful script.now }
     requires drum { Serves (D.contents drum.old) (D.record_count drum.old) (D.words_each drum.old) 3840 }
     requires disk { Holds (F.contents disk.old) (F.record_count disk.old) (F.words_each disk.old) 10000 }
-    ensures drum { IfOk result (λ p. (state p.behind.cores).drum.name ≡ (seen D.Medium drum.entry).name) }
-    ensures disk { IfOk result (λ p. (disk_of p.behind.files).ghost_name ≡ disk.entry.ghost_name) }
-    ensures usable { IfOk result (λ p. Lasts p.ended
-        (⟦<Behind<Image<'a, D>, TrackDirectories<'d, F>> as user_cores::Backing>⟧.Usable p.behind)) }
-    ensures ran { IfOk result (λ p. IsScriptRun script.now (media_seen D.Medium F.Medium drum.old disk.old) p.ended
-        (whole_of p.supervisor
-        (⟦<Behind<Image<'a, D>, TrackDirectories<'d, F>> as user_cores::Backing>⟧.state p.behind))) }
+    ensures drum { (state result.behind.cores).drum.name ≡ (seen D.Medium drum.entry).name }
+    ensures disk { (disk_of result.behind.files).ghost_name ≡ disk.entry.ghost_name }
+    ensures usable { Lasts result.ended
+        (⟦<Behind<Image<'a, D>, TrackDirectories<'d, F>> as user_cores::Backing>⟧.Usable result.behind) }
+    ensures ran { IsScriptRun script.now (media_seen D.Medium F.Medium drum.old disk.old) result.ended
+        (whole_of result.supervisor
+        (⟦<Behind<Image<'a, D>, TrackDirectories<'d, F>> as user_cores::Backing>⟧.state result.behind)) }
 {
-    let Begun { run, wrote } = begin(alloc, script, drum, disk)?;
+    let Begun { run, wrote } = begin(new, script, drum, disk);
     let (mut supervisor, mut behind) = run.into_parts();
-    if wrote.is_err() {
-        return Ok(ScriptRun {
+    match wrote {
+        Ok(()) => {}
+        Err(StepFault::Disk) => {
+            return ScriptRun {
+                supervisor,
+                behind,
+                ended: Err(RunFault::Disk),
+            };
+        }
+        Err(StepFault::NoMemory) => {
+            return ScriptRun {
+                supervisor,
+                behind,
+                ended: Err(RunFault::NoMemory),
+            };
+        }
+    }
+    if give_all(&mut supervisor, script.events.as_slice()).is_err() {
+        return ScriptRun {
             supervisor,
             behind,
-            ended: Err(RunFault::Disk),
-        });
+            ended: Err(RunFault::NoMemory),
+        };
     }
-    give_all(&mut supervisor, script.events.as_slice())?;
     let ended = supervisor.advance(&mut behind, script.end);
-    Ok(ScriptRun {
+    ScriptRun {
         supervisor,
         behind,
         ended,
-    })
+    }
 }
 
 /// The record of a script, unless drum or disk fails.
@@ -93,14 +113,17 @@ pub fn record_script<D: Medium, F: Medium>(
     requires lawful { IsLawful script.now }
     requires drum { Serves (D.contents drum.old) (D.record_count drum.old) (D.words_each drum.old) 3840 }
     requires disk { Holds (F.contents disk.old) (F.record_count disk.old) (F.words_each disk.old) 10000 }
-    ensures { IfOk result (IsPlayed script.now (media_seen D.Medium F.Medium drum.old disk.old)
+    ensures played { IfOk result (IsPlayed script.now (media_seen D.Medium F.Medium drum.old disk.old)
+        (media_seen D.Medium F.Medium drum.new disk.new)) }
+    ensures spent { OnErr result (HasSpent script.now (media_seen D.Medium F.Medium drum.old disk.old)
         (media_seen D.Medium F.Medium drum.new disk.new)) }
 {
+    let new = NewRun::new(alloc, script)?;
     let ScriptRun {
         supervisor,
         mut behind,
         ended,
-    } = run_script(alloc, script, drum, disk)?;
+    } = run_script(new, script, drum, disk);
     let played = finish(alloc, supervisor, &mut behind, ended);
     let (cores, files) = behind.into_parts();
     let _ = cores.back();

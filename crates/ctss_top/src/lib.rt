@@ -11,7 +11,7 @@ ghost use Rattle.ctss_modes.specs.Outcomes.{IsOneOf};
 ghost use Rattle.ctss_modes.specs.Modes.{ModeAsked, runs_script};
 ghost use Rattle.ctss_modes.specs.Asm.{DeckIsWritten};
 ghost use Rattle.ctss_modes.specs.Devices.{seen};
-ghost use Rattle.ctss_modes.specs.Top.{IsRun, RunIsStopped, RunLosesFiles, IsRefusal, HasCause, LeavesUnasked, IsCutOff, IsSilent};
+ghost use Rattle.ctss_modes.specs.Top.{IsRun, RunIsStopped, RunLosesFiles, IsRefusal, HasCause, LeavesUnasked, IsCutOff, IsSilent, SpendsFor};
 ghost use Rattle.ctss_modes.specs.Top.{IsAllowed, NothingFailed, IsComplete};
 
 pub use command_line::ArgList;
@@ -59,7 +59,7 @@ pub fn run_ctss<S: Source, K: Sink, D: Medium, F: Medium, L: Link>(
         (seen S.Source K.Sink D.Medium F.Medium input.new output.new drum.new disk.new (L.seen link.new)) result }
 
     // With drum or disk that failed nothing is written, and the run is that of whole steps; with a read or a listener that failed
-    // and where memory lacked nothing is written.
+    // and where memory lacked nothing is written, and drum and link were called as far as the run came.
     ensures stopped { result.status ≡ 5 → RunIsStopped words.now
         (seen S.Source K.Sink D.Medium F.Medium input.old output.old drum.old disk.old (L.seen link.old))
         (seen S.Source K.Sink D.Medium F.Medium input.new output.new drum.new disk.new (L.seen link.new)) result }
@@ -69,6 +69,9 @@ pub fn run_ctss<S: Source, K: Sink, D: Medium, F: Medium, L: Link>(
     ensures silent { IsOneOf result.status (3 ∷ 7 ∷ 8 ∷ []) → IsSilent result.status
         (seen S.Source K.Sink D.Medium F.Medium input.old output.old drum.old disk.old (L.seen link.old))
         (seen S.Source K.Sink D.Medium F.Medium input.new output.new drum.new disk.new (L.seen link.new)) result }
+    ensures spent { IsOneOf result.status (7 ∷ 8 ∷ []) → (mode : ModeAsked) → mode_of words.now ≡ Some mode
+        → SpendsFor mode (seen S.Source K.Sink D.Medium F.Medium input.old output.old drum.old disk.old (L.seen link.old))
+        (seen S.Source K.Sink D.Medium F.Medium input.new output.new drum.new disk.new (L.seen link.new)) }
     ensures apart { LeavesUnasked words.now (seen S.Source K.Sink D.Medium F.Medium input.old output.old drum.old disk.old (L.seen link.old))
         (seen S.Source K.Sink D.Medium F.Medium input.new output.new drum.new disk.new (L.seen link.new)) }
     ensures allowed { IsAllowed words.now (seen S.Source K.Sink D.Medium F.Medium input.old output.old drum.old disk.old (L.seen link.old)) result }

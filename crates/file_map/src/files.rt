@@ -145,6 +145,8 @@ impl FilePort for Files {
     }
 
     fn get(&mut self, name: FileName) -> Result<WordList, PortFault> {
+        // The quota is read for its range, which bounds a file's words.
+        let _quota = self.quota;
         let Some(file) = self.table.get(name) else {
             return Err(PortFault::Refused(Refusal::NoFile));
         };

@@ -1,4 +1,4 @@
-ghost use Rattle.std.specs.Prelude.{◌≡◌, ◌≤◌, ◌<◌, ◌^◌, ℕ, Bool, List, Ok, IfOk, IsErrOf};
+ghost use Rattle.std.specs.Prelude.{◌≡◌, ◌≤◌, ◌<◌, ◌^◌, ℕ, Bool, List, length, Ok, IfOk, IsErrOf};
 ghost use Rattle.faults.specs.Faults.{Rose};
 ghost use Rattle.ctss_types.specs.declared.file.FileBody.{FileBody};
 ghost use Rattle.file_model.specs.Files.{stat, read, got, written, appended, put, renamed, deleted, moded, lasting, tracks_of};
@@ -69,6 +69,7 @@ pub trait FilePort {
     fn get(&mut self, name: FileName) -> Result<WordList, PortFault>
         requires usable { Usable self.old }
         ensures answer { AnswersOver (tells self.old) (files self.old) result (got name) }
+        ensures bound { IfOk result (λ words. length words < 2 ^ 32) }
         ensures left { ¬ IsErrOf result PortFault.Disk → files self.new ≡ files self.old }
         ensures telling { ¬ IsErrOf result PortFault.Disk → tells self.new ≡ tells self.old }
         ensures usable { ¬ IsErrOf result PortFault.Disk → Usable self.new }

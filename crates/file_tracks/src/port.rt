@@ -1,5 +1,5 @@
 //! A directory on tracks, as a port.
-ghost use Rattle.std.specs.Prelude.{◌≡◌, true, false, IfOk, IsErrOf};
+ghost use Rattle.std.specs.Prelude.{◌≡◌, ◌<◌, ◌^◌, true, false, length, IfOk, IsErrOf};
 ghost use Rattle.faults.specs.Faults.{Rose};
 ghost use Rattle.file_model.specs.Files.{got, read};
 ghost use Rattle.file_map.specs.Known.{AnswersOver};
@@ -84,6 +84,7 @@ impl<F: Medium> FilePort for TrackPort<'_, '_, F> {
     fn get(&mut self, name: FileName) -> Result<WordList, PortFault>
         requires usable { Sound F.Medium self.old }
         ensures answer { AnswersOver (tells_in F.Medium self.old) (files_in F.Medium self.old) result (got name) }
+        ensures bound { IfOk result (λ words. length words < 2 ^ 32) }
         ensures left { ¬ IsErrOf result PortFault.Disk → files_in F.Medium self.new ≡ files_in F.Medium self.old }
         ensures telling { ¬ IsErrOf result PortFault.Disk → tells_in F.Medium self.new ≡ tells_in F.Medium self.old }
         ensures usable { ¬ IsErrOf result PortFault.Disk → Sound F.Medium self.new }

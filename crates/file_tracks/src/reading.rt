@@ -59,6 +59,7 @@ pub(crate) fn get_in<F: Medium>(
     ensures any { (contents : List (List ℕ)) × (MayBe (F.contents store.old.disk.now) contents
         × (All (IsWhole contents) table.now.files.items
         × Answers result (got name (files_on contents table.now.files.items)))) }
+    ensures bound { IfOk result (λ words. length words < 2 ^ 32) }
     ensures gave { IfOk result (λ ws. (more : List ℕ)
         × Gave (F.calls store.old.disk.now) (F.calls store.new.disk.now) (ws ++ more)) }
     ensures same { store.new.disk.ghost_name ≡ store.old.disk.ghost_name }
@@ -70,6 +71,8 @@ pub(crate) fn get_in<F: Medium>(
     ensures cause { IsErrOf result PortFault.Disk
         → Rose (F.faults store.old.disk.now) (F.faults store.new.disk.now) }
 {
+    // The quota is read for its range, which bounds a file's words.
+    let _quota = table.quota;
     let Some(at) = table.place(name) else {
         return Err(PortFault::Refused(Refusal::NoFile));
     };

@@ -34,8 +34,8 @@ LiveTextsAreReplayed =
     (base : Script) (parts : List Part) (last : ℕ) (texts : List (List ℕ)) → AreInOrder 0 last parts →
     texts_in parts (start_of (record base { events = [] })) texts ≡ texts_to last (start_of (live_script base (all_events parts) last)) texts
 
--- Behind such calls, none of which met a fault, a supervisor's consoles show what they show in the run in these parts; where the drum
--- tells its records.
+-- Behind such calls, none of which met a fault, a supervisor's consoles show what they show in the run in these parts; where drum and
+-- disk tell their records.
 abbrev pub CallsShowTexts : Type 0
 CallsShowTexts =
     (parts : List Part) (old new : Whole) → old.back.held.tells ≡ true → Follows (calls_of parts) old new →

@@ -13,7 +13,7 @@ pub fn live_runs_are_replays()
     ensures { LiveRunsAreReplays }
 {}
 
-/// A supervisor that takes events and goes to limits, over a drum that tells its records and doesn't fail, does just such a run.
+/// A supervisor that takes events and goes to limits, over a drum and a disk that tell their records and don't fail, does just such a run.
 #[tactic(auto, using(crate::proofs::Calls::calls_are_runs))]
 pub fn calls_are_runs()
     ensures { CallsAreRuns }
@@ -49,7 +49,7 @@ pub fn live_texts_are_replayed()
     ensures { LiveTextsAreReplayed }
 {}
 
-/// What a supervisor shows behind its calls is what such a run shows, over a drum that tells its records and doesn't fail.
+/// What a supervisor shows behind its calls is what such a run shows, over a drum and a disk that tell their records and don't fail.
 #[tactic(auto, using(crate::proofs::Calls::calls_show_texts))]
 pub fn calls_show_texts()
     ensures { CallsShowTexts }

@@ -169,6 +169,9 @@ module _ (script : Script) (b : Bare) (drum disk : Bool) (cores : CoresState) (d
   pub shown_at_first : record_so_far (run_with no_places b) ≡ record_so_far (start_of script)
   shown_at_first = ap record_so_far is ∙ shows_at_start script
 
+  pub no_entries : b.entries ≡ []
+  no_entries = ap (λ (r : Run). r.system.entries) is ∙ none_at_start none
+
   module _ (files : HasFirstFiles script.params.common script.accounts script.files disk dirs) where
     ready_at_first : IsReady (whole_of b back)
     ready_at_first =
@@ -240,7 +243,11 @@ unfolding tells_of
 told_is_some None = refl
 told_is_some (Some contents) = refl
 
--- what follows where a call answered Ok
-pub on_ok : {T E : Type 0} (r : Result T E) (P Q : Type 0) → (P → Q) → OnOk r P → OnOk r Q
-on_ok (Ok x) P Q f h = f h
-on_ok (Err e) P Q f h = tt
+-- what holds where a call answered Ok
+pub on_ok : {E : Type 0} (r : Result Unit E) (Q : Type 0) → (r ≡ Ok tt → Q) → OnOk r Q
+on_ok (Ok tt) Q f = f refl
+on_ok (Err e) Q f = tt
+
+pub on_ok_map : {T E : Type 0} (r : Result T E) (P Q : Type 0) → (P → Q) → OnOk r P → OnOk r Q
+on_ok_map (Ok x) P Q f h = f h
+on_ok_map (Err e) P Q f h = tt

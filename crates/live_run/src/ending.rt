@@ -1,5 +1,5 @@
 //! The end of a run.
-ghost use Rattle.std.specs.Prelude.{◌≡◌, OnOk, IfOk};
+ghost use Rattle.std.specs.Prelude.{◌≡◌, false, OnOk, IfOk};
 ghost use Rattle.supervisor.specs.Whole.{whole_of, Agrees};
 ghost use Rattle.live_run.specs.Finishes.{Finishes, IfDone};
 
@@ -27,6 +27,7 @@ pub fn finish<C: Backing>(
     cores: &mut C,
     ended: Result<(), RunFault>,
 ) -> Result<Played, NoMemory>
+    requires open { OnOk ended (supervisor.ended ≡ false) }
     requires usable { OnOk ended (C.Usable cores.old) }
     requires agrees { OnOk ended (Agrees (whole_of supervisor (C.state cores.old))) }
     ensures finishes { IfOk result (Finishes ended supervisor (C.state cores.old) (C.state cores.new)) }

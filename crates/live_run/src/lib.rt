@@ -9,4 +9,4 @@ mod start;
 
 pub use ending::{Played, finish};
 pub use run::LiveRun;
-pub use start::{Begun, begin, quotas_of};
+pub use start::{Begun, NewRun, begin, quotas_of};

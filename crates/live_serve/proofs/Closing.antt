@@ -36,6 +36,11 @@ numbers_of [] = []
 numbers_of (None ∷ seats) = numbers_of seats
 numbers_of (Some task ∷ seats) = task.id ∷ numbers_of seats
 
+numbers_few : (seats : List (Option Task)) → length (numbers_of seats) ≤ length seats
+numbers_few [] = omega arith
+numbers_few (None ∷ seats) = omega (arith, numbers_few seats)
+numbers_few (Some task ∷ seats) = omega (arith, numbers_few seats)
+
 closes_numbers : (seats : List (Option Task)) → closes seats ≡ map DidClose (numbers_of seats)
 closes_numbers [] = refl
 closes_numbers (None ∷ seats) = closes_numbers seats
@@ -72,7 +77,7 @@ module _ {C L : Type 0} (goes : C → List CoreCall → C → Type 0) (see : C �
 
   pub talk_done : (r : Result Unit ServeFault) (count : ℕ) (old new : ServerState C L) (core end : C) (link : MutBor L) (m z : LinkSeen) (events : List Timed) → old ≡ first core link
       → OnOk r (TurnsAreDone goes see look count empty_desk old new) → DidAll (closes new.seats) (look new.link.now) m → end ≡ new.core → events ≡ new.events → m ≡ z
-      → OnOk r (TalkIsDone goes (see core).texts count events (look link.now) z core end)
+      → OnOk r (TalkIsDone goes see (see core).texts count events (look link.now) z core end)
   talk_done (Ok x) count old new core end link m z events is done closed core_is events_are same =
       let t : TurnsAreDone goes see look count empty_desk (first core link) new = subst (λ (s : ServerState C L). TurnsAreDone goes see look count empty_desk s new) is done in
       let shut : DidAll (closes new.seats) (look new.link.now) z = subst (λ (s : LinkSeen). DidAll (closes new.seats) (look new.link.now) s) same closed in
@@ -80,6 +85,7 @@ module _ {C L : Type 0} (goes : C → List CoreCall → C → Type 0) (see : C �
         turns = t.turns;
         many = t.many;
         lawful = t.lawful;
+        each = t.each;
         link =
             subst (λ (l : List Done). DidAll (calls_of_turns (see core).texts empty_desk t.turns ++ l) (look link.now) z) (closes_stand new.seats (desk_behind (see core).texts empty_desk t.turns).seats t.seats)
             (did_both (calls_of_turns (see core).texts empty_desk t.turns) (closes new.seats) (look link.now) (look new.link.now) z t.link shut);
@@ -89,10 +95,10 @@ module _ {C L : Type 0} (goes : C → List CoreCall → C → Type 0) (see : C �
   talk_done (Err f) count old new core end link m z events is done closed core_is events_are same = tt
 
   pub talk_cut : (r : Result Unit ServeFault) (count : ℕ) (old new : ServerState C L) (core end : C) (link : MutBor L) (m z : LinkSeen) → old ≡ first core link
-      → IfErr r (λ fault. TurnsAreCut goes see look count empty_desk fault old new) → DidAll (closes new.seats) (look new.link.now) m → end ≡ new.core → m ≡ z
-      → IfErr r (λ fault. TalkIsCut goes (see core).texts count fault (look link.now) z core end)
-  talk_cut (Ok x) count old new core end link m z is cut closed core_is same = tt
-  talk_cut (Err f) count old new core end link m z is cut closed core_is same =
+      → IfErr r (λ fault. TurnsAreCut goes see look count empty_desk fault old new) → length new.seats ≡ 32 → DidAll (closes new.seats) (look new.link.now) m → end ≡ new.core → m ≡ z
+      → IfErr r (λ fault. TalkIsCut goes see (see core).texts count fault (look link.now) z core end)
+  talk_cut (Ok x) count old new core end link m z is cut many closed core_is same = tt
+  talk_cut (Err f) count old new core end link m z is cut many closed core_is same =
       let t : TurnsAreCut goes see look count empty_desk f (first core link) new = subst (λ (s : ServerState C L). TurnsAreCut goes see look count empty_desk f s new) is cut in
       let texts = (see core).texts in
       let done = calls_of_turns texts empty_desk t.turns in
@@ -103,10 +109,12 @@ module _ {C L : Type 0} (goes : C → List CoreCall → C → Type 0) (see : C �
         turns = t.turns;
         few = t.few;
         lawful = t.lawful;
+        each = t.each;
         events = t.events;
         answers = t.answers;
         at = t.at;
         closed = numbers_of new.seats;
+        seated = (let few = numbers_few new.seats in omega (arith, few, many));
         cut = t.cut;
         link = subst (λ (ds : List Done). DidAll ds (look link.now) z) (append_assoc done made (map DidClose (numbers_of new.seats)))
             (did_both (done ++ made) (map DidClose (numbers_of new.seats)) (look link.now) (look new.link.now) z t.link shut);
@@ -117,6 +125,10 @@ module _ {C L : Type 0} (goes : C → List CoreCall → C → Type 0) (see : C �
   pub talk_sound : (sound : C → Type 0) (r : Result Unit ServeFault) (new : ServerState C L) (end : C) → OnOk r (IsReady see sound new) → end ≡ new.core → OnOk r (sound end)
   talk_sound sound (Ok x) new end ready is = subst sound (sym is) ready.sound
   talk_sound sound (Err f) new end ready is = tt
+
+  pub talk_ready : (sound : C → Type 0) (r : Result Unit ServeFault) (new : ServerState C L) (end : C) → OnOk r (IsReady see sound new) → end ≡ new.core → OnOk r ((see end).is_ended ≡ false)
+  talk_ready sound (Ok x) new end ready is = ap (λ (c : C). (see c).is_ended) is ∙ ready.ready
+  talk_ready sound (Err f) new end ready is = tt
 
   pub talk_cause : (r : Result Unit ServeFault) (old new : ServerState C L) (core end : C) (link : MutBor L) (m z : LinkSeen) → old ≡ first core link
       → IfErr r (λ fault. IsCause fault (look old.link.now) (look new.link.now) (see old.core) (see new.core)) → DidAll (closes new.seats) (look new.link.now) m → end ≡ new.core → m ≡ z

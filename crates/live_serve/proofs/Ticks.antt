@@ -11,7 +11,7 @@ use Rattle.console_server.specs.Conversation.{TurnSeen, events_of_turns}
 use Rattle.live_laws.specs.Parts.{AreInOrder}
 use Rattle.live_serve.specs.Live.{parts_from}
 
-late_both : (limit : ℕ) (es fs : List Timed) → AreLate limit es → AreLate limit fs → AreLate limit (es ++ fs)
+pub late_both : (limit : ℕ) (es fs : List Timed) → AreLate limit es → AreLate limit fs → AreLate limit (es ++ fs)
 late_both limit [] fs h k = k
 late_both limit (e ∷ es) fs h k = (h.0, late_both limit es fs h.1 k)
 
@@ -49,7 +49,7 @@ late_all_heard tick console (s ∷ seats) [] = tt
 late_all_heard tick console (s ∷ seats) (h ∷ hs) =
     late_both tick (events_heard tick console s h.reads h.over) (all_events_heard tick (suc console) seats hs) (late_heard tick console s h.reads h.over) (late_all_heard tick (suc console) seats hs)
 
-late_turn : (tick : ℕ) (texts : List (List ℕ)) (desk : Desk) (turn : TurnAnswers) → AreLate tick (events_of_turn tick texts desk turn)
+pub late_turn : (tick : ℕ) (texts : List (List ℕ)) (desk : Desk) (turn : TurnAnswers) → AreLate tick (events_of_turn tick texts desk turn)
 late_turn tick texts desk turn =
     late_both tick (hangs tick 1 desk.failed) (dials tick texts desk.seats turn.accepts ++ all_events_heard tick 1 (seats_to_read texts desk turn) turn.heard) (late_hangs tick 1 desk.failed)
     (late_both tick (dials tick texts desk.seats turn.accepts) (all_events_heard tick 1 (seats_to_read texts desk turn) turn.heard) (late_dials tick texts desk.seats turn.accepts)

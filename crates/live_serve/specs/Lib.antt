@@ -1,2 +1,3 @@
 pub mod Talks
 pub mod Live
+pub mod Hosts

@@ -6,5 +6,5 @@ use Rattle.track_store.specs.Tracks.{Serves as Holds}
 use Rattle.run_cases.specs.declared.play.Media.{Media}
 
 pub record AreWhole (m : Media) : Type 0 where
-  pub drum : Serves (told_rows m.drum.damages m.drum.contents) (length m.drum.contents) m.drum.words_each 3840
+  pub drum : Serves (told_rows m.drum.records.damages m.drum.records.contents) (length m.drum.records.contents) m.drum.records.words_each 3840
   pub disk : Holds (told_rows m.disk.damages m.disk.contents) (length m.disk.contents) m.disk.words_each 10000

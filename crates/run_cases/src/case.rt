@@ -87,6 +87,8 @@ pub(crate) struct Case {
     pub(crate) sink: Stream,
     pub(crate) drum: Faults,
     pub(crate) disk: Faults,
+    /// For how many calls the drum has room, where it is to tell them.
+    pub(crate) drum_calls: Option<u64>,
     /// The case is done once for each of these calls, which fails.
     pub(crate) each: Option<Each>,
     pub(crate) callers: Vec<Caller>,
@@ -115,6 +117,7 @@ impl Case {
             },
             drum: Faults::new(alloc),
             disk: Faults::new(alloc),
+            drum_calls: None,
             each: None,
             callers: Vec::new(alloc),
             link_fails: Vec::new(alloc),

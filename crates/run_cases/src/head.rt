@@ -76,6 +76,7 @@ impl Case {
             }
             "DRUM" => self.drum.fails = numbers(alloc, fields)?,
             "DRUM-DAMAGE" => self.drum.damage = Some(damage(fields)?),
+            "DRUM-CALLS" => self.drum_calls = Some(fields.parse::<u64>()?),
             "EACH" => self.each = Some(each(fields)?),
             "DISK" => self.disk.fails = numbers(alloc, fields)?,
             "DISK-DAMAGE" => self.disk.damage = Some(damage(fields)?),

@@ -6,6 +6,7 @@
 //!   at most so many a put, of which these fail;
 //! - `DRUM n ..`: these calls of the drum fail; `DRUM-DAMAGE read place word`: this read, or with `EACH` each, gives an octal word in
 //!   this place; `DISK` and `DISK-DAMAGE` say the same of the disk;
+//! - `DRUM-CALLS n`: the calls of the drum are told, and it has room for n of them;
 //! - `EACH device n`: the case is done for each call of `SOURCE`, `SINK`, `DRUM` or `DISK`, which fails, until no call does, n times at
 //!   most, and each time the call is told first;
 //! - `BYTES hex`: bytes of the text; `LAST`, `CALLS`: how many entries the schedule has and the last one, the calls of the link are
@@ -17,13 +18,15 @@
 //! one; from `OVER t` on the connection is over once its bytes are read, and in `FAILS t` its first read fails. `FAIL call n` is a call of
 //! the link that fails, `LATE call n` one that is not ready, as `FAIL READ 0 4`.
 //!
-//! What is written of a case: its first line, what the program writes, `STATUS s CARD c CAUSE k`, and a line `SENT k hex` for each
-//! caller. A case that begins with `TURNS` stands alone: neither its name nor its status are written, and the program ends with the
-//! status.
+//! What is written of a case: its first line, what the program writes, `STATUS s CARD c CAUSE k`, the calls of the drum where they are
+//! to be told, and a line `SENT k hex` for each caller. A call of the drum is `PUT r` or `GET r`, for the record r, with `FAILED` behind
+//! where it failed; `DRUM TELLS NO CALLS` is all where there was no room for each. A case that begins with `TURNS` stands alone: neither
+//! its name nor its status are written, and the program ends with the status.
 #![tactic(auto)]
 
 mod case;
 mod desk;
+mod drum;
 mod head;
 mod link;
 mod plan;

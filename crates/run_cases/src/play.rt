@@ -8,6 +8,7 @@ ghost use Rattle.medium.specs.declared.memory.Damage.{Damage};
 ghost use Rattle.run_cases.specs.Media.{AreWhole};
 
 use crate::case::{Case, Device, Each, Faults};
+use crate::drum::TellingDrum;
 use crate::link::link_of;
 use anyhow::{Result, bail};
 use console_link::{Accepted, CallMade, MemoryLink};
@@ -50,12 +51,27 @@ fn tell_calls(rt: &HostRuntime, link: &MemoryLink) -> Result<()> {
     Ok(())
 }
 
+/// Tells the calls of a drum, a line each, if there was room for all.
+fn tell_drum(rt: &HostRuntime, drum: &TellingDrum) -> Result<()> {
+    let Some(calls) = drum.calls() else {
+        println!(rt; "DRUM TELLS NO CALLS")?;
+        return Ok(());
+    };
+    for call in calls {
+        let kind = if call.is_put { "PUT" } else { "GET" };
+        let end = if call.failed { " FAILED" } else { "" };
+        println!(rt; "{kind} {}{end}", call.record)?;
+    }
+    Ok(())
+}
+
 /// Writes what came of a case.
 fn tell(
     rt: &HostRuntime,
     case: &Case,
     outcome: &Outcome,
     wrote: &[u8],
+    drum: &TellingDrum,
     link: &MemoryLink,
 ) -> Result<()> {
     writer(rt).write_all(wrote)?;
@@ -64,6 +80,9 @@ fn tell(
             "STATUS {} CARD {} CAUSE {}",
             outcome.status, outcome.card, outcome.cause
         )?;
+    }
+    if case.drum_calls.is_some() {
+        tell_drum(rt, drum)?;
     }
     if case.tells_last {
         let entries = outcome.run.entries.as_slice();
@@ -116,7 +135,7 @@ fn fails_of(
     Ok(all)
 }
 
-/// So many records of so many words in memory, of which this is wrong, and of which a call may fail beside.
+/// So many records of so many words in memory, of which this is wrong, and of which a call may fail beside, with room for so many calls.
 #[tactic(auto, using(crate::proofs::Shapes::told_shape))]
 fn medium_of(
     alloc: Global,
@@ -125,6 +144,7 @@ fn medium_of(
     beside: Option<FailingCall>,
     records: u16,
     words: u16,
+    room: u64,
 ) -> Result<MemoryMedium>
     ensures shape { IfOk result (λ m. HasShape (told_rows m.damages m.contents) (length m.contents)) }
     ensures count { IfOk result (λ m. length m.contents ≡ records) }
@@ -132,7 +152,7 @@ fn medium_of(
 {
     let damages = damages_of(alloc, faults.damage, words)?;
     let fails = fails_of(alloc, device, &faults.fails, beside)?;
-    Ok(MemoryMedium::new(alloc, records, words, &fails, &damages, 0)?)
+    Ok(MemoryMedium::new(alloc, records, words, &fails, &damages, room)?)
 }
 
 /// The text of a case as a source.
@@ -158,7 +178,7 @@ fn sink_of(alloc: Global, case: &Case, beside: Option<FailingCall>) -> Result<Me
 /// The drum and the disk of a case.
 #[derive(Drop)]
 struct Media {
-    drum: MemoryMedium,
+    drum: TellingDrum,
     disk: MemoryMedium,
 }
 
@@ -173,8 +193,10 @@ struct Streams {
 fn media_of(alloc: Global, case: &Case, beside: Option<FailingCall>) -> Result<Media>
     ensures { IfOk result AreWhole }
 {
-    let drum = medium_of(alloc, Device::Drum, &case.drum, beside, 3840, 256)?;
-    let disk = medium_of(alloc, Device::Disk, &case.disk, beside, 10000, 432)?;
+    let room = case.drum_calls.unwrap_or(0);
+    let records = medium_of(alloc, Device::Drum, &case.drum, beside, 3840, 256, room)?;
+    let drum = TellingDrum::new(alloc, records, room)?;
+    let disk = medium_of(alloc, Device::Disk, &case.disk, beside, 10000, 432, 0)?;
     Ok(Media { drum, disk })
 }
 
@@ -214,7 +236,14 @@ fn status_of(rt: &HostRuntime, case: &Case, beside: Option<FailingCall>) -> Resu
     let mut link = link_of(alloc, case)?;
     let mut streams = streams_of(alloc, case, beside)?;
     let outcome = outcome_of(alloc, &words, &mut streams, &mut media, &mut link);
-    tell(rt, case, &outcome, streams.output.bytes(), &link)?;
+    tell(
+        rt,
+        case,
+        &outcome,
+        streams.output.bytes(),
+        &media.drum,
+        &link,
+    )?;
     Ok(outcome.status)
 }
 

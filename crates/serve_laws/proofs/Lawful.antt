@@ -53,7 +53,7 @@ live_is_lawful base turns events b few good rise =
     }
 
 pub live_scripts_are_read : LiveScriptsAreRead
-live_scripts_are_read bytes base port turns events a b read few talk short =
+live_scripts_are_read bytes base told port turns events a b read few talk short =
     let end : 1000 * (0 + length talk.turns) ≤ 1000 * turns = let many = talk.many in omega (arith, many) in
     let good : All (IsGood (1000 * turns)) events = subst (All (IsGood (1000 * turns))) (sym talk.events_are) (all_good 0 (1000 * turns) blank empty_desk talk.turns end whole talk.lawful) in
     let rise : IsNonDecreasing (map tick_of events) = subst (λ (es : List Timed). IsNonDecreasing (map tick_of es)) (sym talk.events_are) (ticks_rise blank empty_desk talk.turns whole talk.lawful) in

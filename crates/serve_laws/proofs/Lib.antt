@@ -1,3 +1,5 @@
 pub mod Fine
 pub mod Rising
 pub mod Lawful
+pub mod Replayed
+pub mod Told

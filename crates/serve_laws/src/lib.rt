@@ -1,11 +1,23 @@
-//! The script of live consoles reads as itself: what `serve` writes first, `replay` may be given.
+//! The script of live consoles reads as itself: what `serve` writes first, `replay` may be given, and what it writes then is what replay
+//! makes of that. And a link that lists its calls lists all of a talk.
 //!
-//! The definition stands in `specs/Laws`. The function here does nothing: it carries the law.
+//! The definitions stand in `specs/Laws`. The functions here do nothing: each carries a law.
 #![tactic(auto)]
 
-ghost use Rattle.serve_laws.specs.Laws.{LiveScriptsAreRead};
+ghost use Rattle.serve_laws.specs.Laws.{LiveScriptsAreRead, LiveRunsAreReplayed, CallsOfTalksAreTold, CallsOfCutTalksAreTold};
 
 /// The text of a live script, if it isn't too long, reads as that script.
 pub fn live_scripts_are_read()
     ensures { LiveScriptsAreRead }
+{}
+
+/// `replay` of the first part of what `serve` wrote gives its second part.
+pub fn live_runs_are_replayed()
+    ensures { LiveRunsAreReplayed }
+{}
+
+/// A link that lists its calls lists all that live consoles made, where it has room for 164,000 a turn and 100 more.
+pub fn calls_of_talks_are_told()
+    ensures done { CallsOfTalksAreTold }
+    ensures cut { CallsOfCutTalksAreTold }
 {}

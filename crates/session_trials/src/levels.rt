@@ -46,6 +46,17 @@ static SINKS: [Row; 9] = [
     (1, 2, Act::IsChosen(2, 400)),
 ];
 
+// With 28 blocks user 1 is served for 150 ticks; then user 2 comes with 4 blocks, and goes.
+static COMES_AND_GOES: [Row; 7] = [
+    (1, 1, Act::Enter(28)),
+    (1, 1, Act::IsChosen(3, 800)),
+    (150, 1, Act::Charge(Charge::Goes)),
+    (1, 2, Act::Enter(4)),
+    (1, 2, Act::IsChosen(1, 200)),
+    (1, 2, Act::DropOut),
+    (1, 1, Act::IsChosen(3, 650)),
+];
+
 static IN_ORDER: [Row; 7] = [
     (1, 1, Act::Enter(4)),
     (1, 2, Act::Enter(4)),
@@ -127,6 +138,11 @@ fn levels_go_by_powers_of_two(rt: HostRuntime) {
 #[test]
 fn the_lowest_row_is_served_and_sinks(rt: HostRuntime) {
     all_go(&rt, &SINKS);
+}
+
+#[test]
+fn who_comes_below_is_served_first(rt: HostRuntime) {
+    all_go(&rt, &COMES_AND_GOES);
 }
 
 #[test]

@@ -28,7 +28,7 @@ MatchesConsoles consoles users rows = AreShown consoles (transcripts_of users) (
 abbrev pub GoesOn : ℕ → (old new : Run) → (had has : List (List ℕ)) → Type 0
 GoesOn limit old new had has = (before after : ℕ → Stored) → joined after new ≡ next limit (joined before old) → has ≡ texts_next limit (joined before old) had
 
--- The texts behind the run to the limit, and behind a part that is shown; where the drum tells its records.
+-- The texts behind the run to the limit, and behind a part that is shown; where drum and disk tell their records.
 abbrev pub HasTexts : ℕ → (old : Run) → (had : Held) → (told tells : List (List ℕ)) → Type 0
 HasTexts limit old had told tells = had.tells ≡ true → tells ≡ texts_to limit (joined had.stores old) told
 

@@ -106,10 +106,11 @@ impl Supervisor {
         self.ended
     }
 
-    /// The end of the record: an open service and open idling end, and all is handed out. The files are read from the disk; where that
-    /// fails, the record has none.
+    /// The end of the record of a run that no fault ended: an open service and open idling end, and all is handed out. The files are read
+    /// from the disk; where that fails, the record has none.
     #[tactic(auto, using(system_model::proofs::CaseLaws::closes))]
     pub fn close<C: Backing>(self, alloc: Global, cores: &mut C) -> Result<Closed, NoMemory>
+        requires open { self.ended ≡ false }
         requires usable { C.Usable cores.old }
         requires agrees { Agrees (whole_of self (C.state cores.old)) }
         ensures closes { IfOk result (Closes self (C.state cores.old) (C.state cores.new)) }

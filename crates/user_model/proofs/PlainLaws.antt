@@ -18,11 +18,11 @@ use Rattle.program_model.specs.declared.DebugLine.TheVariants.{Break, Clear, Go,
 use Rattle.program_model.specs.DebugLines.{debug_of}
 use Rattle.program_model.specs.Stops.{Stops, is_full, with_break, without_break}
 use Rattle.user_model.specs.Inner.{Inner}
-use Rattle.user_model.specs.Debugger.{debug_row, if_inside, with_breaks}
+use Rattle.user_model.specs.Debugger.{debug_row, if_inside, with_breaks, is_debugged, stores, line_stores}
 use Rattle.user_model.specs.Programs.{at_break, run_row, program_row, program_reads, program_asks, program_asks_common, program_replied, step_asks, reads_line, asks_time}
 use Rattle.user_model.specs.Session.{user_rows, works_in, act_in, act_by, replied_in, asks_common_in, asks_clock_in, takes_line_in, line_row, line_asks}
 use Rattle.user_model.specs.User.{User}
-use Rattle.user_model.specs.Plain.{woken, plain_machine, with_typed, plain, Move, Comes, Does, Course, reply_in, replies_in, clocks_in, breaks_in, is_own, step_at, written_at, with_own, moved, is_debugged, stores, line_stores, Allowed, AllAllowed, begun, AreSameLines, outs, DebuggerIsPlain}
+use Rattle.user_model.specs.Plain.{woken, plain_machine, with_typed, plain, Move, Comes, Does, Course, reply_in, replies_in, clocks_in, breaks_in, is_own, step_at, written_at, with_own, moved, Allowed, AllAllowed, begun, AreSameLines, outs, DebuggerIsPlain}
 use Rattle.user_model.proofs.PlainRows.{quiet, AreSame, same_marked, same_step, same_replied, same_asks, same_reads, same_times}
 
 -- the machine that goes on owes what a machine owes

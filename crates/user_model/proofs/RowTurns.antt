@@ -1,7 +1,7 @@
 -- Any row as a step of a user whose words and files lie apart: one law for all that the machine gives, supervisor entries among it, one for
 -- what was still to be stored, one for commands, one for lines of INPUT.
-use Rattle.std.proofs.Common.{◌≡◌, ℕ, suc, ◌-◌, Bool, true, false, not, ◌&&◌, ◌||◌, List, [], ◌∷◌, ◌++◌, ◌+◌, inl, inr, length, drop, Option, Some, None, refl, sym, ap, ◌∙◌, subst, zero-add}
-use Rattle.std.specs.Prelude.{slice_get, nat_lt, codes, if◌then◌else◌}
+use Rattle.std.proofs.Common.{◌≡◌, ℕ, suc, ◌-◌, Bool, true, false, not, ◌&&◌, ◌||◌, List, [], ◌∷◌, ◌++◌, ◌+◌, length, drop, Option, Some, None, refl, sym, ap, ◌∙◌, subst, zero-add}
+use Rattle.std.specs.Prelude.{slice_get, if◌then◌else◌}
 use Rattle.std.specs.declared.result.Result.{Result}
 use Rattle.time_sharing.specs.Machine.{Line, Item, Ending, CommonOp, Reply, Done}
 use Rattle.time_sharing.specs.Rows.{Outcome, some_line, is_logout, in_line, one_less, out_all, behind}
@@ -12,22 +12,23 @@ use Rattle.program_model.specs.declared.Call.{Call}
 use Rattle.program_model.specs.declared.EntryFault.{EntryFault}
 use Rattle.program_model.specs.Calls.{call_of}
 use Rattle.program_model.specs.declared.Fill.{Fill}
+use Rattle.program_model.specs.declared.ProgramState.{ProgramState}
+use Rattle.program_model.specs.declared.ProgramState.TheVariants.{Dead, Dormant, Working}
 use Rattle.user_model.specs.Inner.{Inner, Stored}
 use Rattle.user_model.specs.declared.Command.{Command}
 use Rattle.user_model.specs.Requests.{command_of}
 use Rattle.user_model.specs.Commands.{command_row, command_asks, command_replied, input_row}
-use Rattle.user_model.specs.Programs.{reads_line, asks_time, step_asks, step_replied, entry_asks, is_read, goes, at_break, with_step, breaks, filled_program}
+use Rattle.user_model.specs.Programs.{reads_line, asks_time, step_row, stepped_in, step_asks, step_replied, entry_asks, is_read, goes, at_break, with_step, breaks, filled_program}
 use Rattle.program_model.specs.declared.DebugLine.{DebugLine}
-use Rattle.program_model.specs.declared.DebugLine.TheVariants.{Break, Clear, Go, Look, Regs, Set, End, Bad}
 use Rattle.program_model.specs.DebugLines.{debug_of}
-use Rattle.program_model.specs.Stops.{Stops, is_full, with_break, without_break}
-use Rattle.program_model.specs.Lines.{with_words}
-use Rattle.user_model.specs.Debugger.{debug_row, bad_line, if_inside, with_breaks, tells}
+use Rattle.program_model.specs.Stops.{Stops}
+use Rattle.user_model.specs.Debugger.{debug_row, stores}
 use Rattle.user_model.specs.Session.{works_in, is_none}
 use Rattle.user_model.specs.User.{User, can_step, asks_common, in_store, core_after, store_after, IsStep}
 use Rattle.user_model.specs.Steps.{left}
 use Rattle.user_model.specs.Answers.{IsRow, noted, line_count, fed_with, by_row, marked, step_line, step_said, DidStep, DidBreak, DidFill, DidEntry, DidCommand, DidInput, DidDebug, EntryReplied, CommandReplied}
-use Rattle.user_model.proofs.StepLaws.{run_left, run_ends, run_asks, run_makes, run_can, run_replied_left, run_replied_ends, run_replied_asks, run_takes_none, break_left, break_ends, break_asks, break_makes, break_can, debug_left, debug_ends, debug_asks, debug_makes, command_left, command_ends, command_clock, command_makes, command_can, command_replied_left, command_replied_ends, input_left, input_ends, input_asks, input_makes, fill_left, fill_ends, fill_asks, fill_makes, fill_can}
+use Rattle.user_model.proofs.PlainRows.{quiet, same_step}
+use Rattle.user_model.proofs.StepLaws.{run_left, run_ends, run_asks, run_makes, run_can, run_replied_left, run_replied_ends, run_replied_asks, run_takes_none, break_left, break_ends, break_asks, break_makes, break_can, debug_left, debug_ends, debug_asks, debug_makes, debug_sets, command_left, command_ends, command_clock, command_makes, command_can, command_replied_left, command_replied_ends, input_left, input_ends, input_asks, input_makes, fill_left, fill_ends, fill_asks, fill_makes, fill_can}
 
 -- the two forms of what a row leaves
 append-nil : (xs : List Item) → xs ++ [] ≡ xs
@@ -99,8 +100,25 @@ row_turn t p q c d s e asked h none at is on row =
       ends = row.4 ∙ sym (run_ends t (in_store c p) s h none at is made);
       asks = row.5 ∙ sym (run_asks (in_store c p) s h none at is);
       makes = sym (run_makes (in_store c p) s h none at is ∙ made);
-      words = inr row.6;
+      words = λ _. row.6;
     }
+
+-- without the debugger there is none that knows of it
+working : (s : ProgramState) → works_in s ≡ true → Working ≡ s
+working Dead h = cc
+working Dormant h = cc
+working Working h = refl
+
+pub shut_marked : (t : ℕ) (p q : User) (c d : Stored) (s : Step) (e : Ending) (asked : Bool) → works_in p.inner.state ≡ true → p.inner.debugger ≡ None
+    → DidStep s e asked t p q c d → marked q ≡ q
+shut_marked t p q c d s e asked h shut row =
+    let i = (in_store c p).inner in
+    let line = step_line s (in_store c p) in
+    let n = suc p.own - p.own_at_command in
+    let same : i ≡ quiet i = λ j. record i { state = sym (working i.state h) j; debugger = shut j } in
+    let left : q.inner.debugger ≡ None =
+    ap (λ (u : User). u.inner.debugger) row.1 ∙ ap (λ (k : Inner). (step_row s k line n t).inner.debugger) same ∙ (same_step s i line n n t).alone in
+    λ j. record q { inner = record q.inner { debugger = (ap stepped_in left ∙ sym left) j } }
 
 -- a break
 pub break_turn : (t : ℕ) (p q : User) (c d : Stored) (e : Ending) (asked : Bool) → works_in p.inner.state ≡ true → p.inner.fill ≡ None → at_break p.inner ≡ true → p.on ≡ true
@@ -113,7 +131,7 @@ break_turn t p q c d e asked h none at on row =
       ends = row.4 ∙ sym (break_ends t (in_store c p) h none at);
       asks = row.5 ∙ sym (break_asks (in_store c p) h none at);
       makes = sym (break_makes (in_store c p) h none at);
-      words = inr row.6;
+      words = λ _. row.6;
     }
 
 -- what was still to be stored
@@ -127,7 +145,7 @@ fill_turn t p q c d f e asked h is on row =
       ends = row.4 ∙ sym (fill_ends t (in_store c p) f h is);
       asks = row.5 ∙ sym (fill_asks (in_store c p) f h is);
       makes = sym (fill_makes (in_store c p) f h is);
-      words = inr row.6;
+      words = λ _. row.6;
     }
 
 -- a supervisor entry
@@ -155,7 +173,7 @@ command_turn t p q c d l command e asked h shut none first what on row =
       ends = row.4 ∙ sym (command_ends t (in_store c p) l command h shut none first what made);
       asks = row.5 ∙ sym (command_clock (in_store c p) l h shut none first);
       makes = sym (command_makes (in_store c p) l command h shut none first what ∙ made);
-      words = inr row.6;
+      words = λ _. row.6;
     }
 
 -- a line of INPUT
@@ -169,31 +187,10 @@ input_turn t p q c d l name e asked h shut some first on row =
       ends = row.4 ∙ sym (input_ends t (in_store c p) l name h shut some first);
       asks = row.5 ∙ sym (input_asks (in_store c p) l name h some first);
       makes = sym (input_makes (in_store c p) l name h shut some first);
-      words = inr row.6;
+      words = λ _. row.6;
     }
 
--- a line of the debugger leaves the program's size
-inside_size : (a : ℕ) (done i : Inner) → done.blocks ≡ i.blocks → (if_inside a done i).inner.blocks ≡ i.blocks
-inside_size a done i h = by_test (nat_lt a (length i.core))
-  where
-    by_test : (b : Bool) → (if b then tells [] done else tells (codes "PROTECTION" ∷ []) i).inner.blocks ≡ i.blocks
-    by_test true = h
-    by_test false = refl
-
-debug_size : (s : Stops) (line : DebugLine) (i : Inner) (n : ℕ) → (debug_row s line i n).inner.blocks ≡ i.blocks
-debug_size s (Break a) i n = by_full (is_full s.breaks a)
-  where
-    by_full : (b : Bool) → (if b then bad_line i else if_inside a (with_breaks s (with_break s.breaks a) i) i).inner.blocks ≡ i.blocks
-    by_full true = refl
-    by_full false = inside_size a (with_breaks s (with_break s.breaks a) i) i refl
-debug_size s (Clear a) i n = inside_size a (with_breaks s (without_break s.breaks a) i) i refl
-debug_size s Go i n = refl
-debug_size s (Look a) i n = refl
-debug_size s Regs i n = refl
-debug_size s (Set a w) i n = inside_size a (record i { core = with_words i.core a (w ∷ []) }) i refl
-debug_size s End i n = refl
-debug_size s Bad i n = refl
-
+-- a line of the debugger
 pub debug_turn : (t : ℕ) (p q : User) (c d : Stored) (l : Line) (s : Stops) (line : DebugLine) (e : Ending) (asked : Bool) → works_in p.inner.state ≡ false → p.inner.debugger ≡ Some s → slice_get p.unread 0 ≡ Some l → debug_of l ≡ line → p.on ≡ true
     → DidDebug l s line e asked p q c d
     → IsStep e asked None t Done p q c d
@@ -205,7 +202,7 @@ debug_turn t p q c d l s line e asked h open_ first what on row =
       ends = row.3 ∙ sym (debug_ends t (in_store c p) l s h open_ first ∙ (λ j. (debug_row s (what j) (in_store c p).inner 1).ending));
       asks = row.4 ∙ sym (debug_asks (in_store c p) l s h open_ first);
       makes = sym (debug_makes (in_store c p) l s h open_ first);
-      words = inl (ap (λ (u : User). u.inner.blocks) row.0 ∙ debug_size s line (in_store c p).inner 1);
+      words = λ no. row.5 (ap stores (sym what) ∙ sym (debug_sets (in_store c p) l s h open_ first) ∙ no);
     }
 
 -- a command that made a common operation
@@ -219,7 +216,7 @@ command_replied_turn t r p q c d l command op e asked h shut none first what on 
       ends = row.1.4 ∙ sym (command_replied_ends t r (in_store c p) l command op h shut none first what row.0);
       asks = row.1.5 ∙ sym (command_clock (in_store c p) l h shut none first);
       makes = sym (command_makes (in_store c p) l command h shut none first what ∙ row.0);
-      words = inr row.1.6;
+      words = λ _. row.1.6;
     }
 
 -- a supervisor entry that made one
@@ -234,7 +231,7 @@ entry_replied_turn t r p q c d w call op e asked h none at is what on said =
       ends = row.1.4 ∙ sym (run_replied_ends t r (in_store c p) (entry w) op h none at is row.0);
       asks = row.1.5 ∙ sym (run_asks (in_store c p) (entry w) h none at is ∙ run_replied_asks (entry w) (in_store c p).inner op row.0);
       makes = sym (run_makes (in_store c p) (entry w) h none at is ∙ row.0);
-      words = inr row.1.6;
+      words = λ _. row.1.6;
     }
 
 -- a command that is to make one, and an entry

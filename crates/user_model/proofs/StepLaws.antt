@@ -19,13 +19,13 @@ use Rattle.program_model.specs.Calls.{call_of}
 use Rattle.program_model.specs.DebugLines.{debug_of}
 use Rattle.program_model.specs.Stops.{Stops}
 use Rattle.user_model.specs.Inner.{Inner}
-use Rattle.user_model.specs.Debugger.{debug_row}
+use Rattle.user_model.specs.Debugger.{debug_row, is_debugged, stores, line_stores}
 use Rattle.user_model.specs.declared.Command.{Command}
 use Rattle.user_model.specs.Requests.{command_of}
 use Rattle.user_model.specs.Commands.{CommandLine, command_row, command_asks, command_replied, input_row}
 use Rattle.user_model.specs.Programs.{at_break, with_step, breaks, run_row, step_row, step_asks, step_replied, entry_row, entry_asks, call_row, program_asks_common, program_replied, program_row, program_reads, program_asks, reads_line, is_clock, asks_time, is_read, filled_program, goes}
 use Rattle.user_model.specs.Session.{user_rows, works_in, is_none, counts_anew, act_in, act_by, asks_common_in, line_asks, replied_in, line_row, asks_clock_in, takes_line_in, takes_command}
-use Rattle.user_model.specs.User.{User, can_step, step, ending, asks_clock, asks_common}
+use Rattle.user_model.specs.User.{User, can_step, step, ending, asks_clock, asks_common, sets_word}
 use Rattle.user_model.specs.Steps.{left}
 
 -- what the frame does with an outcome
@@ -284,6 +284,14 @@ debug_ends t p l d h open_ is =
 
 pub debug_asks : (p : User) (l : Line) (d : Stops) → works_in p.inner.state ≡ false → p.inner.debugger ≡ Some d → slice_get p.unread 0 ≡ Some l → asks_clock p ≡ false
 debug_asks p l d h open_ is = line_clock p l h is ∙ ap (λ (o : Option Stops). is_none o && is_none p.inner.input) open_
+
+-- the next step is SET where the line is
+pub debug_sets : (p : User) (l : Line) (d : Stops) → works_in p.inner.state ≡ false → p.inner.debugger ≡ Some d → slice_get p.unread 0 ≡ Some l → sets_word p ≡ stores (debug_of l)
+unfolding sets_word
+debug_sets p l d h open_ is =
+    ap (λ (o : Option Stops). is_debugged o && not (works_in p.inner.state) && line_stores (line_of user_rows p)) open_
+    ∙ ap (λ (b : Bool). not b && line_stores (line_of user_rows p)) h
+    ∙ ap line_stores (line_in_command p.inner.state p l h is)
 
 takes_in : (s : ProgramState) (i : Inner) → works_in s ≡ false → takes_line_in s i ≡ true
 takes_in Dead i h = refl

@@ -12,7 +12,7 @@ use Rattle.program_model.specs.declared.Fill.{Fill}
 use Rattle.user_model.specs.Programs.{step_row, reads_line, asks_time, step_asks, entry_row, entry_asks, entry_replied, is_read, is_clock, goes, breaks, has_stepped, filled_program}
 use Rattle.program_model.specs.declared.DebugLine.{DebugLine}
 use Rattle.program_model.specs.Stops.{Stops}
-use Rattle.user_model.specs.Debugger.{debug_row}
+use Rattle.user_model.specs.Debugger.{debug_row, stores}
 use Rattle.user_model.specs.declared.Command.{Command}
 use Rattle.user_model.specs.Commands.{command_row, command_asks, command_replied, input_row}
 use Rattle.user_model.specs.Session.{is_none}
@@ -98,11 +98,12 @@ DidCommand l command e asked t old new before after =
 abbrev pub DidInput : Line → NamePair → Ending → Bool → (old new : User) → (before after : Stored) → Type 0
 DidInput l name e asked old new before after = IsRow true false (Some l) (input_row name l (in_store before old).inner (suc old.own - old.own_at_command)) false e asked old new before after
 
--- A step that did what the row of a line of the debugger says. It may change a word, but not the size.
+-- A step that did what the row of a line of the debugger says. SET alone may change a word.
 abbrev pub DidDebug : Line → Stops → DebugLine → Ending → Bool → (old new : User) → (before after : Stored) → Type 0
 DidDebug l s line e asked old new before after =
     let o = debug_row s line (in_store before old).inner 1 in
     (new ≡ by_row true (Some l) o old) × (core_after e o.inner.blocks after.core ≡ o.inner.core) × (after.files ≡ o.inner.files) × (e ≡ o.ending) × (asked ≡ false)
+    × (stores line ≡ false → LeavesWords e before.core after.core)
 
 -- a step at a supervisor entry that made this common operation, with this reply
 abbrev pub EntryReplied : Result Call EntryFault → CommonOp → Reply → Ending → Bool → (old new : User) → (before after : Stored) → Type 0

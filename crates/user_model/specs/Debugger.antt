@@ -1,9 +1,10 @@
 -- claim: what each line of the debugger does.
-use Rattle.std.specs.Prelude.{ℕ, false, nat_lt, List, [], ◌∷◌, length, codes, if◌then◌else◌, Some, None}
+use Rattle.std.specs.Prelude.{ℕ, Bool, true, false, Option, nat_lt, List, [], ◌∷◌, length, codes, if◌then◌else◌, Some, None}
 use Rattle.time_sharing.specs.Machine.{Line, Stopped, Resized}
 use Rattle.time_sharing.specs.Rows.{Outcome}
 use Rattle.program_model.specs.declared.DebugLine.{DebugLine}
 use Rattle.program_model.specs.declared.DebugLine.TheVariants.{Break, Clear, Go, Look, Regs, Set, End, Bad}
+use Rattle.program_model.specs.DebugLines.{debug_of}
 use Rattle.program_model.specs.Stops.{Stops, is_full, with_break, without_break}
 use Rattle.program_model.specs.declared.ProgramState.TheVariants.{Working}
 use Rattle.program_model.specs.Lines.{with_words}
@@ -44,3 +45,23 @@ debug_row s Regs i n = tells (register_lines i.regs) i
 debug_row s (Set a w) i n = if_inside a (record i { core = with_words i.core a (w ∷ []) }) i
 debug_row s End i n = debugger_ends i n
 debug_row s Bad i n = bad_line i
+
+-- whether a line is SET, which alone of the debugger's lines may change a word
+abbrev pub stores : DebugLine → Bool
+stores (Break a) = false
+stores (Clear a) = false
+stores Go = false
+stores (Look a) = false
+stores Regs = false
+stores (Set a w) = true
+stores End = false
+stores Bad = false
+
+abbrev pub line_stores : Option Line → Bool
+line_stores None = false
+line_stores (Some l) = stores (debug_of l)
+
+-- the debugger is open
+abbrev pub is_debugged : Option Stops → Bool
+is_debugged None = false
+is_debugged (Some s) = true

@@ -4,12 +4,10 @@ use Rattle.time_sharing.specs.Machine.{Machine, Line, Item, In, Out, Quitted, Hu
 use Rattle.time_sharing.specs.Rows.{machine, line_of, result_of}
 use Rattle.time_sharing.specs.Private.{steps}
 use Rattle.time_sharing.specs.System.{clock_for}
-use Rattle.program_model.specs.declared.DebugLine.{DebugLine}
-use Rattle.program_model.specs.declared.DebugLine.TheVariants.{Break, Clear, Go, Look, Regs as Registers, Set, End, Bad}
-use Rattle.program_model.specs.DebugLines.{debug_of}
 use Rattle.program_model.specs.Stops.{Stops}
 use Rattle.program_model.specs.declared.Fill.{Fill}
 use Rattle.program_model.specs.declared.ProgramState.TheVariants.{Dormant, Working}
+use Rattle.user_model.specs.Debugger.{is_debugged, line_stores}
 use Rattle.user_model.specs.Inner.{Inner}
 use Rattle.user_model.specs.Programs.{at_break}
 use Rattle.user_model.specs.Session.{user_rows, works_in}
@@ -95,25 +93,6 @@ with_own c t r =
 abbrev pub moved : Course → Move → Course
 moved c (Comes l) = record c { state = (machine user_rows).typed c.state l }
 moved c (Does t r) = if is_own c.state then with_own c t r else record c { state = step_at t r c.state }
-
--- the debugger is open
-abbrev pub is_debugged : Option Stops → Bool
-is_debugged None = false
-is_debugged (Some s) = true
-
-abbrev pub stores : DebugLine → Bool
-stores (Break a) = false
-stores (Clear a) = false
-stores Go = false
-stores (Look a) = false
-stores Registers = false
-stores (Set a w) = true
-stores End = false
-stores Bad = false
-
-abbrev pub line_stores : Option Line → Bool
-line_stores None = false
-line_stores (Some l) = stores (debug_of l)
 
 -- A line may come at any time. A step may be done that can be done, while the debugger is open, if it is no SET.
 abbrev pub Allowed : Course → Move → Type 0

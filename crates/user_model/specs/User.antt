@@ -1,11 +1,12 @@
 -- claim: one user's machine, closed: what contracts cite.
-use Rattle.std.specs.Prelude.{◌≡◌, ◌⊎◌, ℕ, Bool, true, List, [], Option}
+use Rattle.std.specs.Prelude.{◌≡◌, ℕ, Bool, true, false, not, ◌&&◌, List, [], Option}
 use Rattle.time_sharing.specs.Machine.{Line, CutKind, Ending, Went, Stopped, Resized, Replaced, LoggedOut, CommonOp, Reply}
-use Rattle.time_sharing.specs.Rows.{Private, machine}
+use Rattle.time_sharing.specs.Rows.{Private, machine, line_of}
 use Rattle.time_sharing.specs.System.{clock_for}
 use Rattle.file_model.specs.Files.{lasting}
 use Rattle.user_model.specs.Inner.{Inner, Stored, zeros, recut}
-use Rattle.user_model.specs.Session.{user_rows}
+use Rattle.user_model.specs.Debugger.{is_debugged, line_stores}
+use Rattle.user_model.specs.Session.{user_rows, works_in}
 
 abbrev pub User : Type 0
 User = Private Inner
@@ -36,6 +37,10 @@ step t r p = (machine user_rows).step p (clock_for ((machine user_rows).asks_clo
 unfoldable pub ending : ℕ → Reply → User → Ending
 ending t r p = (machine user_rows).ending p (clock_for ((machine user_rows).asks_clock p) t) r
 
+-- whether the next step is the debugger's SET
+unfoldable pub sets_word : User → Bool
+sets_word p = is_debugged p.inner.debugger && not (works_in p.inner.state) && line_stores (line_of user_rows p)
+
 -- the user with what of it lies outside its session
 abbrev pub in_store : Stored → User → User
 in_store store p = record p { inner = record p.inner { core = store.core; files = store.files } }
@@ -57,7 +62,7 @@ hung store = record { core = []; files = lasting store.files }
 abbrev pub store_after : Ending → ℕ → Stored → Stored
 store_after e blocks store = record store { core = core_after e blocks store.core }
 
--- Only a step that goes on changes the words of the program; any other leaves also those that it gives up as they were.
+-- A step that goes on may change the words of the program; any other leaves also those that it gives up as they were.
 abbrev pub LeavesWords : Ending → (before after : List ℕ) → Type 0
 LeavesWords Went before after = Unit {0}
 LeavesWords Stopped before after = after ≡ before
@@ -73,5 +78,5 @@ pub record IsStep (e : Ending) (asked : Bool) (made : Option CommonOp) (t : ℕ)
   pub ends : e ≡ ending t r (in_store before old)
   pub asks : asked ≡ asks_clock (in_store before old)
   pub makes : made ≡ asks_common (in_store before old)
-  -- a step that changes the size leaves the words
-  pub words : (new.inner.blocks ≡ old.inner.blocks) ⊎ LeavesWords e before.core after.core
+  -- only a step that goes on, and SET, change the words
+  pub words : sets_word (in_store before old) ≡ false → LeavesWords e before.core after.core

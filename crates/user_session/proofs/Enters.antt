@@ -1,5 +1,5 @@
 -- A turn at a supervisor entry that does what the row says is a turn of the user.
-use Rattle.std.proofs.Common.{◌≡◌, ◌∙◌, ℕ, Bool, true, false, List, None, Some, refl, sym, subst}
+use Rattle.std.proofs.Common.{◌≡◌, ◌∙◌, ℕ, Bool, true, false, not, List, Option, None, Some, refl, sym, ap, subst}
 use Rattle.std.specs.Prelude.{slice_get, Ok, Err, IfOk, IsErrOf}
 use Rattle.std.specs.Result.{IsErrAnd}
 use Rattle.std.specs.declared.result.Result.{Result}
@@ -9,16 +9,17 @@ use Rattle.user_model.specs.Requests.{command_of}
 use Rattle.machine_model.specs.Machine.{step_of}
 use Rattle.machine_model.specs.Step as machine
 use Rattle.machine_model.specs.Step.{entry}
-use Rattle.user_model.specs.Programs.{step_asks, at_break}
+use Rattle.user_model.specs.Programs.{step_asks, at_break, at_break_in}
+use Rattle.program_model.specs.Stops.{Stops}
 use Rattle.program_model.specs.declared.Call.{Call}
 use Rattle.program_model.specs.declared.EntryFault.{EntryFault}
 use Rattle.program_model.specs.Calls.{call_of}
-use Rattle.user_model.specs.Session.{works_in}
+use Rattle.user_model.specs.Session.{works_in, is_none}
 use Rattle.time_sharing.specs.Machine.{CommonOp, Reply}
 use Rattle.user_model.specs.Answers.{DidEntry, EntryReplied, CommandReplied, marked}
 use Rattle.user_model.specs.User.{User, in_store}
 use Rattle.user_session.specs.declared.turn.Step.{Step}
-use Rattle.user_model.proofs.RowTurns.{row_turn, entry_waits, entry_asked, entry_replied_turn, command_turn, command_asked, command_replied_turn}
+use Rattle.user_model.proofs.RowTurns.{row_turn, shut_marked, entry_waits, entry_asked, entry_replied_turn, command_turn, command_asked, command_replied_turn}
 use Rattle.user_session.specs.declared.turn.Turn.{Turn}
 use Rattle.user_session.specs.declared.turn.Turn.TheVariants.{Waits, Done, Asks}
 use Rattle.user_model.specs.Inner.{Stored}
@@ -44,6 +45,21 @@ entered (Asks op) t p q c d w call h none at is on what row =
 -- a step of a program, of which an open debugger knows then
 pub ran : (s : Step) (t : ℕ) (p q : User) (c d : Stored) → works_in p.inner.state ≡ true → p.inner.fill ≡ None → at_break p.inner ≡ false → p.on ≡ true → Runs (Done s) t p q c d → IsTurn (Done s) t p (marked q) c d
 ran s t p q c d h none at on run = row_turn t p q c d run.gives s.ending s.clock h none at run.is on run.did
+
+-- without a debugger there is no break
+pub shut_is : (o : Option Stops) → not (is_none o) ≡ false → o ≡ None
+shut_is None h = refl
+shut_is (Some s) h = cc
+
+pub unbroken : (p : User) → p.inner.debugger ≡ None → at_break p.inner ≡ false
+unbroken p shut = ap (λ (o : Option Stops). at_break_in o p.inner.regs.ic) shut
+
+-- and none that knows of a step
+pub ran_alone : (turn : Turn) (t : ℕ) (p q : User) (c d : Stored) → works_in p.inner.state ≡ true → p.inner.fill ≡ None → p.inner.debugger ≡ None → p.on ≡ true → Runs turn t p q c d → IsTurn turn t p q c d
+ran_alone Waits t p q c d h none shut on run = run
+ran_alone (Done s) t p q c d h none shut on run =
+    subst (λ (u : User). IsTurn (Done s) t p u c d) (shut_marked t p q c d run.gives s.ending s.clock h shut run.did) (ran s t p q c d h none (unbroken p shut) on run)
+ran_alone (Asks op) t p q c d h none shut on run = run
 
 -- an instruction that comes to an entry, and one that is a step
 pub at_entry : (told : Instructed) (name t : ℕ) (p q : User) (c d : Stored) → told ≡ instructed.Entry name → Instructs told t p q c d → IsAtEntry name p q c d

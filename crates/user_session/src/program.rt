@@ -189,8 +189,8 @@ impl Session {
         }
     }
 
-    /// The next step of a program that has its core: a break, or an instruction with the supervisor entry that it comes to.
-    fn run<M: MemoryPort, P: FilePort>(
+    /// The next step of a program under the debugger: a break, or an instruction with the supervisor entry that it comes to.
+    fn run_debugged<M: MemoryPort, P: FilePort>(
         &mut self,
         core: &mut M,
         files: &mut P,
@@ -224,6 +224,37 @@ impl Session {
             }
             other => Ok(other),
         }
+    }
+
+    /// The next step of a program that has its core, with the supervisor entry that it comes to. Without the debugger, as mostly, there is
+    /// nothing to look for before it and nothing to note behind it.
+    fn run<M: MemoryPort, P: FilePort>(
+        &mut self,
+        core: &mut M,
+        files: &mut P,
+        now: u64,
+    ) -> Result<Turn, StepFault>
+        requires on { self.old.on ≡ true }
+        requires works { works_in self.old.inner.state ≡ true }
+        requires filled { self.old.inner.fill ≡ None }
+        requires size { length (M.words core.old) ≡ 256 * self.old.inner.blocks }
+        requires port { P.Usable files.old }
+        requires quota { P.quota files.old ≡ self.old.inner.account.tracks }
+        requires fits { self.old.own < 2 ^ 64 - 1 }
+        requires time { now < 2 ^ 35 }
+        ensures turn { IfOk result (λ turn. Over (P.tells files.old)
+            (stored (M.words core.old) (P.files files.old)) (stored (M.words core.new) (P.files files.new))
+            (IsTurn turn now self.old self.new)) }
+        ensures account { self.new.inner.account ≡ self.old.inner.account }
+        ensures err { OnErr result (self.new ≡ self.old) }
+        ensures err_core { OnErr result (M.words core.new ≡ M.words core.old) }
+        ensures keeps { M.Keeps core.old core.new }
+        ensures uses { Uses P.FilePort result files.old files.new }
+    {
+        if self.is_debugged() {
+            return self.run_debugged(core, files, now);
+        }
+        self.go_on(core, files, now)
     }
 
     /// Whether a program works without the debugger, with nothing that is still to be stored.

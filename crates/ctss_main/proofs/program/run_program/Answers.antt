@@ -28,6 +28,7 @@ returns g c =
       stopped = e.stopped;
       lost = e.lost;
       silent = e.silent;
+      spent = e.spent;
       apart = e.apart;
       allowed = e.allowed;
       complete = e.complete;

@@ -26,6 +26,7 @@ returns-in-Replay g c =
       stopped = λ words asked h. c.replay.ensures.stopped words _ asked h;
       lost = λ words asked h. c.replay.ensures.lost words _ asked h;
       silent = λ h. c.replay.ensures.silent _ (grind (arith, h, c.replay.ensures.status, nat_tests));
+      spent = λ h. c.replay.ensures.spent _ (grind (arith, h, c.replay.ensures.status, nat_tests));
       unlinked = λ h. refl;
     }))
 
@@ -44,6 +45,7 @@ returns-in-Dump g c =
       stopped = λ words asked h. c.replay-in-Dump.ensures.stopped words _ asked h;
       lost = λ words asked h. c.replay-in-Dump.ensures.lost words _ asked h;
       silent = λ h. c.replay-in-Dump.ensures.silent _ (grind (arith, h, c.replay-in-Dump.ensures.status, nat_tests));
+      spent = λ h. c.replay-in-Dump.ensures.spent _ (grind (arith, h, c.replay-in-Dump.ensures.status, nat_tests));
       unlinked = λ h. refl;
     }))
 
@@ -64,6 +66,7 @@ returns-in-Load g c =
       silent = λ h.
           (let is : c.load.result.status ≡ 8 = grind (arith, h, c.load.ensures.status, nat_tests) in
           silent_by _ 8 _ _ c.load.result is (c.load.ensures.silent _ _ is));
+      spent = λ h. c.load.ensures.spent _ _ (grind (arith, h, c.load.ensures.status, nat_tests));
       unlinked = λ h. refl;
     }))
 
@@ -101,6 +104,7 @@ returns-in-Serve g c =
       stopped = c.serve_consoles.ensures.stopped;
       lost = c.serve_consoles.ensures.lost;
       silent = c.serve_consoles.ensures.silent;
+      spent = c.serve_consoles.ensures.spent;
       unlinked = λ h. absurd (let wrong : true ≡ false = h in cc);
     }))
 

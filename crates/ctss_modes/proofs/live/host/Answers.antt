@@ -5,7 +5,8 @@ use Rattle.ctss_io.specs.Outside.{after}
 use Rattle.ctss_io.specs.Whole.{GrewByProperPrefix}
 use Rattle.text_model.specs.declared.mode.Mode.TheVariants.{Serve}
 use Rattle.ctss_modes.specs.Modes.{text_for}
-use Rattle.ctss_modes.proofs.Says.{all_served, drum_ended, disk_ended, live_run, live_cut, live_stopped, live_lost}
+use Rattle.ctss_modes.proofs.Says.{all_served, drum_ended, disk_ended, live_run, live_cut, live_stopped, live_lost, live_spent_when_done}
+use Rattle.ctss_modes.specs.Top.{Serving}
 use Rattle.ctss_modes.proofs.live.host.Goals as goal
 
 pub returns-in-Ok-Done-clause-done : goal.returns-in-Ok-Done-clause-done
@@ -31,3 +32,15 @@ pub returns-in-Ok-DiskFailed-clause-lost : goal.returns-in-Ok-DiskFailed-clause-
 returns-in-Ok-DiskFailed-clause-lost g c words was now asked spelled h =
     live_lost words c.args.port c.args.turns asked _ _ c.failed-in-Ok-DiskFailed.result c.args.base c.in-Ok-DiskFailed.run' spelled refl
     (disk_ended c.args.base c.args.port c.args.turns _ _ _ _ c.in-Ok-DiskFailed.field-0 c.in-Ok-DiskFailed.ensures.served c.in-Ok-DiskFailed.run' c.in-Ok-DiskFailed.field-0-is) c.failed-in-Ok-DiskFailed.ensures
+
+pub returns-in-Ok-Done-clause-spent : goal.returns-in-Ok-Done-clause-spent
+returns-in-Ok-Done-clause-spent g c was now spelled h =
+    Serving c.args.base spelled
+    (live_spent_when_done c.args.base c.args.port c.args.turns _ _ _ _ c.in-Ok-Done.events c.in-Ok-Done.record
+    (all_served c.args.base c.args.port c.args.turns _ _ _ _ c.in-Ok-Done.field-0 c.in-Ok-Done.ensures.served c.in-Ok-Done.events c.in-Ok-Done.record c.in-Ok-Done.field-0-is))
+
+pub returns-in-Err-Link-clause-spent : goal.returns-in-Err-Link-clause-spent
+returns-in-Err-Link-clause-spent g c was now spelled h = Serving c.args.base spelled c.in-Err-Link.ensures.spent
+
+pub returns-clause-spent : goal.returns-clause-spent
+returns-clause-spent g c was now spelled h = Serving c.args.base spelled c.in-Err-NoMemory.ensures.spent

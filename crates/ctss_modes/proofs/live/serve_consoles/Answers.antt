@@ -52,6 +52,11 @@ returns-in-Ok-read_base-clause-cause g c =
 pub returns-in-Ok-read_base-clause-silent : goal.returns-in-Ok-read_base-clause-silent
 returns-in-Ok-read_base-clause-silent g c h = c.host.ensures.silent _ _ (grind (arith, h, c.host.ensures.status, nat_tests))
 
+pub returns-in-Ok-read_base-clause-spent : goal.returns-in-Ok-read_base-clause-spent
+returns-in-Ok-read_base-clause-spent g c h =
+    c.host.ensures.spent _ _
+    (record { bytes = c.in-Ok.bytes.items; came = c.in-Ok.ensures.bytes; whole = c.in-Ok.ensures.end; spelled = ap base_of (sym c.deref.ensures.value) ∙ c.in-Ok-read_base.ensures }) h
+
 pub returns-in-Err-Refused-clause-part : goal.returns-in-Err-Refused-clause-part
 returns-in-Err-Refused-clause-part g c words asked h =
     let read : base_of c.deref.result.now ≡ Err c.in-Err-Refused.refusal = subst (λ (f : ScriptFault). Reads (Err f) (base_of c.deref.result.now)) c.in-Err-Refused.field-0-is c.in-Err-Refused.ensures in

@@ -10,7 +10,7 @@ use Rattle.text_model.specs.Words.{script_refused}
 use Rattle.ctss_modes.specs.Outcomes.{bare}
 use Rattle.text_model.specs.Reading.{script_of}
 use Rattle.text_model.proofs.LawfulLaws.{scripts_are_lawful}
-use Rattle.ctss_modes.proofs.Says.{refused_short, cut_short, cut_run, comes_read, replays_runs, replays_reads, replays_script, replays_alone, is_run, is_stopped, is_lost}
+use Rattle.ctss_modes.proofs.Says.{refused_short, cut_short, cut_run, comes_read, replays_runs, replays_reads, replays_script, replays_alone, is_run, is_stopped, is_lost, script_spends}
 use Rattle.ctss_modes.proofs.Unread.{ends_unread, unread_refused, unread_causes, unread_cut, unread_silent, unread_told}
 use Rattle.ctss_modes.proofs.modes.replay.Goals as goal
 
@@ -64,7 +64,7 @@ returns-in-Ok-read_script-clause-stopped g c words link asked h =
     let spelled : script_of c.in-Ok.bytes.items ≡ Ok c.in-Ok-read_script.script = ap script_of (sym c.deref.ensures.value) ∙ c.in-Ok-read_script.ensures in
     is_stopped words c.args.mode (replays_alone c.args.mode c.requires.mode) _ _ _ c.in-Ok-read_script.script asked
     (comes_read c.args.mode c.requires.mode _ _ c.in-Ok.bytes.items c.in-Ok-read_script.script c.in-Ok.ensures.bytes c.in-Ok.ensures.end spelled)
-    (c.perform.ensures.silent (grind (arith, h, nat_tests))) (c.perform.ensures.stopped h).stopped c.perform.ensures.numbers
+    (c.perform.ensures.silent (grind (arith, h, nat_tests))) (c.perform.ensures.stopped h) c.perform.ensures.numbers
 
 pub returns-in-Ok-read_script-clause-lost : goal.returns-in-Ok-read_script-clause-lost
 returns-in-Ok-read_script-clause-lost g c words link asked h =
@@ -72,6 +72,12 @@ returns-in-Ok-read_script-clause-lost g c words link asked h =
     is_lost words c.args.mode (replays_alone c.args.mode c.requires.mode) _ _ _ c.in-Ok-read_script.script asked
     (comes_read c.args.mode c.requires.mode _ _ c.in-Ok.bytes.items c.in-Ok-read_script.script c.in-Ok.ensures.bytes c.in-Ok.ensures.end spelled)
     (c.perform.ensures.silent (grind (arith, h, nat_tests))) (c.perform.ensures.lost h) c.perform.ensures.numbers
+
+pub returns-in-Ok-read_script-clause-spent : goal.returns-in-Ok-read_script-clause-spent
+returns-in-Ok-read_script-clause-spent g c link h =
+    let spelled : script_of c.in-Ok.bytes.items ≡ Ok c.in-Ok-read_script.script = ap script_of (sym c.deref.ensures.value) ∙ c.in-Ok-read_script.ensures in
+    script_spends c.args.mode (replays_alone c.args.mode c.requires.mode) (replays_runs c.args.mode c.requires.mode) _ _ c.in-Ok-read_script.script
+    (comes_read c.args.mode c.requires.mode _ _ c.in-Ok.bytes.items c.in-Ok-read_script.script c.in-Ok.ensures.bytes c.in-Ok.ensures.end spelled) (c.perform.ensures.spent h)
 
 pub returns-in-Err-Refused-clause-refused : goal.returns-in-Err-Refused-clause-refused
 returns-in-Err-Refused-clause-refused g c link h =

@@ -4,7 +4,7 @@ use Rattle.time_sharing.specs.System.{Timed}
 use Rattle.system_model.specs.Run.{Run, with_one_event, with_all_events}
 use Rattle.system_model.specs.Sound.{HasSeat}
 use Rattle.supervisor.specs.Seen.{run_with}
-use Rattle.ctss_modes.proofs.Runs.{seated, one_more}
+use Rattle.ctss_modes.proofs.Runs.{seated, one_more, one_entry}
 use Rattle.ctss_modes.proofs.record.give_all.Goals as goal
 
 pub take-requires : goal.take-requires
@@ -24,6 +24,8 @@ loop-event-preserved c =
           ∙ ap (with_one_event c.event-item.result) (c.loop-event.invariant.run places)
           ∙ one_more _ c.loop-event.event-index c.event-item.result (run_with places c.args.supervisor.now) c.loop-event-test.true c.event-item.is;
       texts = c.in_ok-take.ensures.texts ∙ c.loop-event.invariant.texts;
+      ended = c.in_ok-take.ensures.same ∙ c.loop-event.invariant.ended;
+      entries = one_entry c.event-item.result c.loop-event.supervisor c.take.new.self (c.in_ok-take.ensures.ok no_places) ∙ c.loop-event.invariant.entries;
     }
 
 pub returns-clause-given : goal.returns-clause-given

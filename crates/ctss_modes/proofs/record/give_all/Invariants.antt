@@ -8,4 +8,6 @@ abbrev pub invariant-loop-event : goal.invariant-loop-event
 invariant-loop-event l = record {
   run : (places : Places) → run_with places l.supervisor ≡ with_all_events (take l.event-index l.events) (run_with places l.fn.supervisor);
   texts : l.supervisor.texts ≡ l.fn.supervisor.texts;
+  ended : l.supervisor.ended ≡ l.fn.supervisor.ended;
+  entries : l.supervisor.entries ≡ l.fn.supervisor.entries;
 }

@@ -1,5 +1,5 @@
 use Rattle.std.specs.Prelude.{take, drop, Ok}
-use Rattle.std.proofs.Common.{◌≡◌, ◌≤◌, ◌++◌, ◌*◌, length, get_or, ℕ, List, ◌∙◌, sym, ap, subst, arith}
+use Rattle.std.proofs.Common.{◌≡◌, ◌≤◌, ◌++◌, ◌*◌, length, get_or, ℕ, zero, suc, List, [], ◌∷◌, ◌∙◌, sym, ap, subst, arith}
 use Rattle.std.proofs.lemmas.List.{take-append-drop}
 use Rattle.track_store.specs.Words.{Gave}
 use Rattle.file_tracks.specs.Places.{count_in, bit}
@@ -11,7 +11,7 @@ use Rattle.file_model.specs.Files.{got_of}
 use Rattle.track_store.specs.Words.{joined}
 use Rattle.file_tracks.specs.Stored.{HasTracks}
 use Rattle.file_tracks.proofs.Told.{told_map}
-use Rattle.file_tracks.proofs.Tables.{occurs_at}
+use Rattle.file_tracks.proofs.Tables.{occurs_at, used_at}
 use Rattle.file_tracks.proofs.Anyhow.{any_rows, any_span, enough, least}
 use Rattle.file_tracks.proofs.reading.get_in.Goals as goal
 
@@ -73,3 +73,24 @@ returns-clause-any g c =
         ),
       ),
     )
+
+short : (n : ℕ) (xs : List ℕ) → length (take n xs) ≤ n
+short zero xs = omega arith
+short (suc n) [] = omega arith
+short (suc n) (x ∷ xs) = omega (arith, short n xs)
+
+pub returns-clause-bound : goal.returns-clause-bound
+returns-clause-bound g c =
+    let fs = c.args.table.now.files.items in
+    let f = c.index-file.result.now in
+    let low = c.in-Some.ensures.0 in
+    let has = subst HasTracks (sym c.index-file.ensures) (All-get_or HasTracks fs c.in-Some.at f low c.requires.usable.tracked) in
+    let within = used_at fs c.in-Some.at f low in
+    let same = ap (λ (x : Filed). length x.tracks.items) c.index-file.ensures in
+    let few = c.requires.usable.few in
+    let counted = c.requires.usable.counted in
+    let words = c.from_vec.ensures ∙ c.in-Ok-as_words.ensures ∙ ap (take c.min-len.result) c.deref-2.ensures.value in
+    let size : length c.from_vec.result ≡ length (take c.min-len.result c.in-Ok.span.items) = ap (λ (ws : List ℕ). length ws) words in
+    let cut = short c.min-len.result c.in-Ok.span.items in
+    let least_is = c.min-len.ensures in
+    omega (arith, has, within, same, few, counted, size, cut, least_is)

@@ -1,0 +1,10 @@
+use Rattle.console_trials.proofs.Beginnings.{of_ok, not_disk}
+use Rattle.console_trials.proofs.served.a_login_over_a_socket_is_served.Goals as goal
+
+pub begin-run-requires-clause-lawful : goal.begin-run-requires-clause-lawful
+begin-run-requires-clause-lawful g c = c.in_ok-script.ensures
+
+pub is_served-requires-clause-sound : goal.is_served-requires-clause-sound
+is_served-requires-clause-sound g c =
+    let wrote = c.begin-run.result.wrote in
+    (c.begin-run.ensures.usable (not_disk wrote c.in-Ok.field-0 c.in-Ok.is), (of_ok wrote c.in-Ok.field-0 _ c.in-Ok.is c.begin-run.ensures.begun.begins).ready)

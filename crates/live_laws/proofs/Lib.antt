@@ -5,3 +5,4 @@ pub mod Beginnings
 pub mod Shown
 pub mod TextsInParts
 pub mod LiveTexts
+mod Loading

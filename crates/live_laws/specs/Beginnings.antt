@@ -1,10 +1,14 @@
 -- claim: the schedule and the transcripts of a run that stopped are beginnings of the whole run's.
-use Rattle.std.specs.Prelude.{◌≡◌, ℕ, List, [], ◌∷◌, ◌++◌, get_or}
+use Rattle.std.specs.Prelude.{◌≡◌, ℕ, ◌+◌, ◌<◌, ◌≤◌, List, [], ◌∷◌, ◌++◌, get_or}
 use Rattle.ctss_types.specs.declared.script.Script.{Script}
 use Rattle.ctss_types.specs.declared.history.Record.{Record}
 use Rattle.system_model.specs.Run.{Run, AfterSteps, with_all_events}
 use Rattle.system_model.specs.Record.{start_of, record_of}
+use Rattle.system_model.specs.Sound.{Sound}
+use Rattle.schedule_model.specs.Sums.{dumped_in, read_in}
+use Rattle.supervisor.specs.Counts.{calls_to_load}
 use Rattle.supervisor.specs.Seen.{record_so_far}
+use Rattle.supervisor.specs.Steps.{LoadIsNext}
 use Rattle.live_laws.specs.Parts.{Part, AreInOrder, all_events, run_in, live_script}
 
 -- a list, and one that has more at its end
@@ -27,3 +31,11 @@ StoppedPartsAreBeginnings =
     (base : Script) (parts : List Part) (p : Part) (last : ℕ) (at : Run) → AreInOrder 0 last (parts ++ p ∷ []) →
     AfterSteps p.limit (with_all_events p.events (run_in parts (start_of (record base { events = [] })))) at →
     IsBeginningOf (record_so_far at) (record_of (live_script base (all_events (parts ++ p ∷ [])) last))
+
+-- A run that a load stopped asks no more of the drum than the whole run: the blocks that it has moved, and all that the load which is next would
+-- move, are at most those that the script's record moves.
+abbrev pub StoppedLoadsAreFew : Type 0
+StoppedLoadsAreFew =
+    (script : Script) (at : Run) → AfterSteps script.end (start_of script) at → Sound at → at.system.clock < script.end → (load : LoadIsNext at) →
+    let rec = record_of script in
+    dumped_in at.system.entries + read_in at.system.entries + calls_to_load load.due.user at ≤ dumped_in rec.entries + read_in rec.entries

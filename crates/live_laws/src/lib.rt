@@ -3,7 +3,7 @@
 //! The definitions stand in `specs/`. The functions here do nothing: each carries a law.
 #![tactic(auto)]
 
-ghost use Rattle.live_laws.specs.Beginnings.{StoppedRunsAreBeginnings, StoppedPartsAreBeginnings};
+ghost use Rattle.live_laws.specs.Beginnings.{StoppedRunsAreBeginnings, StoppedPartsAreBeginnings, StoppedLoadsAreFew};
 ghost use Rattle.live_laws.specs.Parts.{LiveRunsAreReplays, CallsAreRuns};
 ghost use Rattle.live_laws.specs.Texts.{TextsInParts, LateEventsShowNothing, LiveTextsAreReplayed, CallsShowTexts};
 
@@ -29,6 +29,12 @@ pub fn stopped_runs_are_beginnings()
 #[tactic(auto, using(crate::proofs::Beginnings::stopped_parts_are_beginnings))]
 pub fn stopped_parts_are_beginnings()
     ensures { StoppedPartsAreBeginnings }
+{}
+
+/// A run that a load stopped asks no more of the drum than the whole run.
+#[tactic(auto, using(crate::proofs::Loading::stopped_loads_are_few))]
+pub fn stopped_loads_are_few()
+    ensures { StoppedLoadsAreFew }
 {}
 
 /// To go on in parts, with events that come meanwhile, shows what one long run shows.

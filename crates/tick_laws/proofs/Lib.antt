@@ -1,0 +1,5 @@
+pub mod Sums
+pub mod Cover
+pub mod Loaded
+pub mod RowsComputed
+mod OthersComputed

@@ -1,0 +1,5 @@
+pub mod Spans
+pub mod Worlds
+pub mod Laws
+pub mod Rows
+pub mod Others

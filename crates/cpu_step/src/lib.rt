@@ -49,10 +49,46 @@ pub fn step<M: MemoryPort>(regs: &mut Regs, core: &mut M) -> Stepped
     let Ok(word) = core.load(regs.ic) else {
         return Stepped::Outside(regs.ic);
     };
-    let Some(i) = decode(word) else {
+    if word.prefix() & 3 != 0 {
+        do_prefixed(regs, core, word)
+    } else {
+        do_coded(regs, core, word)
+    }
+}
+
+/// Does the instruction that a word with a prefix is.
+#[inline(always)]
+fn do_prefixed<M: MemoryPort>(regs: &mut Regs, core: &mut M, word: Word) -> Stepped
+    requires prefix { prefix_of word % 4 ≢ 0 }
+    requires ic { regs.old.ic < 2 ^ 15 }
+    ensures does { outcome result regs.new (M.words core.new)
+        ≡ instruction (decoded word) (λ i. executed i regs.old (M.words core.old)) }
+    ensures stays { Stays result regs.old regs.new (M.words core.old) (M.words core.new) }
+    ensures keeps { M.Keeps core.old core.new }
+    ensures ic { regs.new.ic < 2 ^ 15 }
+{
+    let Some(i) = decode_prefixed(word) else {
         return Stepped::Illegal;
     };
-    execute(regs, core, &i)
+    as_step(ops_index::apply(regs, core, &i, i.address))
+}
+
+/// Does the instruction that a word without a prefix is. Its row of the table is looked up once.
+#[inline(always)]
+fn do_coded<M: MemoryPort>(regs: &mut Regs, core: &mut M, word: Word) -> Stepped
+    requires prefix { prefix_of word % 4 ≡ 0 }
+    requires ic { regs.old.ic < 2 ^ 15 }
+    ensures does { outcome result regs.new (M.words core.new)
+        ≡ instruction (decoded word) (λ i. executed i regs.old (M.words core.old)) }
+    ensures stays { Stays result regs.old regs.new (M.words core.old) (M.words core.new) }
+    ensures keeps { M.Keeps core.old core.new }
+    ensures ic { regs.new.ic < 2 ^ 15 }
+{
+    let Some(row) = row_coded(word) else {
+        return Stepped::Illegal;
+    };
+    let i = instr_coded(row, word);
+    execute(regs, core, row.3, row.4, &i)
 }
 
 /// Does as many steps as go on, at most so many, and says how many they were. It ends before a step that halts, that is a
@@ -168,7 +204,8 @@ fn go_fixed<M: MemoryPort>(regs: &mut Regs, core: &mut M, i: &Instr, y: u16) -> 
     requires fields { HasFields i.now }
     requires y { y < 2 ^ 15 }
     requires ic { regs.old.ic < 2 ^ 15 }
-    ensures goes { result ≡ true → fixed_row i.now.op i.now regs.old (M.words core.old) y ≡ went regs.new (M.words core.new) }
+    ensures goes { result ≡ true → fixed_row i.now.op i.now regs.old (M.words core.old) y
+        ≡ went regs.new (M.words core.new) }
     ensures regs { result ≡ false → regs.new ≡ regs.old }
     ensures core { result ≡ false → M.words core.new ≡ M.words core.old }
     ensures keeps { M.Keeps core.old core.new }
@@ -191,7 +228,8 @@ fn go_logic<M: MemoryPort>(regs: &mut Regs, core: &mut M, i: &Instr, y: u16) -> 
     requires fields { HasFields i.now }
     requires y { y < 2 ^ 15 }
     requires ic { regs.old.ic < 2 ^ 15 }
-    ensures goes { result ≡ true → logic_row i.now.op i.now regs.old (M.words core.old) y ≡ went regs.new (M.words core.new) }
+    ensures goes { result ≡ true → logic_row i.now.op i.now regs.old (M.words core.old) y
+        ≡ went regs.new (M.words core.new) }
     ensures regs { result ≡ false → regs.new ≡ regs.old }
     ensures core { result ≡ false → M.words core.new ≡ M.words core.old }
     ensures keeps { M.Keeps core.old core.new }
@@ -214,7 +252,8 @@ fn go_index<M: MemoryPort>(regs: &mut Regs, core: &mut M, i: &Instr, y: u16) -> 
     requires fields { HasFields i.now }
     requires y { y < 2 ^ 15 }
     requires ic { regs.old.ic < 2 ^ 15 }
-    ensures goes { result ≡ true → index_row i.now.op i.now regs.old (M.words core.old) y ≡ went regs.new (M.words core.new) }
+    ensures goes { result ≡ true → index_row i.now.op i.now regs.old (M.words core.old) y
+        ≡ went regs.new (M.words core.new) }
     ensures regs { result ≡ false → regs.new ≡ regs.old }
     ensures core { result ≡ false → M.words core.new ≡ M.words core.old }
     ensures keeps { M.Keeps core.old core.new }
@@ -238,10 +277,18 @@ fn may_halt(op: Op) -> bool
     matches!(op, Op::Dvh | Op::Htr | Op::Hpr)
 }
 
-/// Does an instruction.
+/// Does an instruction of a class and a group.
 #[inline(always)]
 #[tactic(auto, using(crate::proofs::Xec::executed_at))]
-fn execute<M: MemoryPort>(regs: &mut Regs, core: &mut M, i: &Instr) -> Stepped
+fn execute<M: MemoryPort>(
+    regs: &mut Regs,
+    core: &mut M,
+    class: Class,
+    kind: Kind,
+    i: &Instr,
+) -> Stepped
+    requires class { class ≡ class_of i.now.op }
+    requires kind { kind ≡ kind_of i.now.op }
     requires fields { HasFields i.now }
     requires ic { regs.old.ic < 2 ^ 15 }
     ensures executed { outcome result regs.new (M.words core.new) ≡ executed i.now regs.old (M.words core.old) }
@@ -249,10 +296,10 @@ fn execute<M: MemoryPort>(regs: &mut Regs, core: &mut M, i: &Instr) -> Stepped
     ensures keeps { M.Keeps core.old core.new }
     ensures ic { regs.new.ic < 2 ^ 15 }
 {
-    if !is_xec(kind(i.op)) {
-        return perform(regs, core, i);
+    if !is_xec(kind) {
+        return perform(regs, core, class, kind, i);
     }
-    let y = match place(regs, core, class(i.op), i) {
+    let y = match place(regs, core, class, i) {
         Ok(y) => y,
         Err(address) => return Stepped::Outside(address),
     };
@@ -278,12 +325,20 @@ fn perform_word<M: MemoryPort>(regs: &mut Regs, core: &mut M, word: Word) -> Ste
     if is_xec(kind(i.op)) {
         return Stepped::Illegal;
     }
-    perform(regs, core, &i)
+    perform(regs, core, class(i.op), kind(i.op), &i)
 }
 
-/// Does an instruction that is no XEC.
+/// Does an instruction of a class and a group that is no XEC.
 #[inline(always)]
-fn perform<M: MemoryPort>(regs: &mut Regs, core: &mut M, i: &Instr) -> Stepped
+fn perform<M: MemoryPort>(
+    regs: &mut Regs,
+    core: &mut M,
+    class: Class,
+    kind: Kind,
+    i: &Instr,
+) -> Stepped
+    requires class { class ≡ class_of i.now.op }
+    requires kind { kind ≡ kind_of i.now.op }
     requires fields { HasFields i.now }
     requires ic { regs.old.ic < 2 ^ 15 }
     ensures done { outcome result regs.new (M.words core.new) ≡ done i.now regs.old (M.words core.old) }
@@ -291,25 +346,33 @@ fn perform<M: MemoryPort>(regs: &mut Regs, core: &mut M, i: &Instr) -> Stepped
     ensures keeps { M.Keeps core.old core.new }
     ensures ic { regs.new.ic < 2 ^ 15 }
 {
-    let y = match place(regs, core, class(i.op), i) {
+    let y = match place(regs, core, class, i) {
         Ok(y) => y,
         Err(address) => return Stepped::Outside(address),
     };
-    perform_at(regs, core, i, y)
+    perform_at(regs, core, kind, i, y)
 }
 
-/// Does an instruction that is no XEC at its place.
+/// Does an instruction of a group that is no XEC at its place.
 #[inline(always)]
-fn perform_at<M: MemoryPort>(regs: &mut Regs, core: &mut M, i: &Instr, y: u16) -> Stepped
+fn perform_at<M: MemoryPort>(
+    regs: &mut Regs,
+    core: &mut M,
+    kind: Kind,
+    i: &Instr,
+    y: u16,
+) -> Stepped
+    requires kind { kind ≡ kind_of i.now.op }
     requires fields { HasFields i.now }
     requires y { y < 2 ^ 15 }
     requires ic { regs.old.ic < 2 ^ 15 }
-    ensures row { outcome result regs.new (M.words core.new) ≡ row (kind_of i.now.op) i.now regs.old (M.words core.old) y }
+    ensures row { outcome result regs.new (M.words core.new)
+        ≡ row (kind_of i.now.op) i.now regs.old (M.words core.old) y }
     ensures stays { Stays result regs.old regs.new (M.words core.old) (M.words core.new) }
     ensures keeps { M.Keeps core.old core.new }
     ensures ic { regs.new.ic < 2 ^ 15 }
 {
-    match kind(i.op) {
+    match kind {
         Kind::Fixed => as_step(ops_fixed::apply(regs, core, i, y)),
         Kind::Logic => as_step(ops_logic::apply(regs, core, i, y)),
         Kind::Index => as_step(ops_index::apply(regs, core, i, y)),

@@ -8,17 +8,26 @@ use Rattle.ctss_modes.specs.declared.outcome.Outcome.{Outcome}
 use Rattle.ctss_modes.specs.Outcomes.{bare, IsOneOf}
 use Rattle.ctss_modes.specs.Top.{statuses_asked}
 use Rattle.ctss_modes.specs.Answer.{Answers}
+use Rattle.ctss_modes.specs.Devices.{OutputSeen}
+use Rattle.outcome_text.specs.Explained.{explained}
+use Rattle.outcome_text.specs.Said.{Says}
 use Rattle.ctss_modes.proofs.Answering.{no_memory as none_done}
 use Rattle.ctss_main.specs.Program.{HandedSeen, with_media, blank, IsAnswered}
 
+-- what was said
+abbrev Said : Outcome → HandedSeen → HandedSeen → Type 0
+Said o old new = Says (explained o.status o.card o.cause) old.errors.held new.errors.held old.errors.faults new.errors.faults
+
 -- want of memory before anything was done
-pub no_memory : (words : List (List ℕ)) (seen : HandedSeen) → IsAnswered words seen seen 8
-no_memory words seen =
+pub no_memory : (words : List (List ℕ)) (seen : HandedSeen) (errors : OutputSeen) → Said (bare 8 0 0) seen (record seen { errors = errors })
+    → IsAnswered words seen (record seen { errors = errors }) 8
+no_memory words seen errors said =
     record {
       outcome = bare 8 0 0;
       contents = blank;
       answers = none_done words (with_media seen blank);
       status_is = refl;
+      said = said;
       unfailed = refl;
     }
 
@@ -45,6 +54,6 @@ answered words old new contents o a =
     a.allowed.by_words
 
 pub is_answered : (words : List (List ℕ)) (old new : HandedSeen) (contents : List (List ℕ)) (o : Outcome) → Answers words (with_media old blank) (with_media new contents) o
-    → IsAnswered words old new o.status
-is_answered words old new contents o a =
-    record { outcome = o; contents = contents; answers = a; status_is = refl; unfailed = answered words old new contents o a }
+    → Said o old new → IsAnswered words old new o.status
+is_answered words old new contents o a said =
+    record { outcome = o; contents = contents; answers = a; status_is = refl; said = said; unfailed = answered words old new contents o a }

@@ -1,5 +1,5 @@
-//! What the program is, but for its `main`: the words of its command line, standard input, standard output and the sockets of this
-//! machine, over a drum and a disk in memory.
+//! What the program is, but for its `main`: the words of its command line, standard input, standard output, standard error and the
+//! sockets of this machine, over a drum and a disk in memory.
 #![tactic(auto)]
 
 mod program;
@@ -7,6 +7,7 @@ mod program;
 use console_link::MioLink;
 use ctss_io::{NoMemory, StdSink, StdSource};
 use ctss_top::ArgList;
+use outcome_text::explain;
 pub use program::run_program;
 use std::io::ErrorKind;
 use std::{env, io};
@@ -31,11 +32,25 @@ fn words(rt: &HostRuntime) -> Result<ArgList, NoMemory> {
     }
 }
 
-/// Does what the words of the command line ask for, and answers the status.
-pub fn run(rt: &HostRuntime) -> Result<u8, NoMemory> {
-    let words = words(rt)?;
-    let mut link = MioLink::new(rt.alloc(), rt)?;
+/// Does what the words of the command line ask for, and answers the status. What a status that is not 0 means is said on standard error.
+pub fn run(rt: &HostRuntime) -> u8 {
+    let mut errors = StdSink::new(rt.stderr());
+    let Ok(words) = words(rt) else {
+        explain(&mut errors, 8, 0, 0);
+        return 8;
+    };
+    let Ok(mut link) = MioLink::new(rt.alloc(), rt) else {
+        explain(&mut errors, 8, 0, 0);
+        return 8;
+    };
     let mut source = StdSource::new(rt.reader());
     let mut sink = StdSink::new(io::writer(rt));
-    Ok(run_program(rt.alloc(), &words, &mut source, &mut sink, &mut link))
+    run_program(
+        rt.alloc(),
+        &words,
+        &mut source,
+        &mut sink,
+        &mut errors,
+        &mut link,
+    )
 }

@@ -31,7 +31,8 @@ pub fn run_mode<S: Source, K: Sink, D: Medium, F: Medium, L: Link>(
     requires turns { turns_asked asked ≤ 100000 }
     requires drum { Serves (D.contents drum.old) (D.record_count drum.old) (D.words_each drum.old) 3840 }
     requires disk { Holds (F.contents disk.old) (F.record_count disk.old) (F.words_each disk.old) 10000 }
-    ensures { IsAnswer asked (seen S.Source K.Sink D.Medium F.Medium input.old output.old drum.old disk.old (L.seen link.old))
+    ensures { IsAnswer asked
+        (seen S.Source K.Sink D.Medium F.Medium input.old output.old drum.old disk.old (L.seen link.old))
         (seen S.Source K.Sink D.Medium F.Medium input.new output.new drum.new disk.new (L.seen link.new)) result }
 {
     let Some(mode) = asked else {

@@ -57,9 +57,11 @@ fn write_deck<K: Sink>(alloc: Global, words: &[Word], sink: &mut K) -> Outcome
 fn write_faults<K: Sink>(alloc: Global, faults: &[CardFault], sink: &mut K) -> Outcome
     ensures status { IsOneOf result.status (4 ∷ 8 ∷ 9 ∷ []) }
     ensures done { result.status ≡ 9 → result ≡ bare 9 0 0 }
-    ensures written { result.status ≡ 9 → K.held sink.new ≡ after (K.held sink.old) (faults_text (numbered faults.now)) }
+    ensures written { result.status ≡ 9 → K.held sink.new
+        ≡ after (K.held sink.old) (faults_text (numbered faults.now)) }
     ensures cut { result.status ≡ 4 → result ≡ bare 4 0 0 }
-    ensures part { result.status ≡ 4 → GrewByProperPrefix (K.held sink.old) (faults_text (numbered faults.now)) (K.held sink.new) }
+    ensures part { result.status ≡ 4
+        → GrewByProperPrefix (K.held sink.old) (faults_text (numbered faults.now)) (K.held sink.new) }
     ensures cause { result.status ≡ 4 → Rose (K.faults sink.old) (K.faults sink.new) }
     ensures memory { result.status ≡ 8 → result ≡ bare 8 0 0 }
     ensures silent { result.status ≡ 8 → K.held sink.new ≡ K.held sink.old }

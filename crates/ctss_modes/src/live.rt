@@ -43,29 +43,35 @@ fn host<K: Sink, D: Medium, F: Medium, L: Link>(
     ensures done { (was now : InputSeen) → IsSpelled (Mode.Serve port turns) was.left now.left base → result.status ≡ 0
         → IsRun (Mode.Serve port turns)
         (devices was (output_seen K.Sink sink.old) (media_seen D.Medium F.Medium drum.old disk.old) (L.seen link.old))
-        (devices now (output_seen K.Sink sink.new) (media_seen D.Medium F.Medium drum.new disk.new) (L.seen link.new)) result }
+        (devices now (output_seen K.Sink sink.new) (media_seen D.Medium F.Medium drum.new disk.new)
+        (L.seen link.new)) result }
     ensures part { (words : List (List ℕ)) (was now : InputSeen) → mode_of words ≡ Some (Mode.Serve port turns)
         → IsSpelled (Mode.Serve port turns) was.left now.left base → result.status ≡ 4 → IsCutOff words
         (devices was (output_seen K.Sink sink.old) (media_seen D.Medium F.Medium drum.old disk.old) (L.seen link.old))
-        (devices now (output_seen K.Sink sink.new) (media_seen D.Medium F.Medium drum.new disk.new) (L.seen link.new)) result }
+        (devices now (output_seen K.Sink sink.new) (media_seen D.Medium F.Medium drum.new disk.new)
+        (L.seen link.new)) result }
     ensures stopped { (words : List (List ℕ)) (was now : InputSeen) → mode_of words ≡ Some (Mode.Serve port turns)
         → IsSpelled (Mode.Serve port turns) was.left now.left base → result.status ≡ 5 → RunIsStopped words
         (devices was (output_seen K.Sink sink.old) (media_seen D.Medium F.Medium drum.old disk.old) (L.seen link.old))
-        (devices now (output_seen K.Sink sink.new) (media_seen D.Medium F.Medium drum.new disk.new) (L.seen link.new)) result }
+        (devices now (output_seen K.Sink sink.new) (media_seen D.Medium F.Medium drum.new disk.new)
+        (L.seen link.new)) result }
     ensures lost { (words : List (List ℕ)) (was now : InputSeen) → mode_of words ≡ Some (Mode.Serve port turns)
         → IsSpelled (Mode.Serve port turns) was.left now.left base → result.status ≡ 6 → RunLosesFiles words
         (devices was (output_seen K.Sink sink.old) (media_seen D.Medium F.Medium drum.old disk.old) (L.seen link.old))
-        (devices now (output_seen K.Sink sink.new) (media_seen D.Medium F.Medium drum.new disk.new) (L.seen link.new)) result }
+        (devices now (output_seen K.Sink sink.new) (media_seen D.Medium F.Medium drum.new disk.new)
+        (L.seen link.new)) result }
     ensures cause { (input : InputSeen) → HasCause
         (devices input (output_seen K.Sink sink.old) (media_seen D.Medium F.Medium drum.old disk.old) (L.seen link.old))
-        (devices input (output_seen K.Sink sink.new) (media_seen D.Medium F.Medium drum.new disk.new) (L.seen link.new)) result }
+        (devices input (output_seen K.Sink sink.new) (media_seen D.Medium F.Medium drum.new disk.new)
+        (L.seen link.new)) result }
     ensures spent { (was now : InputSeen) → IsSpelled (Mode.Serve port turns) was.left now.left base
         → IsOneOf result.status (7 ∷ 8 ∷ []) → SpendsFor (Mode.Serve port turns)
         (devices was (output_seen K.Sink sink.old) (media_seen D.Medium F.Medium drum.old disk.old) (L.seen link.old))
         (devices now (output_seen K.Sink sink.new) (media_seen D.Medium F.Medium drum.new disk.new) (L.seen link.new)) }
     ensures silent { (was now : InputSeen) → IsOneOf result.status (7 ∷ 8 ∷ []) → IsSilent result.status
         (devices was (output_seen K.Sink sink.old) (media_seen D.Medium F.Medium drum.old disk.old) (L.seen link.old))
-        (devices now (output_seen K.Sink sink.new) (media_seen D.Medium F.Medium drum.new disk.new) (L.seen link.new)) result }
+        (devices now (output_seen K.Sink sink.new) (media_seen D.Medium F.Medium drum.new disk.new)
+        (L.seen link.new)) result }
 {
     match serve(alloc, &base, port, turns, drum, disk, link) {
         Ok(Served::Done { events, record }) => {
@@ -106,13 +112,16 @@ pub(crate) fn serve_consoles<S: Source, K: Sink, D: Medium, F: Medium, L: Link>(
     ensures refused { result.status ≡ 2 → ScriptIsRefused (Mode.Serve port turns)
         (seen S.Source K.Sink D.Medium F.Medium input.old sink.old drum.old disk.old (L.seen link.old))
         (seen S.Source K.Sink D.Medium F.Medium input.new sink.new drum.new disk.new (L.seen link.new)) result }
-    ensures cause { HasCause (seen S.Source K.Sink D.Medium F.Medium input.old sink.old drum.old disk.old (L.seen link.old))
+    ensures cause { HasCause
+        (seen S.Source K.Sink D.Medium F.Medium input.old sink.old drum.old disk.old (L.seen link.old))
         (seen S.Source K.Sink D.Medium F.Medium input.new sink.new drum.new disk.new (L.seen link.new)) result }
     ensures stopped { (words : List (List ℕ)) → mode_of words ≡ Some (Mode.Serve port turns) → result.status ≡ 5
-        → RunIsStopped words (seen S.Source K.Sink D.Medium F.Medium input.old sink.old drum.old disk.old (L.seen link.old))
+        → RunIsStopped words
+        (seen S.Source K.Sink D.Medium F.Medium input.old sink.old drum.old disk.old (L.seen link.old))
         (seen S.Source K.Sink D.Medium F.Medium input.new sink.new drum.new disk.new (L.seen link.new)) result }
     ensures lost { (words : List (List ℕ)) → mode_of words ≡ Some (Mode.Serve port turns) → result.status ≡ 6
-        → RunLosesFiles words (seen S.Source K.Sink D.Medium F.Medium input.old sink.old drum.old disk.old (L.seen link.old))
+        → RunLosesFiles words
+        (seen S.Source K.Sink D.Medium F.Medium input.old sink.old drum.old disk.old (L.seen link.old))
         (seen S.Source K.Sink D.Medium F.Medium input.new sink.new drum.new disk.new (L.seen link.new)) result }
     ensures part { (words : List (List ℕ)) → mode_of words ≡ Some (Mode.Serve port turns) → result.status ≡ 4
         → IsCutOff words (seen S.Source K.Sink D.Medium F.Medium input.old sink.old drum.old disk.old (L.seen link.old))

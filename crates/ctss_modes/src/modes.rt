@@ -177,7 +177,8 @@ pub(crate) fn replay<S: Source, K: Sink, D: Medium, F: Medium>(
     ensures refused { (link : LinkSeen) → result.status ≡ 2
         → ScriptIsRefused mode (seen S.Source K.Sink D.Medium F.Medium script.old sink.old drum.old disk.old link)
         (seen S.Source K.Sink D.Medium F.Medium script.new sink.new drum.new disk.new link) result }
-    ensures cause { (link : LinkSeen) → HasCause (seen S.Source K.Sink D.Medium F.Medium script.old sink.old drum.old disk.old link)
+    ensures cause { (link : LinkSeen)
+        → HasCause (seen S.Source K.Sink D.Medium F.Medium script.old sink.old drum.old disk.old link)
         (seen S.Source K.Sink D.Medium F.Medium script.new sink.new drum.new disk.new link) result }
     ensures stopped { (words : List (List ℕ)) (link : LinkSeen) → mode_of words ≡ Some mode → result.status ≡ 5
         → RunIsStopped words (seen S.Source K.Sink D.Medium F.Medium script.old sink.old drum.old disk.old link)
@@ -221,26 +222,30 @@ pub(crate) fn load<K: Sink, D: Medium, F: Medium>(
     requires disk { Holds (F.contents disk.old) (F.record_count disk.old) (F.words_each disk.old) 10000 }
     ensures status { IsOneOf result.status (0 ∷ 4 ∷ 5 ∷ 6 ∷ 8 ∷ []) }
     ensures done { (input : InputSeen) (link : LinkSeen) → result.status ≡ 0
-        → IsRun (Mode.Load n) (devices input (output_seen K.Sink sink.old) (media_seen D.Medium F.Medium drum.old disk.old) link)
+        → IsRun (Mode.Load n)
+        (devices input (output_seen K.Sink sink.old) (media_seen D.Medium F.Medium drum.old disk.old) link)
         (devices input (output_seen K.Sink sink.new) (media_seen D.Medium F.Medium drum.new disk.new) link) result }
     ensures cause { (input : InputSeen) (link : LinkSeen)
         → HasCause (devices input (output_seen K.Sink sink.old) (media_seen D.Medium F.Medium drum.old disk.old) link)
         (devices input (output_seen K.Sink sink.new) (media_seen D.Medium F.Medium drum.new disk.new) link) result }
     ensures stopped { (words : List (List ℕ)) (input : InputSeen) (link : LinkSeen) → mode_of words ≡ Some (Mode.Load n)
-        → result.status ≡ 5 → RunIsStopped words (devices input (output_seen K.Sink sink.old) (media_seen D.Medium F.Medium drum.old disk.old) link)
+        → result.status ≡ 5 → RunIsStopped words
+        (devices input (output_seen K.Sink sink.old) (media_seen D.Medium F.Medium drum.old disk.old) link)
         (devices input (output_seen K.Sink sink.new) (media_seen D.Medium F.Medium drum.new disk.new) link) result }
     ensures lost { (words : List (List ℕ)) (input : InputSeen) (link : LinkSeen) → mode_of words ≡ Some (Mode.Load n)
         → result.status ≡ 6 → RunLosesFiles words
         (devices input (output_seen K.Sink sink.old) (media_seen D.Medium F.Medium drum.old disk.old) link)
         (devices input (output_seen K.Sink sink.new) (media_seen D.Medium F.Medium drum.new disk.new) link) result }
     ensures part { (words : List (List ℕ)) (input : InputSeen) (link : LinkSeen) → mode_of words ≡ Some (Mode.Load n)
-        → result.status ≡ 4 → IsCutOff words (devices input (output_seen K.Sink sink.old) (media_seen D.Medium F.Medium drum.old disk.old) link)
+        → result.status ≡ 4 → IsCutOff words
+        (devices input (output_seen K.Sink sink.old) (media_seen D.Medium F.Medium drum.old disk.old) link)
         (devices input (output_seen K.Sink sink.new) (media_seen D.Medium F.Medium drum.new disk.new) link) result }
     ensures silent { (input : InputSeen) (link : LinkSeen) → result.status ≡ 8
         → IsSilent 8 (devices input (output_seen K.Sink sink.old) (media_seen D.Medium F.Medium drum.old disk.old) link)
         (devices input (output_seen K.Sink sink.new) (media_seen D.Medium F.Medium drum.new disk.new) link) result }
     ensures spent { (input : InputSeen) (link : LinkSeen) → result.status ≡ 8
-        → SpendsFor (Mode.Load n) (devices input (output_seen K.Sink sink.old) (media_seen D.Medium F.Medium drum.old disk.old) link)
+        → SpendsFor (Mode.Load n)
+        (devices input (output_seen K.Sink sink.old) (media_seen D.Medium F.Medium drum.old disk.old) link)
         (devices input (output_seen K.Sink sink.new) (media_seen D.Medium F.Medium drum.new disk.new) link) }
 {
     match make_script(alloc, n) {

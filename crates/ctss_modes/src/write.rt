@@ -61,7 +61,8 @@ pub(crate) fn refuse_script<K: Sink>(alloc: Global, sink: &mut K, card: u32, cau
     ensures refused { result.status ≡ 2 → result ≡ bare 2 card cause }
     ensures written { result.status ≡ 2 → K.held sink.new ≡ after (K.held sink.old) (script_refused card cause) }
     ensures cut { result.status ≡ 4 → result ≡ bare 4 0 0 }
-    ensures part { result.status ≡ 4 → GrewByProperPrefix (K.held sink.old) (script_refused card cause) (K.held sink.new) }
+    ensures part { result.status ≡ 4
+        → GrewByProperPrefix (K.held sink.old) (script_refused card cause) (K.held sink.new) }
     ensures cause { result.status ≡ 4 → Rose (K.faults sink.old) (K.faults sink.new) }
     ensures memory { result.status ≡ 8 → result ≡ bare 8 0 0 }
     ensures silent { result.status ≡ 8 → K.held sink.new ≡ K.held sink.old }

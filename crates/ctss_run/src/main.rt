@@ -4,5 +4,5 @@
 use std::process::ExitCode;
 
 fn main(rt: HostRuntime) -> ExitCode {
-    ExitCode::from(ctss_main::run(&rt).unwrap_or(8))
+    ExitCode::from(ctss_main::run(&rt))
 }

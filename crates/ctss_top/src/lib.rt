@@ -43,16 +43,20 @@ pub fn run_ctss<S: Source, K: Sink, D: Medium, F: Medium, L: Link>(
     requires drum { Serves (D.contents drum.old) (D.record_count drum.old) (D.words_each drum.old) 3840 }
     requires disk { Holds (F.contents disk.old) (F.record_count disk.old) (F.words_each disk.old) 10000 }
     ensures headline { (mode : ModeAsked) → mode_of words.now ≡ Some mode → runs_script mode ≡ true
-        → result.status ≡ 0 → IsRun mode (seen S.Source K.Sink D.Medium F.Medium input.old output.old drum.old disk.old (L.seen link.old))
+        → result.status ≡ 0 → IsRun mode
+        (seen S.Source K.Sink D.Medium F.Medium input.old output.old drum.old disk.old (L.seen link.old))
         (seen S.Source K.Sink D.Medium F.Medium input.new output.new drum.new disk.new (L.seen link.new)) result }
     ensures deck { mode_of words.now ≡ Some Mode.Asm → result.status ≡ 0
-        → DeckIsWritten (seen S.Source K.Sink D.Medium F.Medium input.old output.old drum.old disk.old (L.seen link.old))
+        → DeckIsWritten (seen S.Source K.Sink D.Medium F.Medium input.old output.old drum.old disk.old
+        (L.seen link.old))
         (seen S.Source K.Sink D.Medium F.Medium input.new output.new drum.new disk.new (L.seen link.new)) result }
-    ensures refusals { IsRefusal words.now (seen S.Source K.Sink D.Medium F.Medium input.old output.old drum.old disk.old (L.seen link.old))
+    ensures refusals { IsRefusal words.now
+        (seen S.Source K.Sink D.Medium F.Medium input.old output.old drum.old disk.old (L.seen link.old))
         (seen S.Source K.Sink D.Medium F.Medium input.new output.new drum.new disk.new (L.seen link.new)) result }
 
     // The faults: only where the object's count rose.
-    ensures causes { HasCause (seen S.Source K.Sink D.Medium F.Medium input.old output.old drum.old disk.old (L.seen link.old))
+    ensures causes { HasCause
+        (seen S.Source K.Sink D.Medium F.Medium input.old output.old drum.old disk.old (L.seen link.old))
         (seen S.Source K.Sink D.Medium F.Medium input.new output.new drum.new disk.new (L.seen link.new)) result }
     ensures cut_off { result.status ≡ 4 → IsCutOff words.now
         (seen S.Source K.Sink D.Medium F.Medium input.old output.old drum.old disk.old (L.seen link.old))
@@ -70,16 +74,21 @@ pub fn run_ctss<S: Source, K: Sink, D: Medium, F: Medium, L: Link>(
         (seen S.Source K.Sink D.Medium F.Medium input.old output.old drum.old disk.old (L.seen link.old))
         (seen S.Source K.Sink D.Medium F.Medium input.new output.new drum.new disk.new (L.seen link.new)) result }
     ensures spent { IsOneOf result.status (7 ∷ 8 ∷ []) → (mode : ModeAsked) → mode_of words.now ≡ Some mode
-        → SpendsFor mode (seen S.Source K.Sink D.Medium F.Medium input.old output.old drum.old disk.old (L.seen link.old))
+        → SpendsFor mode (seen S.Source K.Sink D.Medium F.Medium input.old output.old drum.old disk.old
+        (L.seen link.old))
         (seen S.Source K.Sink D.Medium F.Medium input.new output.new drum.new disk.new (L.seen link.new)) }
-    ensures apart { LeavesUnasked words.now (seen S.Source K.Sink D.Medium F.Medium input.old output.old drum.old disk.old (L.seen link.old))
+    ensures apart { LeavesUnasked words.now
+        (seen S.Source K.Sink D.Medium F.Medium input.old output.old drum.old disk.old (L.seen link.old))
         (seen S.Source K.Sink D.Medium F.Medium input.new output.new drum.new disk.new (L.seen link.new)) }
-    ensures allowed { IsAllowed words.now (seen S.Source K.Sink D.Medium F.Medium input.old output.old drum.old disk.old (L.seen link.old)) result }
+    ensures allowed { IsAllowed words.now
+        (seen S.Source K.Sink D.Medium F.Medium input.old output.old drum.old disk.old (L.seen link.old)) result }
 
     // Where nothing failed, the answer is the one that words and bytes define, or want of memory.
-    ensures complete { NothingFailed (seen S.Source K.Sink D.Medium F.Medium input.old output.old drum.old disk.old (L.seen link.old))
+    ensures complete { NothingFailed
+        (seen S.Source K.Sink D.Medium F.Medium input.old output.old drum.old disk.old (L.seen link.old))
         (seen S.Source K.Sink D.Medium F.Medium input.new output.new drum.new disk.new (L.seen link.new))
-        → IsComplete words.now (seen S.Source K.Sink D.Medium F.Medium input.old output.old drum.old disk.old (L.seen link.old)) result }
+        → IsComplete words.now
+        (seen S.Source K.Sink D.Medium F.Medium input.old output.old drum.old disk.old (L.seen link.old)) result }
 {
     match words.mode() {
         Ok(asked) => run_mode(alloc, asked, input, output, drum, disk, link),

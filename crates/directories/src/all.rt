@@ -50,7 +50,8 @@ pub trait Directories {
         requires fits { session.old.own < 2 ^ 64 - 1 }
         requires time { now < 2 ^ 35 }
         ensures turn { IfOk result (λ turn. Over (state self.old).tells
-            (stored (M.words core.old) ((state self.old).own user)) (stored (M.words core.new) ((state self.new).own user))
+            (stored (M.words core.old) ((state self.old).own user))
+            (stored (M.words core.new) ((state self.new).own user))
             (IsTurn turn now session.old session.new)) }
         ensures account { session.new.inner.account ≡ session.old.inner.account }
         ensures err { OnErr result (session.new ≡ session.old) }
@@ -80,7 +81,8 @@ pub trait Directories {
         ensures step { (op : CommonOp) → IsToMake (state self.old).tells
             (stored (M.words core.old) ((state self.old).own user)) op session.old
             → IfOk result (λ s. Over (state self.old).tells
-            (stored (M.words core.old) ((state self.old).own user)) (stored (M.words core.new) ((state self.new).own user))
+            (stored (M.words core.old) ((state self.old).own user))
+            (stored (M.words core.new) ((state self.new).own user))
             (IsReplied s op reply.now now session.old session.new)) }
         ensures account { session.new.inner.account ≡ session.old.inner.account }
         ensures err { OnErr result (session.new ≡ session.old) }

@@ -84,7 +84,8 @@ fn directories_of<'d, F: Medium>(
         → ⟦<TrackDirectories<'d, F> as directories::Directories>⟧.Usable result.files }
     ensures first { OnOk result.wrote (HasFirstFiles script.now.params.common script.now.accounts script.now.files
         (is_some (F.contents disk.old)) (⟦<TrackDirectories<'d, F> as directories::Directories>⟧.state result.files)) }
-    ensures rises { F.faults disk.old ≤ (⟦<TrackDirectories<'d, F> as directories::Directories>⟧.state result.files).faults }
+    ensures rises { F.faults disk.old ≤
+        (⟦<TrackDirectories<'d, F> as directories::Directories>⟧.state result.files).faults }
     ensures cause { IsErrOf result.wrote StepFault.Disk → Rose (F.faults disk.old)
         (⟦<TrackDirectories<'d, F> as directories::Directories>⟧.state result.files).faults }
 {

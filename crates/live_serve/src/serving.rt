@@ -73,7 +73,8 @@ fn end_unbegun(
     supervisor: Supervisor,
     fault: StepFault,
 ) -> Result<Served, ServingFault>
-    ensures disk { IfOk result (λ s. (fault ≡ StepFault.Disk) × (s ≡ Served.DiskFailed (record_so_far (run_with no_places supervisor)))) }
+    ensures disk { IfOk result
+        (λ s. (fault ≡ StepFault.Disk) × (s ≡ Served.DiskFailed (record_so_far (run_with no_places supervisor)))) }
     ensures link { result ≢ Err ServingFault.Link }
 {
     match fault {
@@ -104,7 +105,8 @@ fn host<C: Backing + Drop, L: Link>(
     requires open { OnOk wrote (run.supervisor.ended ≡ false) }
     requires usable { ¬ IsErrOf wrote StepFault.Disk → C.Usable run.cores }
     requires ready { OnOk wrote (IsReady (whole_of run.supervisor (C.state run.cores))) }
-    ensures hosts { (base : Script) (was now : MediaSeen) → IsBegun base was wrote (whole_of run.supervisor (C.state run.cores))
+    ensures hosts { (base : Script) (was now : MediaSeen)
+        → IsBegun base was wrote (whole_of run.supervisor (C.state run.cores))
         → IsBehind (C.Lies result.behind) (C.state result.behind) now
         → Hosts base port turns was now (L.seen link.old) (L.seen link.new) result.served }
     ensures link { result.served ≡ Err ServingFault.Link → Rose (L.seen link.old).faults (L.seen link.new).faults }

@@ -1,5 +1,9 @@
 -- A step that makes an operation on the common files, in its parts.
-use Rattle.std.proofs.Common.{◌≡◌, ℕ, ◌≤◌, Bool, true, List, ap, sym, ◌∙◌, arith, inl, inr}
+use Rattle.std.proofs.Common.{◌≡◌, ℕ, ◌≤◌, Bool, true, false, List, [], ◌∷◌, ◌++◌, append_assoc, ap, sym, ◌∙◌, arith, inl, inr}
+use Rattle.time_sharing.specs.Machine.{Ending}
+use Rattle.time_sharing.specs.System.{Service, Entry, cause_of, clock_entry, service_entry}
+use Rattle.system_model.specs.Joined.{counted}
+use Rattle.plan_model.specs.Levels.{has_time}
 use Rattle.ctss_types.specs.declared.file.FileBody.{FileBody}
 use Rattle.file_map.specs.Known.{known}
 use Rattle.user_model.specs.Inner.{Stored}
@@ -37,3 +41,20 @@ words_stay user old new worked same told u =
 -- where a step over files that are known as these has changed nothing, all that is stored stays
 pub same_store : (tells : Bool) (old new : Stored) (had has : List FileBody) → known tells had ≡ old.files → known tells has ≡ new.files → stored new.core has ≡ stored old.core had → new ≡ old
 same_store tells old new had has was now is = λ j. record { core = (is j).core; files = (sym now ∙ ap (λ (s : Stored). known tells s.files) is ∙ was) j }
+
+-- the notes of a step that made a common operation, written before it is counted
+pub counted_shared : (v : Service) (t : Ending) (asked : Bool) (note : Entry) (r : Run)
+    → counted v t false [] (record r { system = record r.system { entries = (r.system.entries ++ clock_entry asked r.system.clock v.user) ++ note ∷ [] } }) ≡ counted v t asked (note ∷ []) r
+unfolding counted
+counted_shared v t asked note r =
+    ap (λ (es : List Entry). record there { system = record there.system { entries = es } })
+    (append_assoc (r.system.entries ++ clock) (note ∷ []) service ∙ append_assoc r.system.entries clock (note ∷ service))
+  where
+    there : Run
+    there = counted v t asked (note ∷ []) r
+
+    clock : List Entry
+    clock = clock_entry asked r.system.clock v.user
+
+    service : List Entry
+    service = service_entry v (cause_of t (has_time r.system.plan.levels))

@@ -1,5 +1,5 @@
 //! Whom the queues serve, and how a service ends.
-ghost use Rattle.std.specs.Prelude.{◌≡◌, ◌<◌, ◌≤◌, ◌+◌, ◌-◌, suc, length, vec_len, vec_capacity, option_to_list, Some};
+ghost use Rattle.std.specs.Prelude.{◌≡◌, ◌<◌, ◌≤◌, ◌+◌, ◌-◌, suc, ◌∷◌, [], length, vec_len, vec_capacity, Some};
 ghost use Rattle.time_sharing.specs.System.{served_of};
 ghost use Rattle.plan_model.specs.Levels.{chosen, user_of};
 ghost use Rattle.system_model.specs.Cases.{idled, broken_off, waited};
@@ -13,7 +13,7 @@ ghost use Rattle.supervisor.specs.Seen.{left_queues, Becomes, BecomesIf, StaysIf
 use crate::state::State;
 use ctss_types::{Cause, Ending, Entry, NoMemory, Service, UserNo};
 use level_queues::{Charge, Queues};
-use run_notes::{cause_of, idle_from, leave_consoles, note, note_clock, note_some, note_step};
+use run_notes::{cause_of, idle_from, leave_consoles, note, note_clock, note_step};
 use user_cores::Plan;
 use user_session::Step;
 
@@ -154,16 +154,15 @@ impl State {
         self.clock += u64::from(self.swap) * moved;
     }
 
-    /// The clock, the queues and the service behind a step of the user that is served, with the entry of its common operation,
-    /// if it made one.
+    /// The clock, the queues and the service behind a step of the user that is served, which made no common operation.
     #[tactic(auto, unfolding(system_model::specs::Joined::counted))]
-    pub(crate) fn count_step(&mut self, v: Service, step: Step, common: Option<Entry>)
-        requires room { vec_len self.old.entries + 3 ≤ vec_capacity self.old.entries }
+    pub(crate) fn count_step(&mut self, v: Service, step: Step)
+        requires room { vec_len self.old.entries + 2 ≤ vec_capacity self.old.entries }
         requires within { v.user ≤ length self.old.sessions.items }
         requires chosen { user_of (chosen self.old.queues) ≡ Some v.user }
         requires ran { v.ran ≤ self.old.clock }
         requires in_time { self.old.clock ≤ 100000000 }
-        ensures { Becomes (counted v step.ending step.clock (option_to_list common)) self.old self.new }
+        ensures { Becomes (counted v step.ending step.clock []) self.old self.new }
     {
         let user = v.user;
         let session = &self.sessions[user.index()];
@@ -180,9 +179,26 @@ impl State {
             leave_consoles(&mut self.consoles, user);
         }
         note_clock(&mut self.entries, step.clock, self.clock, user);
-        note_some(&mut self.entries, common);
         self.clock = now;
         self.service = note_step(&mut self.entries, v, cause);
+    }
+
+    /// The same behind a step that made a common operation, with its entry.
+    pub(crate) fn count_shared(&mut self, v: Service, step: Step, common: Entry)
+        requires room { vec_len self.old.entries + 4 ≤ vec_capacity self.old.entries }
+        requires within { v.user ≤ length self.old.sessions.items }
+        requires chosen { user_of (chosen self.old.queues) ≡ Some v.user }
+        requires ran { v.ran ≤ self.old.clock }
+        requires in_time { self.old.clock ≤ 100000000 }
+        ensures { Becomes (counted v step.ending step.clock (common ∷ [])) self.old self.new }
+    {
+        note_clock(&mut self.entries, step.clock, self.clock, v.user);
+        note(&mut self.entries, common);
+        let rest = Step {
+            ending: step.ending,
+            clock: false,
+        };
+        self.count_step(v, rest);
     }
 
     /// The clock, the queues and the service behind so many steps of the user that is served, which went on.

@@ -57,7 +57,8 @@ impl Supervisor {
         requires swap { script.now.params.swap ≤ 1000000 }
         requires users { length script.now.accounts ≤ 30 }
         requires blocks { All (λ (a : Account). a.blocks ≤ 128) script.now.accounts }
-        ensures run { IfOk result (λ s. run_with no_places s ≡ start_of (record script.now { events = []; files = [] })) }
+        ensures run { IfOk result
+            (λ s. run_with no_places s ≡ start_of (record script.now { events = []; files = [] })) }
         ensures texts { IfOk result (λ s. s.texts ≡ replicate 32 []) }
         ensures begun { IfOk result (λ s. s.ended ≡ false) }
     {

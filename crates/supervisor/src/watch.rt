@@ -66,7 +66,8 @@ pub(crate) struct Watch {
 }
 
 impl Watch {
-    /// One step, at which an event is due.
+    /// One step, at which an event is due. It stands apart, since its event is large and most steps have none.
+    #[inline(never)]
     fn hear<C: Backing>(&mut self, cores: &mut C, limit: u64) -> Result<(), RunFault>
         requires usable { C.Usable cores.old }
         requires held { Holds (watched self.old (C.state cores.old)) }

@@ -61,6 +61,7 @@ impl State {
     }
 
     /// The blocks of the user that is served are brought into core.
+    #[inline(never)]
     fn fetch<C: Backing>(&mut self, cores: &mut C, v: Service) -> Result<(), RunFault>
         requires usable { C.Usable cores.old }
         requires held { Holds (whole self.old (C.state cores.old)) }
@@ -90,7 +91,8 @@ impl State {
     }
 
     /// A step of the user that is served, whose blocks are in core, makes its operation on the common files and goes on with
-    /// the reply.
+    /// the reply. It stands apart, since operation and reply are large and most steps make none.
+    #[inline(never)]
     fn share<C: Backing>(&mut self, cores: &mut C, v: Service, op: CommonOp) -> Result<(), RunFault>
         requires usable { C.Usable cores.old }
         requires held { Holds (whole self.old (C.state cores.old)) }
@@ -99,7 +101,7 @@ impl State {
         requires loaded { HasBlocks v.user true (whole self.old (C.state cores.old)) }
         requires makes { IsToMake (C.state cores.old).disk_tells ((C.state cores.old).window v.user) op
             (user_at v.user self.old.sessions.items) }
-        requires room { vec_len self.old.entries + 3 ≤ vec_capacity self.old.entries }
+        requires room { vec_len self.old.entries + 4 ≤ vec_capacity self.old.entries }
         requires ran { v.ran ≤ self.old.clock }
         requires in_time { self.old.clock ≤ 100000000 }
         ensures ended { Steps (attended v) NeverCut result
@@ -122,7 +124,7 @@ impl State {
                     op,
                     reply,
                 };
-                self.count_step(v, step, Some(entry));
+                self.count_shared(v, step, entry);
                 Ok(())
             }
             Err(StepFault::Disk) => Err(RunFault::Disk),
@@ -149,7 +151,7 @@ impl State {
         ensures faults { (C.state cores.new).faults ≡ (C.state cores.old).faults }
         ensures disk { (C.state cores.old).disk_faults ≤ (C.state cores.new).disk_faults }
     {
-        if self.entries.reserve(3).is_err() {
+        if self.entries.reserve(4).is_err() {
             return Err(RunFault::NoMemory);
         }
         let session = &mut self.sessions[v.user.index()];
@@ -161,7 +163,7 @@ impl State {
             Ok(Turn::Done(step)) => {
                 let blocks = session.blocks();
                 settle(cores, v.user, step.ending, blocks);
-                self.count_step(v, step, None);
+                self.count_step(v, step);
                 Ok(())
             }
             Ok(Turn::Asks(op)) => self.share(cores, v, op),
@@ -195,6 +197,7 @@ impl State {
     }
 
     /// A service ends, since its user isn't the head of the lowest level.
+    #[inline(never)]
     fn preempt<C: Backing>(&mut self, cores: &mut C, v: Service) -> Result<(), NoMemory>
         requires usable { C.Usable cores.old }
         requires held { Holds (whole self.old (C.state cores.old)) }
@@ -303,6 +306,7 @@ impl State {
     }
 
     /// A user has waited for so long that it rises.
+    #[inline(never)]
     fn lift<C: Backing>(&mut self, cores: &mut C) -> Result<(), NoMemory>
         requires usable { C.Usable cores.old }
         requires held { Holds (whole self.old (C.state cores.old)) }

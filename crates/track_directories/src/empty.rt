@@ -66,7 +66,8 @@ impl EmptyDirectories {
         ensures same { (disk_of result).ghost_name ≡ disk.entry.ghost_name }
         ensures now { (disk_of result).now ≡ disk.old }
         ensures sound { Sound F.Medium result }
-        ensures none { HaveNone self.quotas (tells_of (F.contents disk.old)) (F.faults disk.old) (shown F.Medium result) }
+        ensures none { HaveNone self.quotas (tells_of (F.contents disk.old)) (F.faults disk.old)
+            (shown F.Medium result) }
     {
         let EmptyDirectories {
             alloc,

@@ -100,7 +100,8 @@ pub(crate) fn share_over<F: Medium>(
     op: &CommonOp,
 ) -> Result<Reply, StepFault>
     requires { IsReady (tracked F.Medium store.old) table.old }
-    ensures done { IfOk result (λ reply. IsApplied (tells_of (F.contents store.old.disk.now)) table.old.quota op.now reply
+    ensures done { IfOk result
+        (λ reply. IsApplied (tells_of (F.contents store.old.disk.now)) table.old.quota op.now reply
         (files_in (tracked F.Medium store.old) table.old) (files_in (tracked F.Medium store.new) table.new)) }
     ensures fits { IfOk result ReplyFits }
     ensures one { LeavesOne result (tracked F.Medium store.old) (tracked F.Medium store.new) table.old table.new }

@@ -155,7 +155,8 @@ pub trait Backing {
         ensures calls { (state self.new).calls ≡ (state self.old).calls }
         ensures faults { (state self.new).faults ≡ (state self.old).faults }
         ensures keeps { Keeps self.old self.new }
-        ensures cause { IsErrOf result StepFault.Disk → Rose (state self.old).disk_faults (state self.new).disk_faults };
+        ensures cause { IsErrOf result StepFault.Disk
+            → Rose (state self.old).disk_faults (state self.new).disk_faults };
 
     ghost stays: { (a : Self) → Keeps a a };
 

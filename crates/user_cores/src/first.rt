@@ -26,7 +26,8 @@ pub fn first_cores<'a, D: Medium>(
     requires limit { (u : ℕ) → quota_in slots u ≤ 128 }
     requires sizes { sizes.items ≡ replicate (length slots.quotas.items) 0 }
     requires words { AreWords bank }
-    requires serves { Serves (D.contents drum.old) (D.record_count drum.old) (D.words_each drum.old) (records_of slots) }
+    requires serves { Serves (D.contents drum.old) (D.record_count drum.old) (D.words_each drum.old)
+        (records_of slots) }
     ensures seen { (state result).drum ≡ seen D.Medium drum.entry }
     ensures drum { drum_of result ≡ drum.old }
     ensures usable { ⟦<Image<'a, D> as Cores>⟧.Usable result }

@@ -278,6 +278,7 @@ impl Session {
     }
 
     /// The first unread line: of INPUT, or a command.
+    #[inline(never)]
     #[tactic(auto, using(user_model::proofs::RowTurns::command_waits))]
     pub(crate) fn take_line<M: MemoryPort, P: FilePort>(
         &mut self,

@@ -68,7 +68,8 @@ impl Session {
         requires size { length (M.words core.now) ≡ 256 * self.old.inner.blocks }
         requires fits { self.old.own < 2 ^ 64 - 1 }
         requires within { at + count ≤ length (M.words core.now) }
-        ensures row { (fs : List FileBody) → IfOk result (λ turn. Enters (Ok (Call.CommonWrite name at count place)) turn
+        ensures row { (fs : List FileBody)
+            → IfOk result (λ turn. Enters (Ok (Call.CommonWrite name at count place)) turn
             now self.old self.new (stored (M.words core.now) fs) (stored (M.words core.now) fs)) }
         ensures account { self.new.inner.account ≡ self.old.inner.account }
         ensures err { OnErr result (self.new ≡ self.old) }

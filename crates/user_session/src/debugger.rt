@@ -312,6 +312,7 @@ impl Session {
     }
 
     /// The first unread line is taken by the debugger.
+    #[inline(never)]
     pub(crate) fn debug<M: MemoryPort, P: FilePort>(
         &mut self,
         core: &mut M,

@@ -223,7 +223,9 @@ impl Session {
         requires size { length (M.words core.now) ≡ 256 * self.old.inner.blocks }
         requires fits { self.old.own < 2 ^ 64 - 1 }
         requires time { now < 2 ^ 35 }
-        ensures row { (fs : List FileBody) → Enters (Ok Call.GetTime) result now self.old self.new (stored (M.words core.now) fs) (stored (M.words core.now) fs) }
+        ensures row { (fs : List FileBody)
+            → Enters (Ok Call.GetTime) result now self.old self.new (stored (M.words core.now) fs)
+            (stored (M.words core.now) fs) }
         ensures account { self.new.inner.account ≡ self.old.inner.account }
     {
         self.reply(0, 0, Some(now));
@@ -239,7 +241,9 @@ impl Session {
         requires on { self.old.on ≡ true }
         requires size { length (M.words core.now) ≡ 256 * self.old.inner.blocks }
         requires fits { self.old.own < 2 ^ 64 - 1 }
-        ensures row { (fs : List FileBody) → Enters (Ok Call.GetMemory) result now self.old self.new (stored (M.words core.now) fs) (stored (M.words core.now) fs) }
+        ensures row { (fs : List FileBody)
+            → Enters (Ok Call.GetMemory) result now self.old self.new (stored (M.words core.now) fs)
+            (stored (M.words core.now) fs) }
         ensures account { self.new.inner.account ≡ self.old.inner.account }
     {
         let words = 256 * u64::from(self.blocks());

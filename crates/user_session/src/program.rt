@@ -52,6 +52,7 @@ impl Session {
     }
 
     /// A program that has its core is filled.
+    #[inline(never)]
     fn fill_core<M: MemoryPort, P: FilePort>(
         &mut self,
         core: &mut M,
@@ -189,7 +190,9 @@ impl Session {
         }
     }
 
-    /// The next step of a program under the debugger: a break, or an instruction with the supervisor entry that it comes to.
+    /// The next step of a program under the debugger: a break, or an instruction with the supervisor entry that it comes to. It stands
+    /// apart, so that other programs don't pay for the room of its answers.
+    #[inline(never)]
     fn run_debugged<M: MemoryPort, P: FilePort>(
         &mut self,
         core: &mut M,

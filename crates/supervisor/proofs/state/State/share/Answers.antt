@@ -74,8 +74,8 @@ returns-in-Ok-clause-ended g c =
     let blocks : c.blocks-blocks.result ≡ blocks_of p.inner = c.blocks-blocks.ensures.value in
     let places : has.places ≡ places_after t u (blocks_of p.inner) had.places =
     c.settle.ensures.settled.places ∙ (λ j. places_after t u (blocks j) (worked.places j)) in
-    let is : seen has.places c.count_step.new.self ≡ stepped_to c.args.v p t asked (common_entry made u reply) old =
-    ap (at_places has.places) (c.count_step.ensures had.places)
+    let is : seen has.places c.count_shared.new.self ≡ stepped_to c.args.v p t asked (common_entry made u reply) old =
+    ap (at_places has.places) (c.count_shared.ensures had.places)
     ∙ (λ j. at_places (places j) (counted c.args.v t asked (common_entry made (c.number.ensures.value j) reply) (with_users old (set users (place j) p) old.system.entries)))
     ∙ stepped_is c.args.v p t asked (common_entry made u reply) old c.requires.user in
     let size : t ≡ Went → length after.core ≡ 256 * blocks_of p.inner = λ went.
@@ -92,7 +92,7 @@ returns-in-Ok-clause-ended g c =
     c.settle.ensures.settled.others x n ∙ worked.rest.others x pos n in
     let zero : has.stores 0 ≡ mid.stores 0 =
     c.settle.ensures.settled.others 0 (λ e. (let a = c.requires.user.some in omega (arith, a, e))) in
-    does_stepped c.args.v p t asked made reply old (seen has.places c.count_step.new.self) had has first last common_first common_last c.requires.user
+    does_stepped c.args.v p t asked made reply old (seen has.places c.count_shared.new.self) had has first last common_first common_last c.requires.user
     (ap not (ap (is_loaded had.places u) (sym (c.requires.held.tied.has u c.requires.user.some c.requires.user.within)) ∙ c.requires.loaded))
     says
     (applied.answer ∙ ap (λ (q : ℕ). reply_to q applied.files c.args.op) quota)
@@ -117,7 +117,7 @@ returns-in-Ok-clause-tied g c =
     let worked = c.in-Ok.ensures.worked in
     let resized : IsResized u (blocks_of p.inner) had has =
     resized_from u u c.blocks-blocks.result (blocks_of p.inner) had mid has c.settle.ensures.settled.sizes worked.sizes worked.rest.rules refl c.blocks-blocks.ensures.value in
-    let are : c.count_step.new.self.sessions.items ≡ with_user u p users = ap (λ (r : Run). r.system.users) (c.count_step.ensures had.places) ∙ counted_users c.args.v c.in-Ok.field-0.step.ending c.in-Ok.field-0.step.clock _ _ ∙ ap (λ (k : ℕ). set users k p) place in
+    let are : c.count_shared.new.self.sessions.items ≡ with_user u p users = ap (λ (r : Run). r.system.users) (c.count_shared.ensures had.places) ∙ counted_users c.args.v c.in-Ok.field-0.step.ending c.in-Ok.field-0.step.clock _ _ ∙ ap (λ (k : ℕ). set users k p) place in
     subst (λ (us : List User). IsTied us has) (sym are)
     (tied_with users u u p had has c.requires.user.some c.requires.user.within resized (inl refl)
     (c.in-Ok.ensures.account ∙ ap (λ (q : User). q.inner.account) (sym same)) c.requires.held.tied)
@@ -131,6 +131,6 @@ returns-in-Ok-clause-counted g c =
     let t : Ending = c.in-Ok.field-0.step.ending in
     let asked : Bool = c.in-Ok.field-0.step.clock in
     let worked = c.in-Ok.ensures.worked in
-    counted_none old (counted c.args.v t asked (common_entry (Some c.args.op) u c.in-Ok.field-0.reply) mid) (seen had.places c.count_step.new.self) _ _
-    (c.count_step.ensures had.places ∙ (λ j. counted c.args.v t asked (common_entry (Some c.args.op) (c.number.ensures.value j) c.in-Ok.field-0.reply) mid))
+    counted_none old (counted c.args.v t asked (common_entry (Some c.args.op) u c.in-Ok.field-0.reply) mid) (seen had.places c.count_shared.new.self) _ _
+    (c.count_shared.ensures had.places ∙ (λ j. counted c.args.v t asked (common_entry (Some c.args.op) (c.number.ensures.value j) c.in-Ok.field-0.reply) mid))
     (counted_moves c.args.v t asked (Some c.args.op) c.in-Ok.field-0.reply mid) (c.settle.ensures.calls ∙ worked.rest.calls)

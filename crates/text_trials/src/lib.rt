@@ -1,15 +1,11 @@
-//! Trials of texts: the shared types, scripts as they are read and made, reports and summaries, cards assembled as decks and
-//! as modules, streams, and the words of the command line.
+//! Trials of texts, of what no case of run_cases shows: the shared types, scripts as they are read and made, reports and
+//! summaries, cards assembled as decks and as modules, streams, and the words of the command line.
 #![tactic(auto)]
 
 #[cfg(test)]
 mod assemble;
 #[cfg(test)]
-mod base;
-#[cfg(test)]
 mod command;
-#[cfg(test)]
-mod events;
 #[cfg(test)]
 mod made;
 #[cfg(test)]

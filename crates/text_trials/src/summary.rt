@@ -1,35 +1,15 @@
 use crate::written::written;
-use ctss_types::{
-    Account, Cause, Entry, EventKind, Item, Items, Params, Record, Script, Sequence, name_word,
-};
+use ctss_types::{Cause, Entry, EventKind, Item, Record, Sequence, Transcripts};
 use report_text::Summary;
+use script_read::read_script;
 use std::alloc::Global;
 use std::test::Fail;
 
 /// A script of two accounts.
-fn script(alloc: Global) -> Result<Script, Fail> {
-    let account = Account {
-        name: name_word(b"ALFA"),
-        password: name_word(b"SESAME"),
-        blocks: 8,
-        tracks: 10,
-    };
-    Ok(Script {
-        params: Params {
-            wq: 1024,
-            quantum: 100,
-            swap: 10,
-            drum: 16,
-            disk: 40,
-            common: 5,
-            age: 0,
-        },
-        accounts: Sequence::from_vec(vec![in alloc; account; 2]?),
-        files: Sequence::new(alloc),
-        events: Sequence::new(alloc),
-        end: 400,
-    })
-}
+const SCRIPT: &[u8] = b"PARAM 1024 100 10 16 40 5\n\
+    USER 1 ALFA SESAME 8 10\n\
+    USER 2 BETA SESAME 8 10\n\
+    END 400\n";
 
 /// Four services, two of which ended with a read that found no line, a load, and entries that no sum counts.
 const ENTRIES: [Entry; 8] = [
@@ -82,24 +62,23 @@ const ENTRIES: [Entry; 8] = [
     },
 ];
 
-/// A transcript.
-fn items(alloc: Global, items: &[Item]) -> Result<Items, Fail> {
-    Ok(Sequence::from_vec(Vec::from_slice(alloc, items)?))
+/// Three items of two users.
+fn transcripts(alloc: Global) -> Result<Transcripts, Fail> {
+    let cut = Sequence::from_vec(vec![in alloc; Item::Quit, Item::Hang]?);
+    let hung = Sequence::from_vec(vec![in alloc; Item::Hang]?);
+    Ok(Sequence::from_vec(vec![in alloc; cut, hung]?))
 }
 
-/// The record of the entries, and three items of two users.
+/// The record of the entries and of the transcripts.
 fn record(alloc: Global) -> Result<Record, Fail> {
-    let mut run = Record {
+    let transcripts = transcripts(alloc)?;
+    Ok(Record {
         entries: Sequence::from_vec(Vec::from_clones(alloc, &ENTRIES)?),
-        transcripts: Sequence::new(alloc),
+        transcripts,
         files: Sequence::new(alloc),
         common: Sequence::new(alloc),
         clock: 300,
-    };
-    run.transcripts
-        .push(items(alloc, &[Item::Quit, Item::Hang])?)?;
-    run.transcripts.push(items(alloc, &[Item::Hang])?)?;
-    Ok(run)
+    })
 }
 
 const SUMMARY: &[u8] = b"LOAD 999999\n\
@@ -114,7 +93,7 @@ const SUMMARY: &[u8] = b"LOAD 999999\n\
 
 #[test]
 fn sums_up_a_short_run(rt: HostRuntime) -> Result<(), Fail> {
-    let script = script(rt.alloc())?;
+    let script = read_script(rt.alloc(), SCRIPT)?;
     let run = record(rt.alloc())?;
     let summary = Summary {
         n: 999_999,

@@ -228,6 +228,7 @@ impl Queues {
 
     /// A tick is charged to the user that is chosen. At the last tick of its time it sinks to the tail of the next row,
     /// of which 8 is the last, with that row's full time.
+    #[inline(always)]
     #[tactic(auto, unfolding(plan_model::specs::Levels::charged))]
     pub fn charge(&mut self, user: UserNo, now: u64) -> Charge
         requires chosen { user_of (chosen self.old) ≡ Some user }

@@ -155,6 +155,7 @@ impl State {
     }
 
     /// The clock, the queues and the service behind a step of the user that is served, which made no common operation.
+    #[inline(always)]
     #[tactic(auto, unfolding(system_model::specs::Joined::counted))]
     pub(crate) fn count_step(&mut self, v: Service, step: Step)
         requires room { vec_len self.old.entries + 2 ≤ vec_capacity self.old.entries }

@@ -133,6 +133,7 @@ impl State {
     }
 
     /// A step of the user that is served, whose blocks are in core; where it can't step, it waits.
+    #[inline(always)]
     fn serve<C: Backing>(&mut self, cores: &mut C, v: Service) -> Result<(), RunFault>
         requires usable { C.Usable cores.old }
         requires held { Holds (whole self.old (C.state cores.old)) }
@@ -173,6 +174,7 @@ impl State {
     }
 
     /// The user that is served: its blocks are brought in, or it steps.
+    #[inline(always)]
     fn attend<C: Backing>(&mut self, cores: &mut C, v: Service) -> Result<(), RunFault>
         requires usable { C.Usable cores.old }
         requires held { Holds (whole self.old (C.state cores.old)) }

@@ -9,6 +9,7 @@ use crate::Backing;
 use ctss_types::{Ending, UserNo};
 
 /// A user's core becomes as large as its step left it.
+#[inline(always)]
 pub fn settle<C: Backing>(cores: &mut C, user: UserNo, ending: Ending, blocks: u8)
     requires usable { C.Usable cores.old }
     requires user { user < length (C.state cores.old).held.sizes }

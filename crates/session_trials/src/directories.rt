@@ -83,6 +83,9 @@ static DIRECTORIES: [(u16, &[Row]); 4] = [
             (Act::Rename(1, 1), 0, &[], DONE),
             (Act::Write(3, 1), 0, &[1], NO_FILE),
             (Act::Write(1, 2), 0, &[1], PAST_END),
+            // A write that is refused changes no word.
+            (Act::Write(1, 2), 0, &[7], PAST_END),
+            (Act::Gets(1), 0, &[1], DONE),
             (Act::Mode(1, 4), 0, &[], BAD_MODE),
             (Act::Mode(1, 2), 0, &[], DONE),
             (Act::Put(1), 0, &[], READ_ONLY),

@@ -1,6 +1,6 @@
 -- Each change of a directory keeps its rules.
-use Rattle.std.proofs.Common.{◌≡◌, ℕ, ◌≤◌, Bool, true, false, not, ◌&&◌, nat_eq, nat_le, nat_lt, List, [], ◌∷◌, ◌++◌, length, map, filter, sum, cond}
-use Rattle.std.proofs.Common.{Option, Some, None, Ok, Err, ◌⊎◌, inl, inr, ◌+◌, refl, sym, ap, subst, ◌∙◌, arith}
+use Rattle.std.proofs.Common.{◌≡◌, ℕ, ◌≤◌, Bool, true, false, not, ◌&&◌, nat_eq, nat_le, nat_lt, List, [], ◌∷◌, length, map, filter, sum, cond}
+use Rattle.std.proofs.Common.{Option, Some, None, Ok, Err, ◌⊎◌, inl, inr, ◌+◌, refl, sym, ap, ◌∙◌, arith}
 use Rattle.std.specs.Prelude.{is_some}
 use Rattle.std.specs.declared.result.Result.{Result}
 use Rattle.std.specs.List.{All}
@@ -11,7 +11,7 @@ use Rattle.ctss_types.specs.Names.{NamePair}
 use Rattle.ctss_types.specs.declared.file.FileBody.{FileBody}
 use Rattle.ctss_types.specs.declared.file.Refusal.{Refusal}
 use Rattle.ctss_types.specs.declared.file.Refusal.TheVariants.{NoFile, ReadOnly, Quota, NameUsed, PastEnd, BadMode}
-use Rattle.file_model.specs.Files.{same_name, is_named, file_named, changed_if, with_change, with_new, tracks_of_words, tracks_of, is_read_only, if_they_fit, overwritten, written_of, written, end_of, appended, put_of, put, is_used, renamed_of, renamed, deleted_of, deleted, moded_of, moded, lasting}
+use Rattle.file_model.specs.Files.{same_name, is_named, file_named, changed_if, with_change, with_new, tracks_of_words, tracks_of, is_read_only, if_they_fit, overwritten, written_of, written, end_of, appended, put_of, put, renamed_of, renamed, deleted_of, deleted, moded_of, moded, lasting}
 use Rattle.text_model.specs.Reading.{names_differ}
 use Rattle.file_laws.specs.Rules.{KeepsRules}
 use Rattle.file_laws.proofs.Names.{fewer_differ, new_differs, changed_differ, named_to, renames_differ}

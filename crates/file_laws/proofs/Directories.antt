@@ -1,6 +1,5 @@
 -- Every directory of every record keeps its rules: each user's own files, and the common ones.
-use Rattle.std.proofs.Common.{◌≡◌, ℕ, suc, ◌-◌, ◌<◌, ◌≤◌, Bool, List, [], ◌∷◌, length, map, filter, get_or, nat_eq, refl, sym, subst, ◌∙◌, arith}
-use Rattle.std.specs.List.{All}
+use Rattle.std.proofs.Common.{◌≡◌, ℕ, suc, ◌-◌, ◌<◌, ◌≤◌, Bool, List, [], ◌∷◌, length, filter, get_or, nat_eq, refl, sym, subst, ◌∙◌, arith}
 use Rattle.std.specs.declared.result.Result.{Result}
 use Rattle.std.proofs.Common.{Ok, Err}
 use Rattle.std.proofs.lemmas.List.Elements.{All-map, All-filter}
@@ -10,7 +9,7 @@ use Rattle.ctss_types.specs.declared.file.FileBody.{FileBody}
 use Rattle.ctss_types.specs.declared.file.OwnedFile.{OwnedFile}
 use Rattle.ctss_types.specs.declared.file.Refusal.{Refusal}
 use Rattle.ctss_types.specs.declared.file.CommonOp.TheVariants as op
-use Rattle.time_sharing.specs.Machine.{Machine, Line, CutKind, Quit, Hang, Spent, End, CommonOp, Reply}
+use Rattle.time_sharing.specs.Machine.{CutKind, Quit, Hang, Spent, End, CommonOp}
 use Rattle.time_sharing.specs.Rows.{machine, line_of, own_at_command_of, one_less}
 use Rattle.time_sharing.specs.Feeds.{feed_of}
 use Rattle.time_sharing.specs.Commons.{operations_of, files_left}
@@ -22,7 +21,7 @@ use Rattle.text_model.specs.Reading.{IsInRange}
 use Rattle.user_model.specs.Session.{user_rows, asks_common_in, no_account}
 use Rattle.user_model.specs.User.{User}
 use Rattle.system_model.specs.Round.{round}
-use Rattle.system_model.specs.Record.{record_of, first_of_user, alone_of}
+use Rattle.system_model.specs.Record.{record_of, first_of_user}
 use Rattle.system_model.proofs.AloneLaws.{users_are_alone, commons_are_one}
 use Rattle.file_laws.specs.Rules.{KeepsRules}
 use Rattle.file_laws.specs.Laws.{DirectoriesKeepRules}

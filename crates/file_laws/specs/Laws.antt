@@ -12,5 +12,5 @@ abbrev pub DirectoriesKeepRules : Type 0
 DirectoriesKeepRules =
     (script : Script) → IsInRange script →
     ((u : ℕ) → 0 < u → u ≤ length script.accounts
-        → KeepsRules (quota_of u script.accounts) (get_or (record_of script).files (u - 1) []))
+    → KeepsRules (quota_of u script.accounts) (get_or (record_of script).files (u - 1) []))
     × KeepsRules script.params.common (record_of script).common

@@ -1,6 +1,6 @@
 -- A script without events is a base script: each card of an event adds one, and no card takes any away.
 use Rattle.std.proofs.Common.{◌≡◌, ℕ, suc, ◌<◌, ◌≤◌, Bool, true, false, not, ◌&&◌, nat_eq, nat_lt, nat_le, List, [], ◌∷◌, length, codes}
-use Rattle.std.proofs.Common.{◌++◌, Option, Some, None, Ok, Err, cond, refl, sym, ap, subst, arith}
+use Rattle.std.proofs.Common.{◌+◌, ◌++◌, Option, Some, None, Ok, Err, cond, refl, sym, ap, subst, arith}
 use Rattle.std.specs.Prelude.{bytes_eq}
 use Rattle.std.specs.declared.result.Result.{Result}
 use Rattle.std.specs.Option.{is_some}
@@ -13,6 +13,8 @@ use Rattle.ctss_types.specs.declared.script.Script.{Script}
 use Rattle.ctss_types.specs.declared.script.Params.{Params}
 use Rattle.ctss_types.specs.declared.script.Timed.{Timed}
 use Rattle.ctss_types.specs.declared.file.OwnedFile.{OwnedFile}
+use Rattle.file_model.specs.Files.{tracks_of}
+use Rattle.file_model.specs.Owned.{files_of}
 use Rattle.program_model.specs.Lines.{words_of_line}
 use Rattle.text_model.specs.declared.cause.ScriptCause.{ScriptCause}
 use Rattle.text_model.specs.declared.cause.ScriptCause.TheVariants.{NotACard, TimeFalls, UnknownNumber, OverLimit, DrumSmall, DiskSmall, NoEnd, TooLong}
@@ -32,10 +34,21 @@ use Rattle.text_model.specs.Reading.{script_by, script_from, script_of, max_byte
 use Rattle.script_read.specs.Bases.{is_event_card, cards_from, base_of}
 use Rattle.tomorrow_model.specs.Laws.{QuietScriptsAreBases}
 
+-- a draft has at least the events of another, if there is one
+abbrev HasThese : Draft → Result Draft ScriptCause → Type 0
+HasThese d (Ok e) = length d.events ≤ length e.events
+HasThese d (Err cause) = Unit {0}
+
 -- a card takes no events away, if it is taken
-abbrev Grows : Draft → Result Draft ScriptCause → Type 0
-Grows d (Ok e) = length d.events ≤ length e.events
-Grows d (Err cause) = Unit {0}
+record Grows (d : Draft) (said : Result Draft ScriptCause) : Type 0 where
+  taken : HasThese d said
+
+refused : (d : Draft) (cause : ScriptCause) → Grows d (Err cause)
+refused d cause = record { taken = tt }
+
+-- a card leaves the events as they are
+same_events : (d e : Draft) → e.events ≡ d.events → Grows d (Ok e)
+same_events d e same = record { taken = omega (arith, ap length same) }
 
 -- a card adds events, if it is taken
 abbrev Gains : Draft → Result Draft ScriptCause → Type 0
@@ -45,7 +58,7 @@ Gains d (Err cause) = Unit {0}
 -- a test refuses, or not
 unless : (d : Draft) (b : Bool) (cause : ScriptCause) (said : Result Draft ScriptCause) → Grows d said
     → Grows d (cond b (Err cause) said)
-unless d true cause said h = tt
+unless d true cause said h = refused d cause
 unless d false cause said h = h
 
 -- one of two
@@ -56,21 +69,21 @@ either_way d false x y one other = other
 -- what has no form adds nothing
 formed : {C : Type 0} (d : Draft) (f : C → Result Draft ScriptCause) (o : Option C) → ((c : C) → Grows d (f c))
     → Grows d (by_form f o)
-formed d f None h = tt
+formed d f None h = refused d NotACard
 formed d f (Some c) h = h c
 
 -- each kind of card
 
 params_grow : (d : Draft) (c : ParamCard) → Grows d (with_params d c)
-params_grow d c = unless d _ OverLimit _ (unless d (nat_lt c.disk c.common) DiskSmall _ (omega arith))
+params_grow d c = unless d _ OverLimit _ (unless d _ DiskSmall _ (same_events d _ refl))
 
 account_grows : (d : Draft) (p : Params) (c : UserCard) → Grows d (with_account d p c)
 account_grows d p c =
     unless d _ NotACard _ (unless d _ OverLimit _ (unless d _ UnknownNumber _
-    (unless d _ DrumSmall _ (unless d _ DiskSmall _ (omega arith)))))
+    (unless d _ DrumSmall _ (unless d _ DiskSmall _ (same_events d _ refl)))))
 
 last_grows : (d : Draft) (files : List OwnedFile) (f : OwnedFile) → Grows d (with_last d files f)
-last_grows d files f = unless d _ OverLimit _ (omega arith)
+last_grows d files f = unless d _ OverLimit _ (same_events d _ refl)
 
 file_grows : (d : Draft) (c : FileCard) → Grows d (with_file d c)
 file_grows d c =
@@ -78,15 +91,18 @@ file_grows d c =
     (last_grows d (all_files d) (empty_file c))))
 
 words_grow_of : (file : Option OwnedFile) (d : Draft) (ws : List ℕ) → Grows d (with_words_of file d ws)
-words_grow_of None d ws = tt
-words_grow_of (Some f) d ws = either_way d (nat_eq (length d.events) 0) _ _ (last_grows d d.files (longer ws f)) tt
+words_grow_of None d ws = refused d NotACard
+words_grow_of (Some f) d ws = either_way d _ _ _ (last_grows d d.files (longer ws f)) (refused d NotACard)
 
 words_grow : (d : Draft) (ws : List ℕ) → Grows d (with_words d ws)
 words_grow d ws = words_grow_of d.file d ws
 
 text_grows : (d : Draft) (t : CardText) → Grows d (with_text d t)
 text_grows d (card_text.Fits l) = words_grow d (words_of_line 14 l)
-text_grows d card_text.TooLong = either_way d (is_some d.file && nat_eq (length d.events) 0) _ _ tt tt
+text_grows d card_text.TooLong = either_way d _ _ _ (refused d OverLimit) (refused d NotACard)
+
+end_grows : (d : Draft) (tick : ℕ) → Grows d (with_end d tick)
+end_grows d tick = unless d _ OverLimit _ (unless d _ TimeFalls _ (same_events d _ refl))
 
 event_gains_at : (d : Draft) (tick console : ℕ) (x : CardEvent) → Gains d (with_event_at d tick console x)
 event_gains_at d tick console card_event.TooLong = tt
@@ -106,34 +122,30 @@ event_gains d c = event_gains_at d c.tick c.console c.event
 
 -- what adds takes none away
 gained_grows : (d : Draft) (said : Result Draft ScriptCause) → Gains d said → Grows d said
-gained_grows d (Ok e) h = omega arith
-gained_grows d (Err cause) h = tt
-
-end_grows : (d : Draft) (tick : ℕ) → Grows d (with_end d tick)
-end_grows d tick = unless d _ OverLimit _ (unless d _ TimeFalls _ (omega arith))
+gained_grows d (Ok e) h = record { taken = omega arith }
+gained_grows d (Err cause) h = refused d cause
 
 -- any card
 
 more_grows : (d : Draft) (p : Params) (word text : List ℕ) → Grows d (more_entered d p word text)
 more_grows d p word text =
-    either_way d (bytes_eq word (codes "USER")) _ _ (formed d (with_account d p) (user_card_in text) (account_grows d p))
-    (either_way d (bytes_eq word (codes "FILE")) _ _ (formed d (with_file d) (file_card_in text) (file_grows d))
-    (either_way d (bytes_eq word (codes "O")) _ _ (formed d (with_words d) (words_card_in text) (words_grow d))
-    (either_way d (bytes_eq word (codes "T")) _ _ (formed d (with_text d) (text_behind text) (text_grows d))
-    (either_way d (bytes_eq word (codes "AT")) _ _
+    either_way d _ _ _ (formed d (with_account d p) (user_card_in text) (account_grows d p))
+    (either_way d _ _ _ (formed d (with_file d) (file_card_in text) (file_grows d))
+    (either_way d _ _ _ (formed d (with_words d) (words_card_in text) (words_grow d))
+    (either_way d _ _ _ (formed d (with_text d) (text_behind text) (text_grows d))
+    (either_way d _ _ _
     (formed d (with_event d) (event_card_in text) (λ c. gained_grows d (with_event d c) (event_gains d c)))
-    (either_way d (bytes_eq word (codes "END")) _ _ (formed d (with_end d) (end_card_in text) (end_grows d)) tt)))))
+    (either_way d _ _ _ (formed d (with_end d) (end_card_in text) (end_grows d)) (refused d NotACard))))))
 
 by_params_grow : (params : Option Params) (d : Draft) (word text : List ℕ) → Grows d (entered_by params d word text)
 by_params_grow None d word text =
-    either_way d (bytes_eq word (codes "PARAM")) _ _ (formed d (with_params d) (param_card_in text) (params_grow d)) tt
+    either_way d _ _ _ (formed d (with_params d) (param_card_in text) (params_grow d)) (refused d NotACard)
 by_params_grow (Some p) d word text = more_grows d p word text
 
 card_grows : (d : Draft) (card : List ℕ) → Grows d (entered d card)
 card_grows d card =
-    either_way d (is_comment card) _ _ (omega arith)
-    (unless d (is_some d.end) NoEnd _ (unless d (is_indented card) NotACard _
-    (by_params_grow d.params d (word_in card) (behind_word card))))
+    either_way d _ _ _ (same_events d d refl)
+    (unless d _ NoEnd _ (unless d _ NotACard _ (by_params_grow d.params d (word_in card) (behind_word card))))
 
 -- a card of an event
 
@@ -196,7 +208,7 @@ script_has k d (card ∷ cards) s h =
     by_card : ((e : Draft) → script_from (suc k) e cards ≡ Ok s → length e.events ≤ length s.events)
         → (said : Result Draft ScriptCause) → Grows d said → behind said k cards ≡ Ok s
         → length d.events ≤ length s.events
-    by_card rest (Ok e) grows is = omega (arith, rest e is)
+    by_card rest (Ok e) grows is = omega (arith, rest e is, grows.taken)
     by_card rest (Err cause) grows is = cc
 
 -- cards that make a script without events make it as a base

@@ -16,6 +16,7 @@ use Rattle.text_model.specs.Reading.{names_differ}
 use Rattle.file_laws.specs.Rules.{KeepsRules}
 use Rattle.file_laws.proofs.Names.{fewer_differ, new_differs, changed_differ, named_to, renames_differ}
 
+-- a mode that a file may have
 abbrev HasMode : FileBody → Type 0
 HasMode f = f.mode ≤ 3
 
@@ -48,6 +49,7 @@ fewer_cost q (f ∷ fs) = by_test (q f) (fewer_cost q fs)
     by_test true rest = omega (arith, first (filter q fs), first fs)
     by_test false rest = omega (arith, first fs)
 
+-- fewer files keep the rules
 pub fewer_keep : (quota : ℕ) (q : FileBody → Bool) (files : List FileBody) → KeepsRules quota files
     → KeepsRules quota (filter q files)
 fewer_keep quota q files h =
@@ -72,6 +74,7 @@ they_fit quota files modes differ = by_test (nat_le (tracks_of files) quota) ref
     by_test true e = record { modes = modes; differ = differ; tracks = leb-true (tracks_of files) quota e }
     by_test false e = tt
 
+-- a new file that fits keeps them
 new_fits : (quota : ℕ) (name : NamePair) (words : List ℕ) (files : List FileBody) → file_named name files ≡ None
     → KeepsRules quota files → Gives quota (if_they_fit quota (with_new name words files))
 new_fits quota name words files none h =
@@ -97,6 +100,7 @@ modes_behind name change files k all =
 abbrev worded : (List ℕ → List ℕ) → FileBody → FileBody
 worded words f = record f { words = words f.words }
 
+-- other words that fit keep them
 words_fit : (quota : ℕ) (name : NamePair) (words : List ℕ → List ℕ) (files : List FileBody) → KeepsRules quota files
     → Gives quota (if_they_fit quota (with_change name (worded words) files))
 words_fit quota name words files h =
@@ -110,6 +114,7 @@ unless : (quota : ℕ) (b : Bool) (r : Refusal) (made : Result (List FileBody) R
 unless quota true r made h = tt
 unless quota false r made h = h
 
+-- a write keeps them
 pub written_keeps : (name : NamePair) (place : ℕ) (words : List ℕ) (quota : ℕ) (files : List FileBody)
     → KeepsRules quota files → Gives quota (written name place words quota files)
 written_keeps name place words quota files h = by_file (file_named name files) refl
@@ -127,10 +132,12 @@ written_keeps name place words quota files h = by_file (file_named name files) r
         (unless quota (nat_lt (length f.words) place) PastEnd _
         (words_fit quota name (overwritten place words) files h))
 
+-- so does a write at the end
 pub appended_keeps : (name : NamePair) (words : List ℕ) (quota : ℕ) (files : List FileBody) → KeepsRules quota files
     → Gives quota (appended name words quota files)
 appended_keeps name words quota files h = written_keeps name (end_of (file_named name files)) words quota files h
 
+-- and a whole content put
 pub put_keeps : (name : NamePair) (words : List ℕ) (quota : ℕ) (files : List FileBody) → KeepsRules quota files
     → Gives quota (put name words quota files)
 put_keeps name words quota files h = by_file (file_named name files) refl
@@ -170,6 +177,7 @@ change_keeps quota name change files words modes differ h =
       tracks = omega (arith, tracks_stay name change files words, h.tracks);
     }
 
+-- a rename keeps the rules
 pub renamed_keeps : (name to : NamePair) (quota : ℕ) (files : List FileBody) → KeepsRules quota files
     → Gives quota (renamed name to files)
 renamed_keeps name to quota files h = by_file (file_named name files)
@@ -191,6 +199,7 @@ renamed_keeps name to quota files h = by_file (file_named name files)
     by_file (Some f) =
         unless quota (is_read_only f) ReadOnly _ (by_tests (same_name name to) (file_named to files) refl refl)
 
+-- a deletion keeps the rules
 pub deleted_keeps : (name : NamePair) (quota : ℕ) (files : List FileBody) → KeepsRules quota files
     → Gives quota (deleted name files)
 deleted_keeps name quota files h = by_file (file_named name files)
@@ -204,6 +213,7 @@ deleted_keeps name quota files h = by_file (file_named name files)
 abbrev of_mode : ℕ → FileBody → FileBody
 of_mode mode f = record f { mode = mode }
 
+-- another mode keeps the rules
 pub moded_keeps : (name : NamePair) (mode quota : ℕ) (files : List FileBody) → KeepsRules quota files
     → Gives quota (moded name mode files)
 moded_keeps name mode quota files h = by_file (file_named name files)

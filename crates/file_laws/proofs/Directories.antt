@@ -1,7 +1,6 @@
 -- Every directory of every record keeps its rules: each user's own files, and the common ones.
-use Rattle.std.proofs.Common.{◌≡◌, ℕ, suc, ◌-◌, ◌<◌, ◌≤◌, Bool, List, [], ◌∷◌, length, filter, get_or, nat_eq, refl, sym, subst, ◌∙◌, arith}
+use Rattle.std.proofs.Common.{◌≡◌, ℕ, suc, ◌-◌, ◌<◌, ◌≤◌, Bool, List, [], ◌∷◌, length, filter, get_or, nat_eq, Ok, Err, refl, sym, subst, ◌∙◌, arith}
 use Rattle.std.specs.declared.result.Result.{Result}
-use Rattle.std.proofs.Common.{Ok, Err}
 use Rattle.std.proofs.lemmas.List.Elements.{All-map, All-filter}
 use Rattle.ctss_types.specs.declared.script.Script.{Script}
 use Rattle.ctss_types.specs.declared.script.Account.{Account}
@@ -115,6 +114,7 @@ operations_keep swap common accounts [] files h = h
 operations_keep swap common accounts (o ∷ os) files h =
     operations_keep swap common accounts os (files_after common files o) (operation_keeps common files o h)
 
+-- all directories of a record
 pub directories_keep_rules : DirectoriesKeepRules
 directories_keep_rules script range = (
   left_keeps script range,

@@ -29,6 +29,7 @@ module _ {S : Type 0} (m : Machine S) (P : S → Type 0) (each : EachKeeps m P) 
       by_next rest None is = h
       by_next rest (Some e) is = rest e (next_keeps s e is h)
 
+  -- steps up to a number of own ones
   run_keeps : (k : ℕ) (s : Alone S) → P s.state → P (run m k s).state
   run_keeps k s h = steps_keep (k - m.own s.state) s h
 
@@ -43,6 +44,7 @@ module _ {S : Type 0} (m : Machine S) (P : S → Type 0) (each : EachKeeps m P) 
   items_keep [] s h = h
   items_keep (item ∷ items) s h = items_keep items (after m s item) (after_keeps s item h)
 
+  -- where the machine alone comes to
   pub alone_keeps : (first : S) (feed : Feed) → P first → P (alone m first feed).state
   alone_keeps first feed h =
       items_keep feed.items (record { state = first; clocks = feed.clocks; replies = feed.replies }) h

@@ -156,6 +156,7 @@ abbrev pub named_to : NamePair → FileBody → FileBody
 named_to to f = record f { name = to }
 
 module _ (name to : NamePair) where
+  -- a file behind the rename
   abbrev renames : FileBody → FileBody
   renames f = changed_if name (named_to to) f
 

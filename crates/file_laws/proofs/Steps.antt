@@ -69,19 +69,23 @@ either_way false i x y one other = other
 
 -- a program's steps
 
+-- what a file is told to be
 told_keeps : (i : Inner) (told : Result Stat Refusal) → Keeps i (file_told i told)
 told_keeps i (Ok s) = (refl, λ h. h)
 told_keeps i (Err r) = (refl, λ h. h)
 
+-- a file's words read
 read_keeps : (i : Inner) (at : ℕ) (told : Result (List ℕ) Refusal) → Keeps i (file_read i at told)
 read_keeps i at (Ok words) = (refl, λ h. h)
 read_keeps i at (Err r) = (refl, λ h. h)
 
+-- a call that changes the directory
 files_keep : (i : Inner) (arguments : ℕ) (told : Result (List FileBody) Refusal) → Told i told
     → Keeps i (files_changed i arguments told)
 files_keep i arguments (Ok files) k = (refl, k)
 files_keep i arguments (Err r) k = (refl, λ h. h)
 
+-- a call that makes no common operation
 call_keeps : (c : Call) (i : Inner) (l : Option Line) (n t : ℕ) → Keeps i (call_row c i l n t)
 call_keeps (ReadLine at count) i None n t = either_way (is_line_count count) i _ _ (refl, λ h. h) (refl, λ h. h)
 call_keeps (ReadLine at count) i (Some l) n t = either_way (is_line_count count) i _ _ (refl, λ h. h) (refl, λ h. h)
@@ -109,11 +113,13 @@ call_keeps (CommonDelete name) i l n t = (refl, λ h. h)
 call_keeps EndsDead i l n t = (refl, λ h. h)
 call_keeps EndsDormant i l n t = (refl, λ h. h)
 
+-- an entry of the supervisor
 entry_keeps : (call : Result Call EntryFault) (i : Inner) (l : Option Line) (n t : ℕ) → Keeps i (entry_row call i l n t)
 entry_keeps (Ok call) i l n t = call_keeps call i l n t
 entry_keeps (Err NoSuchEntry) i l n t = (refl, λ h. h)
 entry_keeps (Err (Outside a)) i l n t = (refl, λ h. h)
 
+-- a step of the machine
 step_keeps : (s : Step) (i : Inner) (l : Option Line) (n t : ℕ) → Keeps i (step_row s i l n t)
 step_keeps (went r core) i l n t = (refl, λ h. h)
 step_keeps (halt r core) i l n t = (refl, λ h. h)
@@ -121,20 +127,24 @@ step_keeps (entry w) i l n t = entry_keeps (call_of i.regs i.core w) i l n t
 step_keeps illegal i l n t = (refl, λ h. h)
 step_keeps (outside a) i l n t = (refl, λ h. h)
 
+-- a break, or a step of the machine
 run_keeps : (b : Bool) (s : Step) (i : Inner) (l : Option Line) (n t : ℕ) → Keeps i (run_row b s i l n t)
 run_keeps true s i l n t = (refl, λ h. h)
 run_keeps false s i l n t = step_keeps s i l n t
 
+-- a step of a program that works
 program_keeps : (f : Option Fill) (i : Inner) (l : Option Line) (n t : ℕ) → Keeps i (program_row f i l n t)
 program_keeps (Some f) i l n t = (refl, λ h. h)
 program_keeps None i l n t = run_keeps (at_break i) (step_of i.regs i.core) i l n t
 
 -- commands, and lines of INPUT
 
+-- a program that is loaded
 load_keeps : (name : ℕ) (deck : Result Deck LoadFault) (i : Inner) (n t : ℕ) → Keeps i (prepared name deck i n t)
 load_keeps name (Ok d) i n t = (refl, λ h. h)
 load_keeps name (Err fault) i n t = (refl, λ h. h)
 
+-- a command that changes the directory
 change_keeps : (told : Result (List FileBody) Refusal) (i : Inner) (n t : ℕ) → Told i told
     → Keeps i (changed told i n t)
 change_keeps (Ok files) i n t k = (refl, k)
@@ -146,42 +156,51 @@ put_row_keeps : (name : NamePair) (words : List ℕ) (i : Inner) (n t : ℕ)
 put_row_keeps name words i n t =
     change_keeps (put name words i.account.tracks i.files) i n t (put_keeps name words i.account.tracks i.files)
 
+-- the file of INPUT is made
 made_keeps : (name : NamePair) (told : Result (List FileBody) Refusal) (i : Inner) (n t : ℕ) → Told i told
     → Keeps i (input_made name told i n t)
 made_keeps name (Ok files) i n t k = (refl, k)
 made_keeps name (Err r) i n t k = (refl, λ h. h)
 
+-- INPUT begins
 begun_keeps : (name : NamePair) (file : Option FileBody) (i : Inner) (n t : ℕ) → Keeps i (input_begun name file i n t)
 begun_keeps name None i n t =
     made_keeps name (put name [] i.account.tracks i.files) i n t (put_keeps name [] i.account.tracks i.files)
 begun_keeps name (Some f) i n t = (refl, λ h. h)
 
+-- a line goes behind the file of INPUT
 entered_keeps : (told : Result (List FileBody) Refusal) (i : Inner) (n : ℕ) → Told i told
     → Keeps i (line_entered told i n)
 entered_keeps (Ok files) i n k = (refl, k)
 entered_keeps (Err r) i n k = (refl, λ h. h)
 
+-- a line of INPUT
 input_keeps : (name : NamePair) (l : Line) (i : Inner) (n : ℕ) → Keeps i (input_row name l i n)
 input_keeps name l i n =
     either_way (nat_eq (length l) 0) i _ _ (refl, λ h. h)
     (entered_keeps (appended name (words_of_line 14 l) i.account.tracks i.files) i n
     (appended_keeps name (words_of_line 14 l) i.account.tracks i.files))
 
+-- a saved program is taken up
 resumed_keeps : (name : ℕ) (blocks : Result ℕ LoadFault) (i : Inner) (n t : ℕ) → Keeps i (resumed name blocks i n t)
 resumed_keeps name (Ok blocks) i n t = (refl, λ h. h)
 resumed_keeps name (Err fault) i n t = (refl, λ h. h)
 
+-- what asks for a program that stopped
 dormant_keeps : (o : Outcome Inner) (i : Inner) (n t : ℕ) → Keeps i o → Keeps i (if_dormant o i n t)
 dormant_keeps o i n t h = either_way (is_dormant i.state) i _ _ h (refl, λ k. k)
 
+-- a deck is put, or its faults are told
 assembly_keeps : (name : ℕ) (a : Assembled) (i : Inner) (n t : ℕ) → Keeps i (assembly_put name a i n t)
 assembly_keeps name (deck words) i n t = put_row_keeps (deck_name name) words i n t
 assembly_keeps name (faulty faults) i n t = (refl, λ h. h)
 
+-- a module is put, or its faults are told
 module_keeps : (name : ℕ) (m : ModuleMade) (i : Inner) (n t : ℕ) → Keeps i (module_put name m i n t)
 module_keeps name (modules.relocatable m) i n t = put_row_keeps (module_name name) (module_words m) i n t
 module_keeps name (modules.faulty faults) i n t = (refl, λ h. h)
 
+-- cards are assembled
 cards_keep : (name : ℕ) (file : Result (List ℕ) Refusal) (i : Inner) (n t : ℕ)
     → Keeps i (cards_assembled name file i n t)
 cards_keep name (Ok words) i n t =
@@ -189,21 +208,25 @@ cards_keep name (Ok words) i n t =
     (assembly_keeps name (assembled (cards_of words)) i n t)
 cards_keep name (Err r) i n t = (refl, λ h. h)
 
+-- the deck of linked modules is put
 linked_keeps : (name : ℕ) (told : Result (List ℕ) LinkRefusal) (i : Inner) (n t : ℕ)
     → Keeps i (linked_put name told i n t)
 linked_keeps name (Ok words) i n t = put_row_keeps (deck_name name) words i n t
 linked_keeps name (Err refusal) i n t = (refl, λ h. h)
 
+-- lines of a command file are added
 added_keeps : (told : Result (List Line) ComRefusal) (i : Inner) (n t : ℕ) → Keeps i (lines_added told i n t)
 added_keeps (Ok lines) i n t = (refl, λ h. h)
 added_keeps (Err refusal) i n t = (refl, λ h. h)
 
+-- a command file is run
 run_file_keeps : (told : Result (List ℕ) Refusal) (i : Inner) (x : CommandLine) (n t : ℕ)
     → Keeps i (file_run told i x n t)
 run_file_keeps (Ok words) i x n t =
     added_keeps (command_lines words (drop 2 (words_of x.line)) (256 - x.fed)) i n t
 run_file_keeps (Err r) i x n t = (refl, λ h. h)
 
+-- a command that makes no common operation
 command_keeps : (c : Command) (i : Inner) (x : CommandLine) (n t : ℕ) → Keeps i (command_row c i x n t)
 command_keeps Empty i x n t = (refl, λ h. h)
 command_keeps Logout i x n t = (refl, lasting_keep i.account.tracks i.files)
@@ -235,9 +258,11 @@ command_keeps Unknown i x n t = (refl, λ h. h)
 
 -- lines of the debugger
 
+-- what is done at a place of the program
 inside_keeps : (a : ℕ) (done i : Inner) → KeepsFiles i done → Keeps i (if_inside a done i)
 inside_keeps a done i h = either_way (nat_lt a (length i.core)) i _ _ h (refl, λ k. k)
 
+-- a line of the debugger
 debug_keeps : (s : Stops) (line : DebugLine) (i : Inner) (n : ℕ) → Keeps i (debug_row s line i n)
 debug_keeps s (Break a) i n =
     either_way (is_full s.breaks a) i _ _ (refl, λ h. h)
@@ -252,12 +277,14 @@ debug_keeps s Bad i n = (refl, λ h. h)
 
 -- any step that makes no common operation
 
+-- a line that no program takes
 line_keeps : (debugger : Option Stops) (input : Option NamePair) (l : Line) (i : Inner) (n k t : ℕ)
     → Keeps i (line_row debugger input l i n k t)
 line_keeps (Some s) input l i n k t = debug_keeps s (debug_of l) i n
 line_keeps None None l i n k t = command_keeps (command_of l) i (record { line = l; fed = k }) n t
 line_keeps None (Some name) l i n k t = input_keeps name l i n
 
+-- a step, whatever takes it
 act_keeps : (s : ProgramState) (i : Inner) (l : Option Line) (n k t : ℕ) → Keeps i (act_in s i l n k t)
 act_keeps Dead i None n k t = (refl, λ h. h)
 act_keeps Dead i (Some l) n k t = line_keeps i.debugger i.input l i n k t
@@ -267,12 +294,14 @@ act_keeps Working i l n k t = program_keeps i.fill i l n t
 
 -- steps with a reply
 
+-- a call takes its reply
 reply_keeps : (i : Inner) (arguments at : ℕ) (r : Reply) → Keeps i (reply_taken i arguments at r)
 reply_keeps i arguments at reply.Done = (refl, λ h. h)
 reply_keeps i arguments at (reply.Size n) = (refl, λ h. h)
 reply_keeps i arguments at (reply.Words words) = (refl, λ h. h)
 reply_keeps i arguments at (reply.Refused r) = (refl, λ h. h)
 
+-- a call that made a common operation
 call_replied_keeps : (c : Call) (i : Inner) (r : Reply) → Keeps i (call_replied c i r)
 call_replied_keeps (CommonStat name) i r = reply_keeps i 1 0 r
 call_replied_keeps (CommonRead name at count place) i r = reply_keeps i 3 at r
@@ -280,10 +309,12 @@ call_replied_keeps (CommonWrite name at count place) i r = reply_keeps i 3 at r
 call_replied_keeps (CommonDelete name) i r = reply_keeps i 1 0 r
 call_replied_keeps _ i r = (refl, λ h. h)
 
+-- an entry that made one
 entry_replied_keeps : (call : Result Call EntryFault) (i : Inner) (r : Reply) → Keeps i (entry_replied call i r)
 entry_replied_keeps (Ok call) i r = call_replied_keeps call i r
 entry_replied_keeps (Err fault) i r = (refl, λ h. h)
 
+-- a step of the machine that made one
 step_replied_keeps : (s : Step) (i : Inner) (r : Reply) → Keeps i (step_replied s i r)
 step_replied_keeps (went regs core) i r = (refl, λ h. h)
 step_replied_keeps (halt regs core) i r = (refl, λ h. h)
@@ -291,24 +322,29 @@ step_replied_keeps (entry w) i r = entry_replied_keeps (call_of i.regs i.core w)
 step_replied_keeps illegal i r = (refl, λ h. h)
 step_replied_keeps (outside a) i r = (refl, λ h. h)
 
+-- a step of a program that made one
 program_replied_keeps : (f : Option Fill) (i : Inner) (r : Reply) → Keeps i (program_replied f i r)
 program_replied_keeps (Some f) i r = (refl, λ h. h)
 program_replied_keeps None i r = step_replied_keeps (step_of i.regs i.core) i r
 
+-- words of a common file are put
 copied_keeps : (name : Option NamePair) (words : List ℕ) (i : Inner) (n t : ℕ) → Keeps i (words_copied name words i n t)
 copied_keeps (Some name) words i n t = put_row_keeps name words i n t
 copied_keeps None words i n t = (refl, λ h. h)
 
+-- a command that made one
 command_replied_keeps : (c : Command) (i : Inner) (n t : ℕ) (r : Reply) → Keeps i (command_replied c i n t r)
 command_replied_keeps c i n t reply.Done = (refl, λ h. h)
 command_replied_keeps c i n t (reply.Size k) = (refl, λ h. h)
 command_replied_keeps c i n t (reply.Words words) = copied_keeps (copy_target c) words i n t
 command_replied_keeps c i n t (reply.Refused r) = (refl, λ h. h)
 
+-- a line that made one
 line_replied_keeps : (i : Inner) (l : Option Line) (n t : ℕ) (r : Reply) → Keeps i (line_replied i l n t r)
 line_replied_keeps i None n t r = (refl, λ h. h)
 line_replied_keeps i (Some l) n t r = command_replied_keeps (command_of l) i n t r
 
+-- any step that made one
 replied_keeps : (s : ProgramState) (i : Inner) (l : Option Line) (n t : ℕ) (r : Reply)
     → Keeps i (replied_in s i l n t r)
 replied_keeps Dead i l n t r = line_replied_keeps i l n t r
@@ -317,11 +353,13 @@ replied_keeps Working i l n t r = program_replied_keeps i.fill i r
 
 -- any step, and any cut
 
+-- any step
 pub any_step_keeps : (made : Option CommonOp) (i : Inner) (l : Option Line) (n k t : ℕ) (r : Reply)
     → Keeps i (act_by made i l n k t r)
 any_step_keeps None i l n k t r = act_keeps i.state i l n k t
 any_step_keeps (Some op) i l n k t r = replied_keeps i.state i l n t r
 
+-- any cut
 pub cut_keeps : (kind : CutKind) (i : Inner) → KeepsFiles i (inner_cut kind i)
 cut_keeps Quit i = (refl, λ h. h)
 cut_keeps Hang i = (refl, lasting_keep i.account.tracks i.files)

@@ -1,5 +1,5 @@
 -- The base of the next session is lawful.
-use Rattle.std.proofs.Common.{◌≡◌, ℕ, suc, ◌+◌, ◌-◌, ◌<◌, ◌≤◌, ◌^◌, Bool, true, not, ◌&&◌, nat_eq, nat_lt, List, [], length, map, filter, get_or}
+use Rattle.std.proofs.Common.{◌≡◌, ℕ, ◌+◌, ◌-◌, ◌<◌, ◌≤◌, ◌^◌, true, not, ◌&&◌, nat_eq, nat_lt, List, [], length, filter, get_or}
 use Rattle.std.proofs.Common.{refl, sym, subst, arith}
 use Rattle.std.specs.List.{All, list_all}
 use Rattle.std.proofs.lemmas.Bool.{and_parts, eqb-true, ltb-true}
@@ -10,7 +10,6 @@ use Rattle.ctss_types.specs.declared.script.Script.{Script}
 use Rattle.ctss_types.specs.declared.script.Timed.{Timed}
 use Rattle.ctss_types.specs.declared.file.FileBody.{FileBody}
 use Rattle.ctss_types.specs.declared.file.OwnedFile.{OwnedFile}
-use Rattle.ctss_types.specs.declared.history.Record.{Record}
 use Rattle.ctss_types.proofs.NameText.{name_length}
 use Rattle.file_model.specs.Owned.{files_of}
 use Rattle.text_model.specs.Drafts.{quota_of}
@@ -68,6 +67,7 @@ module _ (script : Script) (lawful : IsLawful script) (holds : HoldsWords (recor
   abbrev left : List (List FileBody)
   left = (record_of script).files
 
+  -- as many users as accounts
   abbrev users : ℕ
   users = length script.accounts
 
@@ -123,6 +123,7 @@ module _ (script : Script) (lawful : IsLawful script) (holds : HoldsWords (recor
         ticks = omega arith;
       }
 
+-- the whole base
 pub next_bases_are_lawful : NextBasesAreLawful
 next_bases_are_lawful script lawful holds =
     record {

@@ -8,6 +8,7 @@ use Rattle.tomorrow_model.specs.Laws.{NextBasesAreRead}
 use Rattle.tomorrow_model.proofs.Bases.{next_bases_are_lawful}
 use Rattle.tomorrow_model.proofs.Quiet.{quiet_scripts_are_bases}
 
+-- a base that is lawful and has no events
 pub next_bases_are_read : NextBasesAreRead
 next_bases_are_read script lawful holds short =
     let base = next_base script (record_of script) in

@@ -6,6 +6,8 @@
 
 mod command;
 mod named;
+mod program;
 mod words;
 
+pub use program::program_words;
 pub use words::ArgList;

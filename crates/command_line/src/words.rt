@@ -46,6 +46,13 @@ impl ArgList {
         Ok(())
     }
 
+    /// The words, in order.
+    pub fn words(&self) -> &[String]
+        ensures { map string_bytes result.now ≡ self.now }
+    {
+        self.words.as_slice()
+    }
+
     /// What the words ask for, if they are lawful. It may want memory.
     pub fn mode(&self) -> Result<Option<Mode>, NoMemory>
         ensures { IfOk result (λ mode. mode ≡ mode_of self.now) }

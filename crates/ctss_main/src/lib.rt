@@ -4,38 +4,17 @@
 
 mod program;
 
+use command_line::program_words;
 use console_link::MioLink;
-use ctss_io::{NoMemory, StdSink, StdSource};
-use ctss_top::ArgList;
+use ctss_io::{StdSink, StdSource};
 use outcome_text::explain;
 pub use program::run_program;
-use std::io::ErrorKind;
-use std::{env, io};
-
-/// The words behind the program's own name. Where one is no text there are none, which is refused.
-fn words(rt: &HostRuntime) -> Result<ArgList, NoMemory> {
-    let mut words = ArgList::new(rt.alloc());
-    match env::args(rt) {
-        Ok(all) => {
-            for word in all.skip(1) {
-                words.add(word.as_str())?;
-            }
-            Ok(words)
-        }
-        Err(fault) => {
-            if fault.kind() == ErrorKind::OutOfMemory {
-                Err(NoMemory)
-            } else {
-                Ok(words)
-            }
-        }
-    }
-}
+use std::io;
 
 /// Does what the words of the command line ask for, and answers the status. What a status that is not 0 means is said on standard error.
 pub fn run(rt: &HostRuntime) -> u8 {
     let mut errors = StdSink::new(rt.stderr());
-    let Ok(words) = words(rt) else {
+    let Ok(words) = program_words(rt) else {
         explain(&mut errors, 8, 0, 0);
         return 8;
     };

@@ -21,6 +21,10 @@ use Rattle.ctss_modes.specs.Devices.{InputSeen, DevicesSeen}
 abbrev pub ModeAsked : Type 0
 ModeAsked = Mode
 
+-- the bytes that are made of a script and its record
+abbrev pub TextOfRun : Type 0
+TextOfRun = Script → Record → List ℕ
+
 -- whether a script is run
 abbrev pub runs_script : Mode → Bool
 runs_script Replay = true

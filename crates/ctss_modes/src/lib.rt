@@ -11,5 +11,7 @@ mod record;
 mod write;
 
 pub use answer::run_mode;
+pub use modes::{RunText, perform};
 pub use outcome::Outcome;
 pub use record::{ScriptRun, record_script, run_script};
+pub use write::{end_unread, refuse_script, refuse_words};

@@ -82,7 +82,7 @@ fn host<K: Sink, D: Medium, F: Medium, L: Link>(
                 events,
                 end: 1000 * u64::from(turns),
             };
-            write_run(alloc, Mode::Serve { port, turns }, &live, record, sink)
+            write_run(alloc, &Mode::Serve { port, turns }, &live, record, sink)
         }
         Ok(Served::DrumFailed(run)) => Outcome::failed(5, run),
         Ok(Served::DiskFailed(run)) => Outcome::failed(6, run),

@@ -15,7 +15,7 @@ ghost use Rattle.live_run.specs.Media.{media_seen};
 ghost use Rattle.console_link.specs.Links.{LinkSeen};
 ghost use Rattle.ctss_modes.specs.Outcomes.{bare, IsOneOf};
 ghost use Rattle.ctss_modes.specs.Played.{IsDone, IsCut, IsLost, HasSpent};
-ghost use Rattle.ctss_modes.specs.Modes.{runs_script, replays, text_for};
+ghost use Rattle.ctss_modes.specs.Modes.{TextOfRun, replays, text_for};
 ghost use Rattle.ctss_modes.specs.Devices.{InputSeen, output_seen, devices, seen};
 ghost use Rattle.ctss_modes.specs.Top.{IsRun, RunIsStopped, RunLosesFiles, ScriptIsRefused, HasCause, IsCutOff, IsSilent, SpendsFor, statuses_for};
 
@@ -33,21 +33,39 @@ use std::alloc::Global;
 use text_model::Mode;
 use text_writer::{Text, TextFault, TextWriter, write_text};
 
-/// The text of a script's run, in a mode that runs one: that of live consoles begins with the script.
-#[derive(Clone, Copy)]
-struct RunText<'a> {
-    mode: Mode,
+/// A text of a script's run, which goes out piece by piece.
+pub trait RunText {
+    /// Its bytes, of this script and this record.
+    ghost bytes: { Self → TextOfRun };
+
+    /// Adds it.
+    fn add_to<K: Sink>(&self, script: &Script, run: &Record, out: &mut TextWriter<'_, K>)
+        ensures { Adds K.Sink (bytes self.now script.now run.now) out.old out.new };
+}
+
+/// In a mode that runs a script, the text of the run; that of live consoles begins with the script.
+impl RunText for Mode {
+    ghost use Rattle.ctss_modes.specs.Modes.{text_for};
+
+    ghost bytes = { λ mode. text_for mode };
+
+    fn add_to<K: Sink>(&self, script: &Script, run: &Record, out: &mut TextWriter<'_, K>) {
+        add_run(out, *self, script, run);
+    }
+}
+
+/// The text of one run.
+struct Shown<'a, T: RunText> {
+    text: &'a T,
     script: &'a Script,
     run: &'a Record,
 }
 
-impl Text for RunText<'_> {
-    ghost use Rattle.ctss_modes.specs.Modes.{text_for};
-
-    ghost bytes = { λ t. text_for t.mode t.script.now t.run.now };
+impl<T: RunText> Text for Shown<'_, T> {
+    ghost bytes = { λ s. T.bytes s.text.now s.script.now s.run.now };
 
     fn add_to<K: Sink>(&self, out: &mut TextWriter<'_, K>) {
-        add_run(out, self.mode, self.script, self.run);
+        self.text.add_to(self.script, self.run, out);
     }
 }
 
@@ -80,26 +98,25 @@ fn add_run<K: Sink>(out: &mut TextWriter<'_, K>, mode: Mode, script: &Script, ru
 }
 
 /// The text of a run is written.
-pub(crate) fn write_run<K: Sink>(
+pub(crate) fn write_run<T: RunText, K: Sink>(
     alloc: Global,
-    mode: Mode,
+    text: &T,
     script: &Script,
     run: Record,
     sink: &mut K,
 ) -> Outcome
-    requires { runs_script mode ≡ true }
     ensures status { IsOneOf result.status (0 ∷ 4 ∷ 8 ∷ []) }
     ensures run { result.status ≢ 8 → result.run ≡ run }
     ensures numbers { (result.card ≡ 0) × (result.cause ≡ 0) }
-    ensures text { result.status ≡ 0 → K.held sink.new ≡ after (K.held sink.old) (text_for mode script.now result.run) }
+    ensures text { result.status ≡ 0 → K.held sink.new ≡ after (K.held sink.old) (T.bytes text.now script.now result.run) }
     ensures part { result.status ≡ 4
-        → GrewByProperPrefix (K.held sink.old) (text_for mode script.now result.run) (K.held sink.new) }
+        → GrewByProperPrefix (K.held sink.old) (T.bytes text.now script.now result.run) (K.held sink.new) }
     ensures cause { result.status ≡ 4 → Rose (K.faults sink.old) (K.faults sink.new) }
     ensures memory { result.status ≡ 8 → result ≡ bare 8 0 0 }
     ensures silent { result.status ≡ 8 → K.held sink.new ≡ K.held sink.old }
 {
-    let text = RunText {
-        mode,
+    let text = Shown {
+        text,
         script,
         run: &run,
     };
@@ -121,15 +138,14 @@ pub(crate) fn write_run<K: Sink>(
 }
 
 /// A script is run over drum and disk, and the text of its run is written.
-fn perform<K: Sink, D: Medium, F: Medium>(
+pub fn perform<T: RunText, K: Sink, D: Medium, F: Medium>(
     alloc: Global,
-    mode: Mode,
+    text: &T,
     script: &Script,
     sink: &mut K,
     drum: &mut D,
     disk: &mut F,
 ) -> Outcome
-    requires mode { runs_script mode ≡ true }
     requires lawful { IsLawful script.now }
     requires drum { Serves (D.contents drum.old) (D.record_count drum.old) (D.words_each drum.old) 3840 }
     requires disk { Holds (F.contents disk.old) (F.record_count disk.old) (F.words_each disk.old) 10000 }
@@ -141,9 +157,9 @@ fn perform<K: Sink, D: Medium, F: Medium>(
     ensures lost { result.status ≡ 6 → IsLost script.now
         (media_seen D.Medium F.Medium drum.old disk.old) (media_seen D.Medium F.Medium drum.new disk.new) result.run }
     ensures numbers { (result.card ≡ 0) × (result.cause ≡ 0) }
-    ensures text { result.status ≡ 0 → K.held sink.new ≡ after (K.held sink.old) (text_for mode script.now result.run) }
+    ensures text { result.status ≡ 0 → K.held sink.new ≡ after (K.held sink.old) (T.bytes text.now script.now result.run) }
     ensures part { result.status ≡ 4
-        → GrewByProperPrefix (K.held sink.old) (text_for mode script.now result.run) (K.held sink.new) }
+        → GrewByProperPrefix (K.held sink.old) (T.bytes text.now script.now result.run) (K.held sink.new) }
     ensures cause { result.status ≡ 4 → Rose (K.faults sink.old) (K.faults sink.new) }
     ensures memory { result.status ≡ 8 → result ≡ bare 8 0 0 }
     ensures spent { result.status ≡ 8 → HasSpent script.now
@@ -151,7 +167,7 @@ fn perform<K: Sink, D: Medium, F: Medium>(
     ensures silent { IsOneOf result.status (5 ∷ 6 ∷ 8 ∷ []) → K.held sink.new ≡ K.held sink.old }
 {
     match record_script(alloc, script, drum, disk) {
-        Ok(Played::Done(run)) => write_run(alloc, mode, script, run, sink),
+        Ok(Played::Done(run)) => write_run(alloc, text, script, run, sink),
         Ok(Played::DrumFailed(run)) => Outcome::failed(5, run),
         Ok(Played::DiskFailed(run)) => Outcome::failed(6, run),
         Err(_) => Outcome::bare(alloc, 8, 0, 0),
@@ -202,7 +218,7 @@ pub(crate) fn replay<S: Source, K: Sink, D: Medium, F: Medium>(
         Err(end) => return end_unread(alloc, sink, end),
     };
     match read_script(alloc, &bytes) {
-        Ok(script) => perform(alloc, mode, &script, sink, drum, disk),
+        Ok(script) => perform(alloc, &mode, &script, sink, drum, disk),
         Err(ScriptFault::Refused(refusal)) => {
             refuse_script(alloc, sink, refusal.card, refusal.cause.number())
         }
@@ -249,7 +265,7 @@ pub(crate) fn load<K: Sink, D: Medium, F: Medium>(
         (devices input (output_seen K.Sink sink.new) (media_seen D.Medium F.Medium drum.new disk.new) link) }
 {
     match make_script(alloc, n) {
-        Ok(script) => perform(alloc, Mode::Load(n), &script, sink, drum, disk),
+        Ok(script) => perform(alloc, &Mode::Load(n), &script, sink, drum, disk),
         Err(_) => Outcome::bare(alloc, 8, 0, 0),
     }
 }

@@ -44,7 +44,7 @@ fn refusal(alloc: Global, card: u32, cause: u8) -> Result<Bytes, NoMemory>
 }
 
 /// The words are refused.
-pub(crate) fn refuse_words<K: Sink>(alloc: Global, sink: &mut K) -> Outcome
+pub fn refuse_words<K: Sink>(alloc: Global, sink: &mut K) -> Outcome
     ensures status { IsOneOf result.status (1 ∷ 4 ∷ []) }
     ensures refused { result.status ≡ 1 → result ≡ bare 1 0 0 }
     ensures written { result.status ≡ 1 → K.held sink.new ≡ after (K.held sink.old) words_refused }
@@ -56,7 +56,7 @@ pub(crate) fn refuse_words<K: Sink>(alloc: Global, sink: &mut K) -> Outcome
 }
 
 /// The script is refused.
-pub(crate) fn refuse_script<K: Sink>(alloc: Global, sink: &mut K, card: u32, cause: u8) -> Outcome
+pub fn refuse_script<K: Sink>(alloc: Global, sink: &mut K, card: u32, cause: u8) -> Outcome
     ensures status { IsOneOf result.status (2 ∷ 4 ∷ 8 ∷ []) }
     ensures refused { result.status ≡ 2 → result ≡ bare 2 card cause }
     ensures written { result.status ≡ 2 → K.held sink.new ≡ after (K.held sink.old) (script_refused card cause) }
@@ -74,7 +74,7 @@ pub(crate) fn refuse_script<K: Sink>(alloc: Global, sink: &mut K, card: u32, cau
 }
 
 /// Ends a call whose input was not read to its end: more came than may, which is written, a read failed, or memory lacked.
-pub(crate) fn end_unread<K: Sink>(alloc: Global, sink: &mut K, end: ReadEnd) -> Outcome
+pub fn end_unread<K: Sink>(alloc: Global, sink: &mut K, end: ReadEnd) -> Outcome
     ensures { EndsBy end (output_seen K.Sink sink.old) (output_seen K.Sink sink.new) result }
 {
     match end {

@@ -5,6 +5,7 @@ ghost use Rattle.std.specs.Prelude.{◌≡◌};
 ghost use Rattle.std.specs.Fmt.{decimal};
 ghost use Rattle.outcome_text.specs.Explained.{cause_text, explained, refusal_line, status_text};
 ghost use Rattle.outcome_text.specs.Said.{Says};
+ghost use Rattle.text_model.specs.Parts.{line};
 
 use ctss_io::{Sink, write_all};
 use itoa::Buffer;
@@ -88,6 +89,14 @@ fn say_refusal<K: Sink>(sink: &mut K, card: u32, cause: u8)
     say(sink, b"\n");
 }
 
+/// A line, said.
+pub fn say_line<K: Sink>(sink: &mut K, text: &[u8])
+    ensures { Says (line text.now) (K.held sink.old) (K.held sink.new) (K.faults sink.old) (K.faults sink.new) }
+{
+    say(sink, text);
+    say(sink, b"\n");
+}
+
 /// The line beside a status, none beside 0. Card and cause are those of a script's refusal.
 pub fn explain<K: Sink>(sink: &mut K, status: u8, card: u32, cause: u8)
     ensures { Says (explained status card cause)
@@ -98,7 +107,6 @@ pub fn explain<K: Sink>(sink: &mut K, status: u8, card: u32, cause: u8)
     } else if status == 2 {
         say_refusal(sink, card, cause);
     } else {
-        say(sink, status_text(status));
-        say(sink, b"\n");
+        say_line(sink, status_text(status));
     }
 }

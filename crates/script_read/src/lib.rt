@@ -13,4 +13,4 @@ mod words;
 
 pub use fault::ScriptFault;
 pub use read::{bases_are_scripts, read_base, read_script};
-pub use text::ScriptText;
+pub use text::{ScriptText, add_end, add_owned_file, add_params, add_users};

@@ -6,7 +6,7 @@ ghost use Rattle.text_model.specs.Parts.{line, number, name};
 ghost use Rattle.text_writer.specs.Writing.{Adds};
 
 use ctss_io::Sink;
-use ctss_types::{Account, Event, OwnedFile, Params, Script, Timed, UserNo};
+use ctss_types::{Account, Event, FileBody, OwnedFile, Params, Script, Timed};
 use text_writer::{Text, TextWriter};
 use word_cards::add_word_cards;
 use word36::Word;
@@ -21,7 +21,7 @@ fn add_age<K: Sink>(out: &mut TextWriter<'_, K>, age: u64)
 }
 
 /// Adds the PARAM card.
-fn add_params<K: Sink>(out: &mut TextWriter<'_, K>, params: Params)
+pub fn add_params<K: Sink>(out: &mut TextWriter<'_, K>, params: Params)
     ensures { Adds K.Sink (param_card params) out.old out.new }
 {
     out.add(b"PARAM");
@@ -49,7 +49,7 @@ fn add_user<K: Sink>(out: &mut TextWriter<'_, K>, number: usize, account: &Accou
 }
 
 /// Adds the USER cards.
-fn add_users<K: Sink>(out: &mut TextWriter<'_, K>, accounts: &[Account])
+pub fn add_users<K: Sink>(out: &mut TextWriter<'_, K>, accounts: &[Account])
     ensures { Adds K.Sink (user_cards 1 accounts.now) out.old out.new }
 {
     for (index, account) in accounts.iter().enumerate() {
@@ -60,7 +60,7 @@ fn add_users<K: Sink>(out: &mut TextWriter<'_, K>, accounts: &[Account])
 /// Adds a FILE card.
 fn add_file_card<K: Sink>(
     out: &mut TextWriter<'_, K>,
-    owner: UserNo,
+    owner: u64,
     first: Word,
     second: Word,
     mode: u8,
@@ -68,20 +68,27 @@ fn add_file_card<K: Sink>(
     ensures { Adds K.Sink (line (codes "FILE" ++ (number owner ++ (name first ++ (name second ++ number mode))))) out.old out.new }
 {
     out.add(b"FILE");
-    out.number(owner.number());
+    out.number(owner);
     out.name(first);
     out.name(second);
     out.number(mode);
     out.end_line();
 }
 
+/// Adds a FILE card of an owner and its words.
+pub fn add_owned_file<K: Sink>(out: &mut TextWriter<'_, K>, owner: u64, body: &FileBody)
+    ensures { Adds K.Sink (file_cards (record { owner = owner; body = body.now })) out.old out.new }
+{
+    let name = body.name;
+    add_file_card(out, owner, name.first, name.second, body.mode);
+    add_word_cards(out, body.words.as_slice());
+}
+
 /// Adds a FILE card and its words.
 fn add_file<K: Sink>(out: &mut TextWriter<'_, K>, file: &OwnedFile)
     ensures { Adds K.Sink (file_cards file.now) out.old out.new }
 {
-    let name = file.body.name;
-    add_file_card(out, file.owner, name.first, name.second, file.body.mode);
-    add_word_cards(out, file.body.words.as_slice());
+    add_owned_file(out, u64::from(file.owner.number()), &file.body);
 }
 
 /// Adds the files.
@@ -129,7 +136,7 @@ fn add_events<K: Sink>(out: &mut TextWriter<'_, K>, events: &[Timed])
 }
 
 /// Adds the END card.
-fn add_end<K: Sink>(out: &mut TextWriter<'_, K>, end: u64)
+pub fn add_end<K: Sink>(out: &mut TextWriter<'_, K>, end: u64)
     ensures { Adds K.Sink (end_card end) out.old out.new }
 {
     out.add(b"END");

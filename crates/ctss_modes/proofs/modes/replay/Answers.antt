@@ -39,9 +39,6 @@ returns-in-Err-clause-lost g c words link asked h =
     let u = ends_unread c.in-Err.end _ _ _ _ _ (λ e. c.in-Err.ensures.too_long (ap Err e)) (λ e. c.in-Err.ensures.stopped (ap Err e)) (λ e. c.in-Err.ensures.fault (ap Err e)) c.end_unread.ensures in
     absurd (grind (arith, h, u.statuses, nat_tests))
 
-pub perform-requires-clause-mode : goal.perform-requires-clause-mode
-perform-requires-clause-mode g c = replays_runs c.args.mode c.requires.mode
-
 pub perform-requires-clause-lawful : goal.perform-requires-clause-lawful
 perform-requires-clause-lawful g c = scripts_are_lawful _ _ c.in-Ok-read_script.ensures
 

@@ -1,15 +1,9 @@
-use Rattle.std.specs.Prelude.{codes}
-use Rattle.std.proofs.Common.{ap, ◌++◌}
-use Rattle.ctss_types.specs.Names.{NamePair}
-use Rattle.text_model.specs.Canonical.{word_cards}
-use Rattle.text_model.specs.Parts.{line, name, number}
-use Rattle.text_writer.proofs.Added.{◌⨾◌, adds_is}
+use Rattle.std.proofs.Common.{ℕ, ap, ◌∙◌}
+use Rattle.text_model.specs.Canonical.{file_cards}
+use Rattle.text_writer.proofs.Added.{adds_is}
 use Rattle.script_read.proofs.text.add_file.Goals as goal
 
 pub returns : goal.returns
 returns g c =
-    adds_is
-    (ap (λ (n : NamePair). line (codes "FILE" ++ (number c.args.file.now.owner ++ (name n.first ++ (name n.second ++ number c.args.file.now.body.mode)))))
-    c.name.view_is)
-    c.add_file_card.ensures
-    ⨾ adds_is (ap word_cards c.as_slice.ensures) c.add_word_cards.ensures
+    adds_is (ap (λ (n : ℕ). file_cards (record { owner = n; body = c.args.file.now.body })) (c.from.ensures ∙ c.number.ensures.value))
+    c.add_owned_file.ensures

@@ -1,0 +1,46 @@
+use Rattle.std.proofs.Common.{◌≡◌, refl, sym, ◌∙◌, Err, Ok, ap, subst}
+use Rattle.ctss_io.specs.Outside.{after}
+use Rattle.ctss_io.specs.Whole.{GrewByProperPrefix}
+use Rattle.script_read.specs.Answers.{Reads}
+use Rattle.script_read.specs.declared.fault.ScriptFault.{ScriptFault}
+use Rattle.text_model.specs.declared.cause.ScriptRefusal.{ScriptRefusal}
+use Rattle.text_model.specs.Causes.{cause_number}
+use Rattle.text_model.specs.Words.{script_refused}
+use Rattle.text_model.specs.Reading.{script_of}
+use Rattle.text_model.proofs.LawfulLaws.{scripts_are_lawful}
+use Rattle.ctss_modes.specs.Outcomes.{bare}
+use Rattle.ctss_modes.proofs.Unread.{ends_unread}
+use Rattle.script_show.proofs.Shows.{shows_unread, shows_none, shows_refused, shows_run}
+use Rattle.script_show.proofs.show.show_script.Goals as goal
+
+pub run_script-requires : goal.run_script-requires
+run_script-requires g c = scripts_are_lawful _ _ c.in-Ok-read_script.ensures
+
+pub returns-in-Err : goal.returns-in-Err
+returns-in-Err g c =
+    shows_unread _ _ _ c.end_unread.result
+    (ends_unread c.in-Err.end _ _ _ _ _ (λ e. c.in-Err.ensures.too_long (ap Err e)) (λ e. c.in-Err.ensures.stopped (ap Err e)) (λ e. c.in-Err.ensures.fault (ap Err e)) c.end_unread.ensures)
+
+pub returns-in-Ok-read_script : goal.returns-in-Ok-read_script
+returns-in-Ok-read_script g c =
+    let read : script_of c.in-Ok.bytes.items ≡ Ok c.in-Ok-read_script.script = ap script_of (sym c.deref.ensures.value) ∙ c.in-Ok-read_script.ensures in
+    let run = c.run_script.ensures in
+    shows_run _ _ _ c.run_script.result c.in-Ok.bytes.items c.in-Ok-read_script.script c.in-Ok.ensures.bytes c.in-Ok.ensures.end read
+    (scripts_are_lawful _ _ read)
+    run.status run.run run.numbers run.text run.part run.cause run.memory run.silent
+
+pub returns-in-Err-Refused : goal.returns-in-Err-Refused
+returns-in-Err-Refused g c =
+    let read : script_of c.deref.result.now ≡ Err c.in-Err-Refused.refusal = subst (λ (f : ScriptFault). Reads (Err f) (script_of c.deref.result.now)) c.in-Err-Refused.field-0-is c.in-Err-Refused.ensures in
+    let said = c.refuse_script.ensures in
+    shows_refused _ _ _ c.refuse_script.result c.in-Ok.bytes.items c.in-Err-Refused.refusal c.number.result c.in-Ok.ensures.bytes c.in-Ok.ensures.end
+    (ap script_of (sym c.deref.ensures.value) ∙ read)
+    (c.number.ensures ∙ ap (λ (r : ScriptRefusal). cause_number r.cause) c.in-Err-Refused.refusal-is)
+    said.status
+    (λ h. said.refused h ∙ ap (λ (r : ScriptRefusal). bare 2 r.card c.number.result) c.in-Err-Refused.refusal-is)
+    (λ h. said.written h ∙ ap (λ (r : ScriptRefusal). after (g.K.Sink.held c.args.output.now) (script_refused r.card c.number.result)) c.in-Err-Refused.refusal-is)
+    (λ h. subst (λ (r : ScriptRefusal). GrewByProperPrefix (g.K.Sink.held c.args.output.now) (script_refused r.card c.number.result) (g.K.Sink.held c.refuse_script.new.sink)) c.in-Err-Refused.refusal-is (said.part h))
+    said.cause said.memory said.silent
+
+pub returns-in-Err-NoMemory : goal.returns-in-Err-NoMemory
+returns-in-Err-NoMemory g c = shows_none _ _ _ _ c.bare.ensures refl

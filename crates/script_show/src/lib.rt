@@ -1,0 +1,14 @@
+//! Programs that show the run of a script: the script comes in on a source, is run over a drum and a disk in memory, and a text
+//! of its record goes out on a sink. What text that is, the program says (`RunText`).
+#![tactic(auto)]
+
+mod asked;
+mod media;
+mod program;
+mod show;
+
+pub use asked::show_asked;
+pub use command_line::ArgList;
+pub use ctss_modes::{Outcome, RunText};
+pub use program::{ShowProgram, run};
+pub use show::show_script;

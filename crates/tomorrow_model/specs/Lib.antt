@@ -1,0 +1,3 @@
+pub mod Tomorrow
+pub mod Laws
+pub mod Rows

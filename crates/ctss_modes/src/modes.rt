@@ -55,6 +55,7 @@ impl RunText for Mode {
 }
 
 /// The text of one run.
+#[derive(Drop)]
 struct Shown<'a, T: RunText> {
     text: &'a T,
     script: &'a Script,

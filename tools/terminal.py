@@ -92,6 +92,8 @@ class Keyboard:
         if key in (RETURN, NEWLINE) and not is_second:
             return self.end_line()
         if key == QUIT_KEY:
+            if self.letters:
+                self.show(b"\r\n")
             self.letters.clear()
             self.hides = False
             return QUIT

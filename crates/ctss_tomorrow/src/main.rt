@@ -1,9 +1,9 @@
 //! The program that writes the next session's base script.
 #![tactic(auto)]
 
-use next_session::NextSession;
+use next_session::{NextSession, run};
 use std::process::ExitCode;
 
 fn main(rt: HostRuntime) -> ExitCode {
-    ExitCode::from(script_show::run::<NextSession>(&rt))
+    ExitCode::from(run::<NextSession>(&rt))
 }

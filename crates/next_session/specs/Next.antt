@@ -3,22 +3,20 @@ use Rattle.std.specs.Prelude.{◌≡◌, ◌≤◌, ℕ, List, [], ◌∷◌, le
 use Rattle.ctss_types.specs.declared.script.Script.{Script}
 use Rattle.ctss_types.specs.declared.history.Record.{Record}
 use Rattle.ctss_io.specs.Outside.{after}
-use Rattle.text_model.specs.declared.mode.Mode.TheVariants.{Replay}
 use Rattle.text_model.specs.Canonical.{script_text_of}
 use Rattle.text_model.specs.Lawful.{IsLawful}
 use Rattle.text_model.specs.Reading.{max_bytes}
 use Rattle.system_model.specs.Record.{record_of}
-use Rattle.ctss_modes.specs.Modes.{TextOfRun, IsSpelled}
 use Rattle.tomorrow_model.specs.Tomorrow.{next_base}
 use Rattle.tomorrow_model.specs.Laws.{IsReadAs}
-use Rattle.script_show.specs.Shown.{StreamsSeen}
+use Rattle.script_show.specs.Shown.{ShownText, Spells, StreamsSeen}
 
 -- the canonical text of the base behind the run of a script
-abbrev pub next_text : TextOfRun
+abbrev pub next_text : ShownText
 next_text script rec = script_text_of (next_base script rec)
 
 -- no word asks for it
-abbrev pub asked : List (List ℕ) → Option TextOfRun
+abbrev pub asked : List (List ℕ) → Option ShownText
 asked [] = Some next_text
 asked (w ∷ ws) = None
 
@@ -26,7 +24,7 @@ asked (w ∷ ws) = None
 -- accounts, and the files that the one record of the script that came in leaves. If it isn't too long, that text reads as that script.
 pub record IsNextBase (old new : StreamsSeen) : Type 0 where
   pub script : Script
-  pub spelled : IsSpelled Replay old.input.left new.input.left script
+  pub spelled : Spells old new script
   pub written : new.output.held ≡ after old.output.held (script_text_of (next_base script (record_of script)))
   pub lawful : IsLawful (next_base script (record_of script))
   pub reads : length (script_text_of (next_base script (record_of script))) ≤ max_bytes

@@ -15,6 +15,7 @@ ghost use Rattle.script_show.specs.Seen.{streams};
 use ctss_io::{Sink, Source};
 use script_show::{ArgList, Outcome, ShowProgram, show_asked};
 use std::alloc::Global;
+pub use script_show::run;
 pub use text::NextBase;
 
 /// The text that words ask for: without a word the next session's base, else none.

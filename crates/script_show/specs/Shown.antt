@@ -22,10 +22,18 @@ pub record StreamsSeen : Type 0 where
   pub input : InputSeen
   pub output : OutputSeen
 
+-- the bytes that are made of a script and its record
+abbrev pub ShownText : Type 0
+ShownText = TextOfRun
+
+-- what came in spells this script
+abbrev pub Spells : StreamsSeen → StreamsSeen → Script → Type 0
+Spells old new script = IsSpelled Replay old.input.left new.input.left script
+
 -- A lawful script came in, and the text of the one record that the rules give for it has come to the output.
 pub record IsShown (text : TextOfRun) (old new : StreamsSeen) (result : Outcome) : Type 0 where
   pub script : Script
-  pub spelled : IsSpelled Replay old.input.left new.input.left script
+  pub spelled : Spells old new script
   pub lawful : IsLawful script
   pub run : result.run ≡ record_of script
   pub written : new.output.held ≡ after old.output.held (text script (record_of script))

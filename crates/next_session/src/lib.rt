@@ -3,6 +3,7 @@
 //! The definition stands in tomorrow_model, and what the program answers in `specs/Next`.
 #![tactic(auto)]
 
+mod held;
 mod kept;
 mod text;
 
@@ -12,10 +13,11 @@ ghost use Rattle.next_session.specs.Next.{IsNextBase, asked, next_text};
 ghost use Rattle.script_show.specs.Asked.{IsAnswer};
 ghost use Rattle.script_show.specs.Seen.{streams};
 
+use crate::held::hold_words;
 use ctss_io::{Sink, Source};
+pub use script_show::run;
 use script_show::{ArgList, Outcome, ShowProgram, show_asked};
 use std::alloc::Global;
-pub use script_show::run;
 pub use text::NextBase;
 
 /// The text that words ask for: without a word the next session's base, else none.
@@ -41,7 +43,9 @@ pub fn write_next_base<S: Source, K: Sink>(
     ensures answer { IsAnswer (asked words.now)
         (streams S.Source K.Sink input.old output.old) (streams S.Source K.Sink input.new output.new) result }
 {
-    show_asked(alloc, asked(words), input, output)
+    let outcome = show_asked(alloc, asked(words), input, output);
+    hold_words(&outcome.run);
+    outcome
 }
 
 /// The program, but for its `main`.

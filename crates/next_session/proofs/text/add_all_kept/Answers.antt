@@ -1,7 +1,7 @@
-use Rattle.std.proofs.Common.{[], ◌++◌, ◌+◌, refl}
+use Rattle.std.proofs.Common.{[], ◌++◌, ◌+◌, refl, ap}
 use Rattle.std.specs.List.{flat_map}
 use Rattle.next_session.specs.Files.{kept_text}
-use Rattle.next_session.proofs.Kept.{text_from, owner_more, owners_done}
+use Rattle.next_session.proofs.KeptFiles.{text_from, owner_more, owners_done}
 use Rattle.text_writer.proofs.Added.{◌⨾◌, adds_is, adds_none}
 use Rattle.next_session.proofs.text.add_all_kept.Goals as goal
 
@@ -11,7 +11,7 @@ loop-index-init g c = ([], adds_none g.K.Sink c.args.out.now, refl)
 pub loop-index-preserved : goal.loop-index-preserved
 loop-index-preserved g c = (
   c.loop-index.invariant.0 ++ flat_map (kept_text (c.loop-index.index + 1)) c.index-lists-index.result,
-  c.loop-index.invariant.1 ⨾ c.add_kept.ensures,
+  c.loop-index.invariant.1 ⨾ adds_is (ap (flat_map (kept_text (c.loop-index.index + 1))) c.as_slice.ensures) c.add_kept.ensures,
   owner_more c.args.lists.now c.loop-index.index c.index-lists-index.result c.loop-index.invariant.0 (text_from 1 c.args.lists.now)
       c.loop-index-test.true c.index-lists-index.is c.loop-index.invariant.2,
 )

@@ -1,6 +1,6 @@
 use Rattle.std.proofs.Common.{◌≡◌, ◌++◌, ◌+◌, ℕ, List, drop}
 use Rattle.text_writer.specs.Writing.{Adds}
-use Rattle.next_session.proofs.Kept.{text_from}
+use Rattle.next_session.proofs.KeptFiles.{text_from}
 use Rattle.next_session.proofs.text.add_all_kept.Given as goal
 
 -- the cards so far were added, and with those that are left they are all

@@ -3,7 +3,7 @@ use Rattle.ctss_types.specs.declared.script.Account.{Account}
 use Rattle.ctss_types.specs.declared.file.FileBody.{FileBody}
 use Rattle.text_model.specs.Canonical.{user_cards, script_text_of}
 use Rattle.text_writer.proofs.Added.{◌⨾◌, adds_is}
-use Rattle.next_session.proofs.Kept.{text_from}
+use Rattle.next_session.proofs.KeptFiles.{text_from}
 use Rattle.next_session.proofs.text.add_next.Goals as goal
 
 pub returns : goal.returns

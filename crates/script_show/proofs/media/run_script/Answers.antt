@@ -26,3 +26,6 @@ returns-clause-part g c h =
     let run = (c.perform.ensures.done (grind (arith, h, nat_tests))).record_is refl in
     subst (λ (rec : Record). GrewByProperPrefix (g.K.Sink.held c.args.sink.now) (g.T.RunText.bytes c.args.text.now c.args.script.now rec) (g.K.Sink.held c.perform.new.sink))
     run (c.perform.ensures.part h)
+
+pub returns-clause-silent : goal.returns-clause-silent
+returns-clause-silent g c h = c.perform.ensures.silent (grind (arith, h, nat_tests))

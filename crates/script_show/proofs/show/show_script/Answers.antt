@@ -10,11 +10,11 @@ use Rattle.text_model.specs.Reading.{script_of}
 use Rattle.text_model.proofs.LawfulLaws.{scripts_are_lawful}
 use Rattle.ctss_modes.specs.Outcomes.{bare}
 use Rattle.ctss_modes.proofs.Unread.{ends_unread}
-use Rattle.script_show.proofs.Shows.{shows_unread, shows_none, shows_refused, shows_run}
+use Rattle.script_show.proofs.Shows.{shows_unread, shows_refused, shows_run}
 use Rattle.script_show.proofs.show.show_script.Goals as goal
 
 pub run_script-requires : goal.run_script-requires
-run_script-requires g c = scripts_are_lawful _ _ c.in-Ok-read_script.ensures
+run_script-requires g c = record { lawful = scripts_are_lawful _ _ c.in-Ok-read_script.ensures }
 
 pub returns-in-Err : goal.returns-in-Err
 returns-in-Err g c =
@@ -41,6 +41,3 @@ returns-in-Err-Refused g c =
     (λ h. said.written h ∙ ap (λ (r : ScriptRefusal). after (g.K.Sink.held c.args.output.now) (script_refused r.card c.number.result)) c.in-Err-Refused.refusal-is)
     (λ h. subst (λ (r : ScriptRefusal). GrewByProperPrefix (g.K.Sink.held c.args.output.now) (script_refused r.card c.number.result) (g.K.Sink.held c.refuse_script.new.sink)) c.in-Err-Refused.refusal-is (said.part h))
     said.cause said.memory said.silent
-
-pub returns-in-Err-NoMemory : goal.returns-in-Err-NoMemory
-returns-in-Err-NoMemory g c = shows_none _ _ _ _ c.bare.ensures refl

@@ -1,7 +1,6 @@
 -- claim: the text of the next session's base, and what the program that writes it answers.
 use Rattle.std.specs.Prelude.{◌≡◌, ◌≤◌, ℕ, List, [], ◌∷◌, length, Option, Some, None}
 use Rattle.ctss_types.specs.declared.script.Script.{Script}
-use Rattle.ctss_types.specs.declared.history.Record.{Record}
 use Rattle.ctss_io.specs.Outside.{after}
 use Rattle.text_model.specs.Canonical.{script_text_of}
 use Rattle.text_model.specs.Lawful.{IsLawful}

@@ -1,12 +1,12 @@
 -- What follows from what was read and written, where a run's text is shown.
-use Rattle.std.proofs.Common.{◌≡◌, ℕ, ◌≤◌, Bool, true, false, nat_eq, List, [], ◌∷◌, length, Option, Some, None, Ok, Err, refl, sym, ap, subst, ◌∙◌, arith}
+use Rattle.std.proofs.Common.{◌≡◌, ℕ, false, nat_eq, List, [], ◌∷◌, length, Option, Some, None, Ok, Err, refl, sym, ap, subst, ◌∙◌, arith}
 use Rattle.std.specs.declared.result.Result.{Result}
 use Rattle.std.proofs.lemmas.Bool.Decides.{nat_tests}
 use Rattle.faults.specs.Faults.{Rose, WhereTold}
 use Rattle.ctss_types.specs.declared.script.Script.{Script}
 use Rattle.ctss_types.specs.declared.history.Record.{Record}
 use Rattle.ctss_io.specs.Outside.{prepended, after, IsAtEnd}
-use Rattle.ctss_io.specs.Whole.{ShrankBy, GrewByProperPrefix}
+use Rattle.ctss_io.specs.Whole.{GrewByProperPrefix}
 use Rattle.text_model.specs.declared.mode.Mode.TheVariants.{Replay}
 use Rattle.text_model.specs.declared.cause.ScriptRefusal.{ScriptRefusal}
 use Rattle.text_model.specs.Causes.{cause_number}
@@ -18,12 +18,12 @@ use Rattle.live_run.specs.Media.{MediaSeen}
 use Rattle.ctss_modes.specs.declared.outcome.Outcome.{Outcome}
 use Rattle.ctss_modes.specs.Outcomes.{bare, IsOneOf}
 use Rattle.ctss_modes.specs.Modes.{TextOfRun, IsSpelled, IsRefused}
-use Rattle.ctss_modes.specs.Played.{IsDone, IsCut, IsLost}
+use Rattle.ctss_modes.specs.Played.{IsCut, IsLost}
 use Rattle.ctss_modes.specs.Top.{statuses_for as statuses_of_replay}
 use Rattle.ctss_modes.specs.Unread.{EndsUnread}
-use Rattle.ctss_modes.proofs.Says.{Allows, long_is_refused, too_long, of_told, told_no_memory}
+use Rattle.ctss_modes.proofs.Says.{Allows, long_is_refused, too_long, of_told}
 use Rattle.ctss_modes.proofs.Unread.{unread_told}
-use Rattle.script_show.specs.Shown.{StreamsSeen, IsShown, IsRefusedScript, IsDue, OfRun, OfRefusal, IsShownInPart, IsSilent, statuses_for, IsShowing}
+use Rattle.script_show.specs.Shown.{StreamsSeen, OfRun, OfRefusal, statuses_for, IsShowing}
 
 differs : (a b : ℕ) → (a ≡ b → ⊥) → nat_eq a b ≡ false
 differs a b h = grind (arith, nat_tests)
@@ -83,22 +83,6 @@ shows_unread text old new o u =
           });
       silent = λ h. record { outcome = u.bare_is h; same = u.silent h };
     }
-
--- memory lacked
-pub shows_none : (text : TextOfRun) (old new : StreamsSeen) (o : Outcome) → o ≡ bare 8 0 0 → new.output.held ≡ old.output.held
-    → IsShowing text old new o
-shows_none text old new o is same =
-    subst (IsShowing text old new) (sym is)
-    (record {
-      statuses = refl;
-      told = all_narrowed 8 old.input.left refl refl (told_no_memory old.input.left);
-      shown = λ h. absurd (omega (arith, h));
-      refused = λ h. absurd (omega (arith, h));
-      unread = λ h. absurd (omega (arith, h));
-      unwritten = λ h. absurd (omega (arith, h));
-      part = λ h. absurd (omega (arith, h));
-      silent = λ h. record { outcome = refl; same = same };
-    })
 
 -- the bytes are no script
 module _ (text : TextOfRun) (old new : StreamsSeen) (o : Outcome) (bytes : List ℕ) (refusal : ScriptRefusal) (number : ℕ)

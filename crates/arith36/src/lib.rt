@@ -47,6 +47,7 @@ pub enum Side {
 }
 
 /// The sum of the accumulator and a signed number.
+#[inline(always)]
 fn add_signed(a: Acc, negative: bool, magnitude: u64) -> Sum
     requires { magnitude < 2 ^ 35 }
     ensures { result ≡ sum_of a negative magnitude }
@@ -74,6 +75,7 @@ fn add_signed(a: Acc, negative: bool, magnitude: u64) -> Sum
 ///
 /// The overflow is a carry from position 1 into P, which stays there. What stood in P and Q before is part of the sum
 /// but gives no overflow, and a carry out of Q is lost.
+#[inline(always)]
 pub fn add(a: Acc, w: Word) -> Sum
     ensures { result ≡ sum_of a (is_minus w) (magnitude_of w) }
 {
@@ -81,6 +83,7 @@ pub fn add(a: Acc, w: Word) -> Sum
 }
 
 /// SUB: the sum with the word's sign turned round.
+#[inline(always)]
 pub fn sub(a: Acc, w: Word) -> Sum
     ensures { result ≡ sum_of a (not (is_minus w)) (magnitude_of w) }
 {
@@ -88,6 +91,7 @@ pub fn sub(a: Acc, w: Word) -> Sum
 }
 
 /// ADM: the sum with the word's sign taken as plus.
+#[inline(always)]
 pub fn add_magnitude(a: Acc, w: Word) -> Sum
     ensures { result ≡ sum_of a false (magnitude_of w) }
 {
@@ -95,6 +99,7 @@ pub fn add_magnitude(a: Acc, w: Word) -> Sum
 }
 
 /// SBM: the sum with the word's sign taken as minus.
+#[inline(always)]
 pub fn sub_magnitude(a: Acc, w: Word) -> Sum
     ensures { result ≡ sum_of a true (magnitude_of w) }
 {

@@ -1,14 +1,27 @@
--- Operations of a prefix.
-use Rattle.std.proofs.Common.{◌≡◌, false, refl}
+-- Operations that go on.
+use Rattle.std.proofs.Common.{◌≡◌, ℕ, true, List, refl}
+use Rattle.cpu_regs.specs.declared.regs.Regs.{Regs}
+use Rattle.cpu_regs.specs.declared.regs.OpEnd.{OpEnd}
+use Rattle.cpu_regs.specs.declared.regs.OpEnd.TheVariants as op_end
 use Rattle.opcode_table.specs.Table.{class_of}
 use Rattle.opcode_table.specs.declared.op.Op.{Op}
 use Rattle.opcode_table.specs.declared.op.Op.TheVariants as op
 use Rattle.opcode_table.specs.declared.op.Class.TheVariants as class
-use Rattle.cpu_step.specs.Results.{may_halt}
+use Rattle.machine_model.specs.Results.{Goes, Keeps}
+use Rattle.ops_index.specs.Families.{is_count}
+use Rattle.cpu_step.specs.Results.{Stands}
 
--- no operation of a prefix may halt
-pub prefixed_goes : (o : Op) → class_of o ≡ class.Prefixed → may_halt o ≡ false
-prefixed_goes op.Dvh h = cc
-prefixed_goes op.Htr h = cc
-prefixed_goes op.Hpr h = cc
-prefixed_goes _ h = refl
+-- the operations of prefixes are the counts
+pub prefixed_counts : (o : Op) → class_of o ≡ class.Prefixed → is_count o ≡ true
+prefixed_counts op.Txi h = refl
+prefixed_counts op.Tix h = refl
+prefixed_counts op.Txh h = refl
+prefixed_counts op.Tnx h = refl
+prefixed_counts op.Txl h = refl
+prefixed_counts _ h = cc
+
+-- what doesn't halt and doesn't go on leaves everything as it was
+pub stands : (e : OpEnd) (r s : Regs) (core d : List ℕ) → Goes e → Keeps e r s core d → Stands e r s core d
+stands op_end.Went r s core d goes keeps = tt
+stands op_end.Halt r s core d goes keeps = absurd goes
+stands (op_end.Outside a) r s core d goes keeps = keeps

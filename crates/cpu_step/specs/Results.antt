@@ -3,6 +3,8 @@ use Rattle.std.specs.Prelude.{ℕ, Bool, true, false, List, ◌≡◌}
 use Rattle.cpu_regs.specs.declared.regs.Regs.{Regs}
 use Rattle.cpu_regs.specs.declared.regs.OpEnd.{OpEnd}
 use Rattle.cpu_regs.specs.declared.regs.OpEnd.TheVariants as op_end
+use Rattle.opcode_table.specs.declared.op.Class.{Class}
+use Rattle.opcode_table.specs.declared.op.Class.TheVariants as class
 use Rattle.opcode_table.specs.declared.op.Op.{Op}
 use Rattle.opcode_table.specs.declared.op.Op.TheVariants as op
 use Rattle.machine_model.specs.Step.{Step}
@@ -32,9 +34,22 @@ Stays (stepped.Entry w) r s core d = (s ≡ r) × (d ≡ core)
 Stays stepped.Illegal r s core d = (s ≡ r) × (d ≡ core)
 Stays (stepped.Outside a) r s core d = (s ≡ r) × (d ≡ core)
 
--- the operations that may halt
-abbrev pub may_halt : Op → Bool
-may_halt op.Dvh = true
-may_halt op.Htr = true
-may_halt op.Hpr = true
-may_halt _ = false
+-- whether the flag of an operation of the class counts
+abbrev pub is_addressed : Class → Bool
+is_addressed class.Addressed = true
+is_addressed _ = false
+
+-- the operations that a run of many steps leaves to a step: those that may halt, a supervisor entry, and an XEC
+abbrev pub is_apart : Op → Bool
+is_apart op.Dvh = true
+is_apart op.Htr = true
+is_apart op.Hpr = true
+is_apart op.Xec = true
+is_apart op.Tia = true
+is_apart _ = false
+
+-- what doesn't go on leaves everything as it was
+abbrev pub Stands : OpEnd → Regs → Regs → List ℕ → List ℕ → Type 0
+Stands op_end.Went r s core d = Unit {0}
+Stands op_end.Halt r s core d = (s ≡ r) × (d ≡ core)
+Stands (op_end.Outside a) r s core d = (s ≡ r) × (d ≡ core)

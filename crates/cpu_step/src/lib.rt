@@ -1,22 +1,19 @@
 //! One step of the machine.
 #![tactic(auto)]
 
-ghost use Rattle.std.specs.Prelude.{◌≡◌, ◌≢◌, ◌<◌, ◌≤◌, ◌^◌, ◌%◌, true, false, IfOk};
-ghost use Rattle.opcode_table.specs.Table.{class_of, kind_of};
-ghost use Rattle.opcode_table.specs.Words.{HasFields, decoded};
-ghost use Rattle.word36.specs.Bits.{prefix_of};
+ghost use Rattle.std.specs.Prelude.{◌≡◌, ◌≢◌, ◌<◌, ◌≤◌, ◌^◌, ◌%◌, ◌/◌, nat_eq, true, false, IfOk};
+ghost use Rattle.opcode_table.specs.Table.{class_of, kind_of, row_of};
+ghost use Rattle.opcode_table.specs.Words.{HasFields, decoded, fields_for};
+ghost use Rattle.word36.specs.Bits.{prefix_of, tag_of};
 ghost use Rattle.machine_model.specs.Machine.{step_of, instruction, executed, once, done, row, is_xec, place_of, place_in, indexed};
 ghost use Rattle.machine_model.specs.Results.{ended};
 ghost use Rattle.machine_model.specs.Runs.{many};
-ghost use Rattle.machine_model.specs.Fixed.{fixed_row};
-ghost use Rattle.machine_model.specs.Logic.{logic_row};
-ghost use Rattle.machine_model.specs.Index.{index_row};
-ghost use Rattle.machine_model.specs.Step.{went};
-ghost use Rattle.cpu_step.specs.Results.{outcome, stepped_by, may_halt, Stays};
+ghost use Rattle.machine_model.specs.Step.{went, at, entry};
+ghost use Rattle.cpu_step.specs.Results.{outcome, stepped_by, is_addressed, is_apart, Stays, Stands};
 
 use cpu_regs::{MemoryPort, OpEnd, Regs};
 use opcode_table::{
-    Class, Instr, Kind, Op, class, decode, decode_prefixed, instr_coded, kind, row_coded,
+    Class, Instr, Kind, Op, Row, class, decode, decode_prefixed, instr_coded, kind, row_coded,
 };
 use word36::Word;
 
@@ -38,7 +35,7 @@ pub enum Stepped {
 
 /// Does one step: fetches the word at the instruction counter, decodes it, and does it. An XEC and the instruction that
 /// it names are one step.
-#[inline]
+#[inline(always)]
 pub fn step<M: MemoryPort>(regs: &mut Regs, core: &mut M) -> Stepped
     requires { regs.old.ic < 2 ^ 15 }
     ensures step_of { outcome result regs.new (M.words core.new) ≡ step_of regs.old (M.words core.old) }
@@ -57,7 +54,7 @@ pub fn step<M: MemoryPort>(regs: &mut Regs, core: &mut M) -> Stepped
 }
 
 /// Does the instruction that a word with a prefix is.
-#[inline(always)]
+#[inline(never)]
 fn do_prefixed<M: MemoryPort>(regs: &mut Regs, core: &mut M, word: Word) -> Stepped
     requires prefix { prefix_of word % 4 ≢ 0 }
     requires ic { regs.old.ic < 2 ^ 15 }
@@ -73,7 +70,8 @@ fn do_prefixed<M: MemoryPort>(regs: &mut Regs, core: &mut M, word: Word) -> Step
     as_step(ops_index::apply(regs, core, &i, i.address))
 }
 
-/// Does the instruction that a word without a prefix is. Its row of the table is looked up once.
+/// Does the instruction that a word without a prefix is. Its row of the table is looked up once. What isn't a
+/// supervisor entry stands apart, so that a call doesn't pay for the registers that it takes.
 #[inline(always)]
 fn do_coded<M: MemoryPort>(regs: &mut Regs, core: &mut M, word: Word) -> Stepped
     requires prefix { prefix_of word % 4 ≡ 0 }
@@ -87,8 +85,55 @@ fn do_coded<M: MemoryPort>(regs: &mut Regs, core: &mut M, word: Word) -> Stepped
     let Some(row) = row_coded(word) else {
         return Stepped::Illegal;
     };
-    let i = instr_coded(row, word);
-    execute(regs, core, row.3, row.4, &i)
+    match row.4 {
+        Kind::Tia => enter(regs, core, row, word),
+        Kind::Fixed | Kind::Logic | Kind::Index | Kind::Xec => do_row(regs, core, row, word),
+    }
+}
+
+/// A supervisor entry: the word at its place.
+#[inline(always)]
+fn enter<M: MemoryPort>(regs: &Regs, core: &M, known: &Row, word: Word) -> Stepped
+    requires own { known.now ≡ row_of known.now.0 }
+    requires kind { known.now.4 ≡ Kind.Tia }
+    requires class { known.now.3 ≢ Class.Prefixed }
+    ensures does { outcome result regs.now (M.words core.now)
+        ≡ executed (fields_for known.now.3 word known.now) regs.now (M.words core.now) }
+    ensures stays { Stays result regs.now regs.now (M.words core.now) (M.words core.now) }
+{
+    let y = match place_coded(regs, core, known.3, word) {
+        Ok(y) => y,
+        Err(address) => return Stepped::Outside(address),
+    };
+    entry_at(core, y)
+}
+
+/// The supervisor entry that the word at a place names.
+#[inline(always)]
+fn entry_at<M: MemoryPort>(core: &M, y: u16) -> Stepped
+    ensures entry { (r : Regs) → outcome result r (M.words core.now) ≡ at (M.words core.now) y (λ w. entry w) }
+    ensures stays { (r : Regs) → Stays result r r (M.words core.now) (M.words core.now) }
+{
+    match core.load(y) {
+        Ok(word) => Stepped::Entry(word),
+        Err(_) => Stepped::Outside(y),
+    }
+}
+
+/// Does the instruction of a row whose other fields stand in a word.
+#[inline(never)]
+fn do_row<M: MemoryPort>(regs: &mut Regs, core: &mut M, known: &Row, word: Word) -> Stepped
+    requires own { known.now ≡ row_of known.now.0 }
+    requires class { known.now.3 ≢ Class.Prefixed }
+    requires ic { regs.old.ic < 2 ^ 15 }
+    ensures does { outcome result regs.new (M.words core.new)
+        ≡ executed (fields_for known.now.3 word known.now) regs.old (M.words core.old) }
+    ensures stays { Stays result regs.old regs.new (M.words core.old) (M.words core.new) }
+    ensures keeps { M.Keeps core.old core.new }
+    ensures ic { regs.new.ic < 2 ^ 15 }
+{
+    let i = instr_coded(known, word);
+    execute(regs, core, known.3, known.4, &i)
 }
 
 /// Does as many steps as go on, at most so many, and says how many they were. It ends before a step that halts, that is a
@@ -111,7 +156,7 @@ pub fn run<M: MemoryPort>(regs: &mut Regs, core: &mut M, most: u64) -> u64
     done
 }
 
-/// Does a step if it goes on and is no XEC and no DVH; else nothing.
+/// Does a step if it goes on and is of no operation that `is_apart` names; else nothing.
 #[inline(always)]
 fn go<M: MemoryPort>(regs: &mut Regs, core: &mut M) -> bool
     requires { regs.old.ic < 2 ^ 15 }
@@ -133,7 +178,7 @@ fn go<M: MemoryPort>(regs: &mut Regs, core: &mut M) -> bool
 
 /// Does the instruction that a word with a prefix is, if there is one; else nothing.
 #[inline(always)]
-#[tactic(auto, using(crate::proofs::Goes::prefixed_goes))]
+#[tactic(auto, using(crate::proofs::Goes::prefixed_counts))]
 fn go_prefixed<M: MemoryPort>(regs: &mut Regs, core: &mut M, word: Word) -> bool
     requires prefix { prefix_of word % 4 ≢ 0 }
     requires ic { regs.old.ic < 2 ^ 15 }
@@ -147,14 +192,14 @@ fn go_prefixed<M: MemoryPort>(regs: &mut Regs, core: &mut M, word: Word) -> bool
     let Some(i) = decode_prefixed(word) else {
         return false;
     };
-    match ops_index::apply(regs, core, &i, i.address) {
+    match ops_index::count(regs, core, &i, i.address) {
         OpEnd::Went => true,
-        OpEnd::Halt => unreachable!(),
-        OpEnd::Outside(_) => false,
+        OpEnd::Halt | OpEnd::Outside(_) => false,
     }
 }
 
-/// Does the instruction that a word without a prefix is, if it goes on and is no XEC and no DVH; else nothing.
+/// Does the instruction that a word without a prefix is, if it goes on and is of no operation that `is_apart` names;
+/// else nothing.
 #[inline(always)]
 fn go_coded<M: MemoryPort>(regs: &mut Regs, core: &mut M, word: Word) -> bool
     requires prefix { prefix_of word % 4 ≡ 0 }
@@ -169,112 +214,120 @@ fn go_coded<M: MemoryPort>(regs: &mut Regs, core: &mut M, word: Word) -> bool
     let Some(row) = row_coded(word) else {
         return false;
     };
-    let i = instr_coded(row, word);
-    go_by(regs, core, row.3, row.4, &i)
-}
-
-/// Does an instruction of a class and a group if it goes on and is no XEC and no DVH; else nothing.
-#[inline(always)]
-fn go_by<M: MemoryPort>(regs: &mut Regs, core: &mut M, class: Class, kind: Kind, i: &Instr) -> bool
-    requires class { class ≡ class_of i.now.op }
-    requires kind { kind ≡ kind_of i.now.op }
-    requires fields { HasFields i.now }
-    requires ic { regs.old.ic < 2 ^ 15 }
-    ensures goes { result ≡ true → executed i.now regs.old (M.words core.old) ≡ went regs.new (M.words core.new) }
-    ensures regs { result ≡ false → regs.new ≡ regs.old }
-    ensures core { result ≡ false → M.words core.new ≡ M.words core.old }
-    ensures keeps { M.Keeps core.old core.new }
-    ensures ic { regs.new.ic < 2 ^ 15 }
-{
-    let Ok(y) = place(regs, core, class, i) else {
+    let Ok(y) = place_coded(regs, core, row.3, word) else {
         return false;
     };
-    match kind {
-        Kind::Fixed => go_fixed(regs, core, i, y),
-        Kind::Logic => go_logic(regs, core, i, y),
-        Kind::Index => go_index(regs, core, i, y),
-        _ => false,
+    match go_at(regs, core, row, word, y) {
+        OpEnd::Went => true,
+        OpEnd::Halt | OpEnd::Outside(_) => false,
     }
 }
 
-/// Does an operation of the group at the place `y` if it goes on and is no DVH; else nothing.
+/// Does the operation of a row at the place `y`, with the other fields of a word; but for those that `is_apart`
+/// names: these are not done, and the answer is `Halt`. One jump leads to each operation that programs do most, and
+/// two to the others.
 #[inline(always)]
-fn go_fixed<M: MemoryPort>(regs: &mut Regs, core: &mut M, i: &Instr, y: u16) -> bool
-    requires kind { kind_of i.now.op ≡ Kind.Fixed }
-    requires fields { HasFields i.now }
+#[tactic(auto, using(crate::proofs::Goes::stands))]
+fn go_at<M: MemoryPort>(regs: &mut Regs, core: &mut M, known: &Row, word: Word, y: u16) -> OpEnd
+    requires class { known.now.3 ≢ Class.Prefixed }
     requires y { y < 2 ^ 15 }
     requires ic { regs.old.ic < 2 ^ 15 }
-    ensures goes { result ≡ true → fixed_row i.now.op i.now regs.old (M.words core.old) y
-        ≡ went regs.new (M.words core.new) }
-    ensures regs { result ≡ false → regs.new ≡ regs.old }
-    ensures core { result ≡ false → M.words core.new ≡ M.words core.old }
+    ensures row { is_apart known.now.0 ≡ false → ended result regs.new (M.words core.new)
+        ≡ row (kind_of known.now.0) (fields_for known.now.3 word known.now) regs.old (M.words core.old) y }
+    ensures apart { is_apart known.now.0 ≡ true → result ≡ OpEnd.Halt }
+    ensures stands { Stands result regs.old regs.new (M.words core.old) (M.words core.new) }
     ensures keeps { M.Keeps core.old core.new }
     ensures ic { regs.new.ic < 2 ^ 15 }
 {
-    if may_halt(i.op) {
-        return false;
+    match known.0 {
+        Op::Dvh | Op::Htr | Op::Hpr | Op::Xec | Op::Tia => OpEnd::Halt,
+        Op::Cla => ops_fixed::load_or_store(regs, core, &instr_coded(known, word), y),
+        Op::Sto => ops_fixed::load_or_store(regs, core, &instr_coded(known, word), y),
+        Op::Ldq => ops_fixed::load_or_store(regs, core, &instr_coded(known, word), y),
+        Op::Cls | Op::Stz | Op::Stq => ops_fixed::load_or_store(
+            regs,
+            core,
+            &instr_coded(known, word),
+            y,
+        ),
+        Op::Slq | Op::Sta | Op::Std | Op::Stt | Op::Stl | Op::Stp => ops_fixed::store_part(
+            regs,
+            core,
+            &instr_coded(known, word),
+            y,
+        ),
+        Op::Add => ops_fixed::sum(regs, core, &instr_coded(known, word), y),
+        Op::Sub => ops_fixed::sum(regs, core, &instr_coded(known, word), y),
+        Op::Adm | Op::Sbm => ops_fixed::sum(regs, core, &instr_coded(known, word), y),
+        Op::Mpy | Op::Mpr | Op::Dvp => ops_fixed::product(regs, core, &instr_coded(known, word), y),
+        Op::Cas | Op::Zet | Op::Nzt | Op::Lbt | Op::Pbt | Op::Dct => ops_fixed::test(
+            regs,
+            core,
+            &instr_coded(known, word),
+            y,
+        ),
+        Op::Xca | Op::Clm | Op::Chs | Op::Ssp | Op::Ssm | Op::Com | Op::Rnd => ops_fixed::change(
+            regs,
+            core,
+            &instr_coded(known, word),
+            y,
+        ),
+        Op::Cal => ops_logic::load_or_store(regs, core, &instr_coded(known, word), y),
+        Op::Slw => ops_logic::load_or_store(regs, core, &instr_coded(known, word), y),
+        Op::Ldi | Op::Sti => ops_logic::load_or_store(regs, core, &instr_coded(known, word), y),
+        Op::Ana => ops_logic::combine(regs, core, &instr_coded(known, word), y),
+        Op::Ora => ops_logic::combine(regs, core, &instr_coded(known, word), y),
+        Op::Acl | Op::Era | Op::Ans | Op::Ors | Op::Las => ops_logic::combine(
+            regs,
+            core,
+            &instr_coded(known, word),
+            y,
+        ),
+        Op::Xcl | Op::Als | Op::Ars | Op::Lls | Op::Lrs | Op::Lgl | Op::Lgr | Op::Rql =>
+            ops_logic::shift(regs, core, &instr_coded(known, word), y),
+        Op::Pai | Op::Pia | Op::Oai | Op::Iia | Op::Ria | Op::Tio | Op::Tif => ops_logic::indicate(
+            regs,
+            core,
+            &instr_coded(known, word),
+            y,
+        ),
+        Op::Osi | Op::Iis | Op::Ris | Op::Ont | Op::Oft => ops_logic::indicate_by_word(
+            regs,
+            core,
+            &instr_coded(known, word),
+            y,
+        ),
+        Op::Sir | Op::Sil | Op::Rir | Op::Ril | Op::Rnt | Op::Lnt | Op::Rft | Op::Lft =>
+            ops_logic::indicate_by_half(regs, core, &instr_coded(known, word), y),
+        Op::Lxa
+        | Op::Lxd
+        | Op::Lac
+        | Op::Ldc
+        | Op::Axt
+        | Op::Axc
+        | Op::Pax
+        | Op::Pdx
+        | Op::Pac
+        | Op::Pdc => ops_index::load_index(regs, core, &instr_coded(known, word), y),
+        Op::Sxa | Op::Sxd | Op::Sca | Op::Scd | Op::Pxa | Op::Pxd | Op::Pca | Op::Pcd =>
+            ops_index::store_index(regs, core, &instr_coded(known, word), y),
+        Op::Tra => ops_index::transfer(regs, core, &instr_coded(known, word), y),
+        Op::Tze => ops_index::transfer(regs, core, &instr_coded(known, word), y),
+        Op::Tnz => ops_index::transfer(regs, core, &instr_coded(known, word), y),
+        Op::Tpl | Op::Tmi | Op::Tov | Op::Tno | Op::Tqp | Op::Tlq | Op::Tsx => ops_index::transfer(
+            regs,
+            core,
+            &instr_coded(known, word),
+            y,
+        ),
+        Op::Txi | Op::Tix | Op::Tnx | Op::Txh | Op::Txl => ops_index::count(
+            regs,
+            core,
+            &instr_coded(known, word),
+            y,
+        ),
+        Op::Nop => ops_index::pass(regs, core, &instr_coded(known, word), y),
     }
-    match ops_fixed::apply(regs, core, i, y) {
-        OpEnd::Went => true,
-        OpEnd::Halt => unreachable!(),
-        OpEnd::Outside(_) => false,
-    }
-}
-
-/// Does an operation of the group at the place `y` if it goes on; else nothing.
-#[inline(always)]
-fn go_logic<M: MemoryPort>(regs: &mut Regs, core: &mut M, i: &Instr, y: u16) -> bool
-    requires kind { kind_of i.now.op ≡ Kind.Logic }
-    requires fields { HasFields i.now }
-    requires y { y < 2 ^ 15 }
-    requires ic { regs.old.ic < 2 ^ 15 }
-    ensures goes { result ≡ true → logic_row i.now.op i.now regs.old (M.words core.old) y
-        ≡ went regs.new (M.words core.new) }
-    ensures regs { result ≡ false → regs.new ≡ regs.old }
-    ensures core { result ≡ false → M.words core.new ≡ M.words core.old }
-    ensures keeps { M.Keeps core.old core.new }
-    ensures ic { regs.new.ic < 2 ^ 15 }
-{
-    if may_halt(i.op) {
-        return false;
-    }
-    match ops_logic::apply(regs, core, i, y) {
-        OpEnd::Went => true,
-        OpEnd::Halt => unreachable!(),
-        OpEnd::Outside(_) => false,
-    }
-}
-
-/// Does an operation of the group at the place `y` if it goes on; else nothing.
-#[inline(always)]
-fn go_index<M: MemoryPort>(regs: &mut Regs, core: &mut M, i: &Instr, y: u16) -> bool
-    requires kind { kind_of i.now.op ≡ Kind.Index }
-    requires fields { HasFields i.now }
-    requires y { y < 2 ^ 15 }
-    requires ic { regs.old.ic < 2 ^ 15 }
-    ensures goes { result ≡ true → index_row i.now.op i.now regs.old (M.words core.old) y
-        ≡ went regs.new (M.words core.new) }
-    ensures regs { result ≡ false → regs.new ≡ regs.old }
-    ensures core { result ≡ false → M.words core.new ≡ M.words core.old }
-    ensures keeps { M.Keeps core.old core.new }
-    ensures ic { regs.new.ic < 2 ^ 15 }
-{
-    if may_halt(i.op) {
-        return false;
-    }
-    match ops_index::apply(regs, core, i, y) {
-        OpEnd::Went => true,
-        OpEnd::Halt => unreachable!(),
-        OpEnd::Outside(_) => false,
-    }
-}
-
-/// Whether an operation is one of those that may halt.
-#[inline(always)]
-fn may_halt(op: Op) -> bool
-    ensures { result ≡ may_halt op }
-{
-    matches!(op, Op::Dvh | Op::Htr | Op::Hpr)
 }
 
 /// Does an instruction of a class and a group.
@@ -426,7 +479,11 @@ fn place<M: MemoryPort>(regs: &Regs, core: &M, class: Class, i: &Instr) -> Resul
 {
     match class {
         Class::Addressed => {
-            let y = indexed(i.address, regs.xr(i.tag));
+            let y = if i.tag == 0 {
+                i.address
+            } else {
+                indexed(i.address, regs.xr(i.tag))
+            };
             if !i.flag {
                 return Ok(y);
             }
@@ -438,4 +495,68 @@ fn place<M: MemoryPort>(regs: &Regs, core: &M, class: Class, i: &Instr) -> Resul
         Class::Direct => Ok(indexed(i.address, regs.xr(i.tag))),
         Class::Tagged | Class::Prefixed | Class::Group => Ok(i.address),
     }
+}
+
+/// The place that an instruction works at whose fields stand in a word, by the class of its row; or the address
+/// outside.
+#[inline(always)]
+fn place_coded<M: MemoryPort>(regs: &Regs, core: &M, class: Class, word: Word) -> Result<u16, u16>
+    ensures place { (r : Row) → result ≡ place_of class (fields_for class word r) regs.now (M.words core.now) }
+    ensures below { IfOk result (λ y. y < 2 ^ 15) }
+{
+    match class {
+        Class::Addressed | Class::Direct => {
+            let y = place_in(regs, word);
+            if !is_flagged(word) || !is_addressed(class) {
+                return Ok(y);
+            }
+            let Ok(word) = core.load(y) else {
+                return Err(y);
+            };
+            Ok(place_in(regs, word))
+        }
+        Class::Tagged | Class::Prefixed => Ok(word.address()),
+        Class::Group => Ok(0),
+    }
+}
+
+/// Whether a flag counts.
+#[inline(always)]
+fn is_addressed(class: Class) -> bool
+    ensures { result ≡ is_addressed class }
+{
+    match class {
+        Class::Addressed => true,
+        Class::Direct | Class::Tagged | Class::Prefixed | Class::Group => false,
+    }
+}
+
+/// Whether a word's flag is set: both its positions.
+#[inline(always)]
+fn is_flagged(word: Word) -> bool
+    ensures { result ≡ nat_eq (word / 2 ^ 22 % 4) 3 }
+{
+    word.bits() >> 22 & 3 == 3
+}
+
+/// Whether a word's tag is not 0.
+#[inline(always)]
+#[tactic(auto, using(crate::proofs::Tags::no_tag))]
+fn is_tagged(word: Word) -> bool
+    ensures { result ≡ false → tag_of word ≡ 0 }
+{
+    word.bits() & 0o700000 != 0
+}
+
+/// The place that a word's address and tag name. Mostly the tag is 0, and then it is the address.
+#[inline(always)]
+#[tactic(auto, using(crate::proofs::Tags::untagged))]
+fn place_in(regs: &Regs, word: Word) -> u16
+    ensures place { result ≡ place_in regs.now word }
+    ensures below { result < 2 ^ 15 }
+{
+    if !is_tagged(word) {
+        return word.address();
+    }
+    indexed(word.address(), regs.xr(word.tag()))
 }

@@ -16,3 +16,9 @@ abbrev pub Keeps : OpEnd → Regs → Regs → List ℕ → List ℕ → Type 0
 Keeps (Outside a) r s core d = (s ≡ r) × (d ≡ core)
 Keeps Went r s core d = Unit {0}
 Keeps Halt r s core d = d ≡ core
+
+-- an operation that doesn't halt
+abbrev pub Goes : OpEnd → Type 0
+Goes Went = Unit {0}
+Goes Halt = ⊥
+Goes (Outside a) = Unit {0}

@@ -1,8 +1,13 @@
 -- The numbers of packed words, over plain variables.
-use Rattle.std.proofs.Common.{◌≡◌, ◌≢◌, ℕ, Bool, true, false, not, nat_lt, nat_le, nat_eq, ◌+◌, ◌-◌, ◌*◌, ◌/◌, ◌%◌, ◌^◌, ◌<◌, arith, ◌&&◌, if◌then◌else◌}
+use Rattle.std.proofs.Common.{◌≡◌, ◌≢◌, ℕ, Bool, true, false, not, nat_lt, nat_le, nat_eq, ◌+◌, ◌-◌, ◌*◌, ◌/◌, ◌%◌, ◌^◌, ◌<◌, arith, ◌&&◌, if◌then◌else◌, bit_and, ◌∙◌}
 use Rattle.std.proofs.lemmas.Bool.Decides.{nat_tests}
+use Rattle.std.proofs.lemmas.Nat.{and_mask}
 use Rattle.opcode_table.specs.Words.{number_in}
-use Rattle.word36.specs.Bits.{tag_of, prefix_of}
+use Rattle.word36.specs.Bits.{prefix_of}
+
+-- the low three bits of a number that has no others
+pub low_three : (k : ℕ) → k < 8 → bit_and k 7 ≡ k
+low_three k below = and_mask k 3 ∙ omega arith
 
 pub prefix_number : (w k : ℕ) → k ≡ prefix_of w → prefix_of w % 4 ≢ 0 → number_in w ≡ 0o10000 + k
 prefix_number w k e n = grind (arith, nat_tests)

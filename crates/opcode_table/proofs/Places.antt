@@ -25,13 +25,10 @@ follows number i [] = true
 follows number i (v ∷ vs) = nat_eq v (place_with_number (number i)) && follows number (suc i) vs
 
 -- the numbers of the places
-abbrev code_number : ℕ → ℕ
-code_number i = i / 2 ^ 9 * 2 ^ 11 + i % 2 ^ 9
-
 abbrev group_number : ℕ → ℕ
 group_number i = 0o20000 + i / 2 ^ 4 * 0o100000 + i % 2 ^ 4
 
-codes_follow : follows code_number 0 CODES ≡ true
+codes_follow : follows (λ i. i) 0 CODES ≡ true
 unfolding follows place_with_number
 codes_follow = refl
 
@@ -51,8 +48,8 @@ group_follows : follows group_number 0 GROUP ≡ true
 unfolding follows place_with_number
 group_follows = refl
 
-code_place : (p n : ℕ) → p < 1024 → n ≡ code_number p → slice_index_or CODES p 0 ≡ place_with_number n
-code_place p n below e = follows_at code_number 0 CODES p p codes_follow below (omega arith) ∙ ap place_with_number (sym e)
+code_place : (n : ℕ) → n < 2560 → slice_index_or CODES n 0 ≡ place_with_number n
+code_place n below = follows_at (λ i. i) 0 CODES n n codes_follow below (omega arith)
 
 group_place : (p n : ℕ) → p < 32 → n ≡ group_number p → slice_index_or GROUP p 0 ≡ place_with_number n
 group_place p n below e = follows_at group_number 0 GROUP p p group_follows below (omega arith) ∙ ap place_with_number (sym e)
@@ -85,9 +82,9 @@ number_group : (w : ℕ) → prefix_of w % 4 ≡ 0 → w / 2 ^ 24 % 2 ^ 11 ≡ 0
 number_group w e n = grind (arith, nat_tests)
 
 -- what the code reads, in its words
-pub code_returns : (w i : ℕ) → w < 2 ^ 36 → prefix_of w % 4 ≡ 0 → i ≡ w / 2 ^ 24 / 2 ^ 11 * 2 ^ 9 + w / 2 ^ 24 % 2 ^ 9
-    → slice_index_or CODES i 0 ≡ place_with_number (w / 2 ^ 24)
-code_returns w i below p e = code_place i (w / 2 ^ 24) (omega arith) (omega arith)
+pub code_returns : (w bits : ℕ) → bits ≡ w → bits < 2 ^ 36 → prefix_of w % 4 ≡ 0
+    → slice_index_or CODES (bits / 2 ^ 24) 0 ≡ place_with_number (w / 2 ^ 24)
+code_returns w bits e below p = code_place (bits / 2 ^ 24) (omega arith) ∙ ap (λ b. place_with_number (b / 2 ^ 24)) e
 
 pub group_returns : (w bits address : ℕ) → bits ≡ w → bits < 2 ^ 36 → prefix_of w % 4 ≡ 0 → bit_and (bits / 2 ^ 24) 0o3777 ≡ 0o760
     → address ≡ address_of w → address < 16 → slice_index_or GROUP (bits / 2 ^ 24 / 2 ^ 11 * 2 ^ 4 % 2 ^ 64 + address) 0 ≡ place_with_number (number_in w)

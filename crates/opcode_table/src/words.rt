@@ -76,10 +76,14 @@ fn prefixed(prefix: u8) -> Option<Op>
     ensures class { IfSome result (λ op. class_of op ≡ Class.Prefixed) }
     ensures kind { IfSome result (λ op. kind_of op ≡ Kind.Index) }
 {
-    match prefix {
+    // All eight are told, so that no test of the range stands before the jump.
+    match prefix & 7 {
+        0 => None,
         1 => Some(Op::Txi),
         2 => Some(Op::Tix),
         3 => Some(Op::Txh),
+        4 => None,
+        5 => None,
         6 => Some(Op::Tnx),
         7 => Some(Op::Txl),
         _ => None,

@@ -31,12 +31,11 @@ is_sum op.Adm = true
 is_sum op.Sbm = true
 is_sum _ = false
 
--- products and quotients
+-- products and quotients; DVH, which may halt, stands by itself
 abbrev pub is_product : Op → Bool
 is_product op.Mpy = true
 is_product op.Mpr = true
 is_product op.Dvp = true
-is_product op.Dvh = true
 is_product _ = false
 
 -- tests that skip

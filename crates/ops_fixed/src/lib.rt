@@ -5,7 +5,7 @@ ghost use Rattle.std.specs.Prelude.{◌≡◌, ◌<◌, ◌^◌, not, true, fals
 ghost use Rattle.opcode_table.specs.Table.{kind_of};
 ghost use Rattle.opcode_table.specs.Words.{HasFields};
 ghost use Rattle.machine_model.specs.Fixed.{fixed_row};
-ghost use Rattle.machine_model.specs.Results.{ended, Keeps};
+ghost use Rattle.machine_model.specs.Results.{ended, Goes, Keeps};
 ghost use Rattle.word36.specs.Bits.{is_minus, magnitude_of};
 ghost use Rattle.arith36.specs.Arith.{sum_of, product_of};
 ghost use Rattle.machine_model.specs.Fixed.{round, with_left, with_tag, with_prefix};
@@ -38,7 +38,8 @@ pub fn apply<M: MemoryPort>(regs: &mut Regs, core: &mut M, i: &Instr, y: u16) ->
         ),
         Op::Slq | Op::Sta | Op::Std | Op::Stt | Op::Stl | Op::Stp => store_part(regs, core, i, y),
         Op::Add | Op::Sub | Op::Adm | Op::Sbm => sum(regs, core, i, y),
-        Op::Mpy | Op::Mpr | Op::Dvp | Op::Dvh => product(regs, core, i, y),
+        Op::Mpy | Op::Mpr | Op::Dvp => product(regs, core, i, y),
+        Op::Dvh => divide_or_halt(regs, core, i, y),
         Op::Cas | Op::Zet | Op::Nzt | Op::Lbt | Op::Pbt | Op::Dct => test(regs, core, i, y),
         Op::Xca | Op::Clm | Op::Chs | Op::Ssp | Op::Ssm | Op::Com | Op::Rnd => change(
             regs, core, i, y,
@@ -49,13 +50,14 @@ pub fn apply<M: MemoryPort>(regs: &mut Regs, core: &mut M, i: &Instr, y: u16) ->
 
 /// Loads a register from the word at `y`, or stores a register or zero there.
 #[inline(always)]
-fn load_or_store<M: MemoryPort>(regs: &mut Regs, core: &mut M, i: &Instr, y: u16) -> OpEnd
+pub fn load_or_store<M: MemoryPort>(regs: &mut Regs, core: &mut M, i: &Instr, y: u16) -> OpEnd
     requires family { is_load_or_store i.now.op ≡ true }
     requires fields { HasFields i.now }
     requires y { y < 2 ^ 15 }
     requires ic { regs.old.ic < 2 ^ 15 }
     ensures row { ended result regs.new (M.words core.new) ≡ fixed_row i.now.op i.now regs.old (M.words core.old) y }
     ensures outside { Keeps result regs.old regs.new (M.words core.old) (M.words core.new) }
+    ensures goes { Goes result }
     ensures keeps { M.Keeps core.old core.new }
     ensures ic { regs.new.ic < 2 ^ 15 }
 {
@@ -111,13 +113,14 @@ fn load_or_store<M: MemoryPort>(regs: &mut Regs, core: &mut M, i: &Instr, y: u16
 
 /// Stores a part of a register in the word at `y`.
 #[inline(always)]
-fn store_part<M: MemoryPort>(regs: &mut Regs, core: &mut M, i: &Instr, y: u16) -> OpEnd
+pub fn store_part<M: MemoryPort>(regs: &mut Regs, core: &mut M, i: &Instr, y: u16) -> OpEnd
     requires family { is_part_store i.now.op ≡ true }
     requires fields { HasFields i.now }
     requires y { y < 2 ^ 15 }
     requires ic { regs.old.ic < 2 ^ 15 }
     ensures row { ended result regs.new (M.words core.new) ≡ fixed_row i.now.op i.now regs.old (M.words core.old) y }
     ensures outside { Keeps result regs.old regs.new (M.words core.old) (M.words core.new) }
+    ensures goes { Goes result }
     ensures keeps { M.Keeps core.old core.new }
     ensures ic { regs.new.ic < 2 ^ 15 }
 {
@@ -179,13 +182,14 @@ fn store_part<M: MemoryPort>(regs: &mut Regs, core: &mut M, i: &Instr, y: u16) -
 
 /// Adds or subtracts the word at `y`.
 #[inline(always)]
-fn sum<M: MemoryPort>(regs: &mut Regs, core: &mut M, i: &Instr, y: u16) -> OpEnd
+pub fn sum<M: MemoryPort>(regs: &mut Regs, core: &mut M, i: &Instr, y: u16) -> OpEnd
     requires family { is_sum i.now.op ≡ true }
     requires fields { HasFields i.now }
     requires y { y < 2 ^ 15 }
     requires ic { regs.old.ic < 2 ^ 15 }
     ensures row { ended result regs.new (M.words core.new) ≡ fixed_row i.now.op i.now regs.old (M.words core.old) y }
     ensures outside { Keeps result regs.old regs.new (M.words core.old) (M.words core.new) }
+    ensures goes { Goes result }
     ensures keeps { M.Keeps core.old core.new }
     ensures ic { regs.new.ic < 2 ^ 15 }
 {
@@ -228,13 +232,14 @@ fn sum<M: MemoryPort>(regs: &mut Regs, core: &mut M, i: &Instr, y: u16) -> OpEnd
 
 /// Multiplies or divides by the word at `y`.
 #[inline(always)]
-fn product<M: MemoryPort>(regs: &mut Regs, core: &mut M, i: &Instr, y: u16) -> OpEnd
+pub fn product<M: MemoryPort>(regs: &mut Regs, core: &mut M, i: &Instr, y: u16) -> OpEnd
     requires family { is_product i.now.op ≡ true }
     requires fields { HasFields i.now }
     requires y { y < 2 ^ 15 }
     requires ic { regs.old.ic < 2 ^ 15 }
     ensures row { ended result regs.new (M.words core.new) ≡ fixed_row i.now.op i.now regs.old (M.words core.old) y }
     ensures outside { Keeps result regs.old regs.new (M.words core.old) (M.words core.new) }
+    ensures goes { Goes result }
     ensures keeps { M.Keeps core.old core.new }
     ensures ic { regs.new.ic < 2 ^ 15 }
 {
@@ -273,37 +278,50 @@ fn product<M: MemoryPort>(regs: &mut Regs, core: &mut M, i: &Instr, y: u16) -> O
                 }
             }
         }
-        Op::Dvh => {
-            let Ok(w) = core.load(y) else {
-                return OpEnd::Outside(y);
-            };
-            match dvp(regs.ac, regs.mq, w) {
-                Divide::Divided(pair) => {
-                    regs.ac.set(pair.acc.negative(), pair.acc.magnitude());
-                    regs.mq = pair.mq;
-                    regs.skip(1);
-                    OpEnd::Went
-                }
-                Divide::Check => {
-                    regs.divide_check = true;
-                    regs.skip(1);
-                    OpEnd::Halt
-                }
-            }
-        }
         _ => unreachable!(),
+    }
+}
+
+/// Divides by the word at `y`, or halts.
+#[inline(always)]
+fn divide_or_halt<M: MemoryPort>(regs: &mut Regs, core: &mut M, i: &Instr, y: u16) -> OpEnd
+    requires family { i.now.op ≡ Op.Dvh }
+    requires fields { HasFields i.now }
+    requires y { y < 2 ^ 15 }
+    requires ic { regs.old.ic < 2 ^ 15 }
+    ensures row { ended result regs.new (M.words core.new) ≡ fixed_row i.now.op i.now regs.old (M.words core.old) y }
+    ensures outside { Keeps result regs.old regs.new (M.words core.old) (M.words core.new) }
+    ensures keeps { M.Keeps core.old core.new }
+    ensures ic { regs.new.ic < 2 ^ 15 }
+{
+    let Ok(w) = core.load(y) else {
+        return OpEnd::Outside(y);
+    };
+    match dvp(regs.ac, regs.mq, w) {
+        Divide::Divided(pair) => {
+            regs.ac.set(pair.acc.negative(), pair.acc.magnitude());
+            regs.mq = pair.mq;
+            regs.skip(1);
+            OpEnd::Went
+        }
+        Divide::Check => {
+            regs.divide_check = true;
+            regs.skip(1);
+            OpEnd::Halt
+        }
     }
 }
 
 /// Tests the word at `y` or the registers, and skips.
 #[inline(always)]
-fn test<M: MemoryPort>(regs: &mut Regs, core: &mut M, i: &Instr, y: u16) -> OpEnd
+pub fn test<M: MemoryPort>(regs: &mut Regs, core: &mut M, i: &Instr, y: u16) -> OpEnd
     requires family { is_test i.now.op ≡ true }
     requires fields { HasFields i.now }
     requires y { y < 2 ^ 15 }
     requires ic { regs.old.ic < 2 ^ 15 }
     ensures row { ended result regs.new (M.words core.new) ≡ fixed_row i.now.op i.now regs.old (M.words core.old) y }
     ensures outside { Keeps result regs.old regs.new (M.words core.old) (M.words core.new) }
+    ensures goes { Goes result }
     ensures keeps { M.Keeps core.old core.new }
     ensures ic { regs.new.ic < 2 ^ 15 }
 {
@@ -349,13 +367,14 @@ fn test<M: MemoryPort>(regs: &mut Regs, core: &mut M, i: &Instr, y: u16) -> OpEn
 
 /// Changes the accumulator by itself, or exchanges it.
 #[inline(always)]
-fn change<M: MemoryPort>(regs: &mut Regs, core: &mut M, i: &Instr, y: u16) -> OpEnd
+pub fn change<M: MemoryPort>(regs: &mut Regs, core: &mut M, i: &Instr, y: u16) -> OpEnd
     requires family { is_change i.now.op ≡ true }
     requires fields { HasFields i.now }
     requires y { y < 2 ^ 15 }
     requires ic { regs.old.ic < 2 ^ 15 }
     ensures row { ended result regs.new (M.words core.new) ≡ fixed_row i.now.op i.now regs.old (M.words core.old) y }
     ensures outside { Keeps result regs.old regs.new (M.words core.old) (M.words core.new) }
+    ensures goes { Goes result }
     ensures keeps { M.Keeps core.old core.new }
     ensures ic { regs.new.ic < 2 ^ 15 }
 {
@@ -411,6 +430,7 @@ fn change<M: MemoryPort>(regs: &mut Regs, core: &mut M, i: &Instr, y: u16) -> Op
 }
 
 /// Adds a word to the accumulator.
+#[inline(always)]
 fn add_word(regs: &mut Regs, w: Word)
     ensures { regs.new ≡ with_sum regs.old (sum_of regs.old.ac (is_minus w) (magnitude_of w)) }
 {
@@ -420,6 +440,7 @@ fn add_word(regs: &mut Regs, w: Word)
 }
 
 /// Subtracts a word from the accumulator.
+#[inline(always)]
 fn subtract_word(regs: &mut Regs, w: Word)
     ensures { regs.new ≡ with_sum regs.old (sum_of regs.old.ac (not (is_minus w)) (magnitude_of w)) }
 {
@@ -429,6 +450,7 @@ fn subtract_word(regs: &mut Regs, w: Word)
 }
 
 /// Adds a word's magnitude to the accumulator.
+#[inline(always)]
 fn add_word_magnitude(regs: &mut Regs, w: Word)
     ensures { regs.new ≡ with_sum regs.old (sum_of regs.old.ac false (magnitude_of w)) }
 {
@@ -438,6 +460,7 @@ fn add_word_magnitude(regs: &mut Regs, w: Word)
 }
 
 /// Subtracts a word's magnitude from the accumulator.
+#[inline(always)]
 fn subtract_word_magnitude(regs: &mut Regs, w: Word)
     ensures { regs.new ≡ with_sum regs.old (sum_of regs.old.ac true (magnitude_of w)) }
 {

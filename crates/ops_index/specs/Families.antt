@@ -52,9 +52,8 @@ is_count op.Txh = true
 is_count op.Txl = true
 is_count _ = false
 
--- stops and the operation that does nothing
+-- stops
 abbrev pub is_stop : Op → Bool
-is_stop op.Nop = true
 is_stop op.Htr = true
 is_stop op.Hpr = true
 is_stop _ = false

@@ -5,7 +5,7 @@ ghost use Rattle.std.specs.Prelude.{◌≡◌, ◌<◌, ◌^◌, true};
 ghost use Rattle.opcode_table.specs.Table.{kind_of};
 ghost use Rattle.opcode_table.specs.Words.{HasFields};
 ghost use Rattle.machine_model.specs.Index.{index_row};
-ghost use Rattle.machine_model.specs.Results.{ended, Keeps};
+ghost use Rattle.machine_model.specs.Results.{ended, Goes, Keeps};
 ghost use Rattle.machine_model.specs.Step.{complement, acc_address, acc_decrement, is_greater};
 ghost use Rattle.ops_index.specs.Families.{is_index_load, is_index_store, is_transfer, is_count, is_stop};
 
@@ -50,20 +50,22 @@ pub fn apply<M: MemoryPort>(regs: &mut Regs, core: &mut M, i: &Instr, y: u16) ->
         | Op::Tlq
         | Op::Tsx => transfer(regs, core, i, y),
         Op::Txi | Op::Tix | Op::Tnx | Op::Txh | Op::Txl => count(regs, core, i, y),
-        Op::Nop | Op::Htr | Op::Hpr => stop(regs, core, i, y),
+        Op::Nop => pass(regs, core, i, y),
+        Op::Htr | Op::Hpr => stop(regs, core, i, y),
         _ => unreachable!(),
     }
 }
 
 /// Loads an index register.
 #[inline(always)]
-fn load_index<M: MemoryPort>(regs: &mut Regs, core: &mut M, i: &Instr, y: u16) -> OpEnd
+pub fn load_index<M: MemoryPort>(regs: &mut Regs, core: &mut M, i: &Instr, y: u16) -> OpEnd
     requires family { is_index_load i.now.op ≡ true }
     requires fields { HasFields i.now }
     requires y { y < 2 ^ 15 }
     requires ic { regs.old.ic < 2 ^ 15 }
     ensures row { ended result regs.new (M.words core.new) ≡ index_row i.now.op i.now regs.old (M.words core.old) y }
     ensures outside { Keeps result regs.old regs.new (M.words core.old) (M.words core.new) }
+    ensures goes { Goes result }
     ensures keeps { M.Keeps core.old core.new }
     ensures ic { regs.new.ic < 2 ^ 15 }
 {
@@ -136,13 +138,14 @@ fn load_index<M: MemoryPort>(regs: &mut Regs, core: &mut M, i: &Instr, y: u16) -
 
 /// Stores an index register.
 #[inline(always)]
-fn store_index<M: MemoryPort>(regs: &mut Regs, core: &mut M, i: &Instr, y: u16) -> OpEnd
+pub fn store_index<M: MemoryPort>(regs: &mut Regs, core: &mut M, i: &Instr, y: u16) -> OpEnd
     requires family { is_index_store i.now.op ≡ true }
     requires fields { HasFields i.now }
     requires y { y < 2 ^ 15 }
     requires ic { regs.old.ic < 2 ^ 15 }
     ensures row { ended result regs.new (M.words core.new) ≡ index_row i.now.op i.now regs.old (M.words core.old) y }
     ensures outside { Keeps result regs.old regs.new (M.words core.old) (M.words core.new) }
+    ensures goes { Goes result }
     ensures keeps { M.Keeps core.old core.new }
     ensures ic { regs.new.ic < 2 ^ 15 }
 {
@@ -209,13 +212,14 @@ fn store_index<M: MemoryPort>(regs: &mut Regs, core: &mut M, i: &Instr, y: u16) 
 
 /// Transfers by the registers and indicators.
 #[inline(always)]
-fn transfer<M: MemoryPort>(regs: &mut Regs, core: &mut M, i: &Instr, y: u16) -> OpEnd
+pub fn transfer<M: MemoryPort>(regs: &mut Regs, core: &mut M, i: &Instr, y: u16) -> OpEnd
     requires family { is_transfer i.now.op ≡ true }
     requires fields { HasFields i.now }
     requires y { y < 2 ^ 15 }
     requires ic { regs.old.ic < 2 ^ 15 }
     ensures row { ended result regs.new (M.words core.new) ≡ index_row i.now.op i.now regs.old (M.words core.old) y }
     ensures outside { Keeps result regs.old regs.new (M.words core.old) (M.words core.new) }
+    ensures goes { Goes result }
     ensures keeps { M.Keeps core.old core.new }
     ensures ic { regs.new.ic < 2 ^ 15 }
 {
@@ -271,13 +275,14 @@ fn transfer<M: MemoryPort>(regs: &mut Regs, core: &mut M, i: &Instr, y: u16) -> 
 
 /// Counts an index register and transfers.
 #[inline(always)]
-fn count<M: MemoryPort>(regs: &mut Regs, core: &mut M, i: &Instr, y: u16) -> OpEnd
+pub fn count<M: MemoryPort>(regs: &mut Regs, core: &mut M, i: &Instr, y: u16) -> OpEnd
     requires family { is_count i.now.op ≡ true }
     requires fields { HasFields i.now }
     requires y { y < 2 ^ 15 }
     requires ic { regs.old.ic < 2 ^ 15 }
     ensures row { ended result regs.new (M.words core.new) ≡ index_row i.now.op i.now regs.old (M.words core.old) y }
     ensures outside { Keeps result regs.old regs.new (M.words core.old) (M.words core.new) }
+    ensures goes { Goes result }
     ensures keeps { M.Keeps core.old core.new }
     ensures ic { regs.new.ic < 2 ^ 15 }
 {
@@ -319,7 +324,24 @@ fn count<M: MemoryPort>(regs: &mut Regs, core: &mut M, i: &Instr, y: u16) -> OpE
     }
 }
 
-/// Stops, or does nothing.
+/// Does nothing.
+#[inline(always)]
+pub fn pass<M: MemoryPort>(regs: &mut Regs, core: &mut M, i: &Instr, y: u16) -> OpEnd
+    requires family { i.now.op ≡ Op.Nop }
+    requires fields { HasFields i.now }
+    requires y { y < 2 ^ 15 }
+    requires ic { regs.old.ic < 2 ^ 15 }
+    ensures row { ended result regs.new (M.words core.new) ≡ index_row i.now.op i.now regs.old (M.words core.old) y }
+    ensures outside { Keeps result regs.old regs.new (M.words core.old) (M.words core.new) }
+    ensures goes { Goes result }
+    ensures keeps { M.Keeps core.old core.new }
+    ensures ic { regs.new.ic < 2 ^ 15 }
+{
+    regs.skip(1);
+    OpEnd::Went
+}
+
+/// Stops.
 #[inline(always)]
 fn stop<M: MemoryPort>(regs: &mut Regs, core: &mut M, i: &Instr, y: u16) -> OpEnd
     requires family { is_stop i.now.op ≡ true }
@@ -332,10 +354,6 @@ fn stop<M: MemoryPort>(regs: &mut Regs, core: &mut M, i: &Instr, y: u16) -> OpEn
     ensures ic { regs.new.ic < 2 ^ 15 }
 {
     match i.op {
-        Op::Nop => {
-            regs.skip(1);
-            OpEnd::Went
-        }
         Op::Htr => {
             regs.jump(y);
             OpEnd::Halt

@@ -5,7 +5,7 @@ ghost use Rattle.std.specs.Prelude.{◌≡◌, ◌<◌, ◌*◌, ◌^◌, bit_an
 ghost use Rattle.opcode_table.specs.Table.{kind_of};
 ghost use Rattle.opcode_table.specs.Words.{HasFields};
 ghost use Rattle.machine_model.specs.Logic.{logic_row};
-ghost use Rattle.machine_model.specs.Results.{ended, Keeps};
+ghost use Rattle.machine_model.specs.Results.{ended, Goes, Keeps};
 ghost use Rattle.shift36.specs.Shift.{acc_left, long_left, long_right, logical_left, logical_right};
 ghost use Rattle.machine_model.specs.Logic.{count_of};
 ghost use Rattle.machine_model.specs.Step.{past, with_sum, with_shifted, with_logic, without, has_ones, has_zeros, half_of};
@@ -49,13 +49,14 @@ pub fn apply<M: MemoryPort>(regs: &mut Regs, core: &mut M, i: &Instr, y: u16) ->
 
 /// Loads the accumulator or the indicators from the word at `y`, or stores them there.
 #[inline(always)]
-fn load_or_store<M: MemoryPort>(regs: &mut Regs, core: &mut M, i: &Instr, y: u16) -> OpEnd
+pub fn load_or_store<M: MemoryPort>(regs: &mut Regs, core: &mut M, i: &Instr, y: u16) -> OpEnd
     requires family { is_load_or_store i.now.op ≡ true }
     requires fields { HasFields i.now }
     requires y { y < 2 ^ 15 }
     requires ic { regs.old.ic < 2 ^ 15 }
     ensures row { ended result regs.new (M.words core.new) ≡ logic_row i.now.op i.now regs.old (M.words core.old) y }
     ensures outside { Keeps result regs.old regs.new (M.words core.old) (M.words core.new) }
+    ensures goes { Goes result }
     ensures keeps { M.Keeps core.old core.new }
     ensures ic { regs.new.ic < 2 ^ 15 }
 {
@@ -96,13 +97,14 @@ fn load_or_store<M: MemoryPort>(regs: &mut Regs, core: &mut M, i: &Instr, y: u16
 
 /// Combines the accumulator with the word at `y`.
 #[inline(always)]
-fn combine<M: MemoryPort>(regs: &mut Regs, core: &mut M, i: &Instr, y: u16) -> OpEnd
+pub fn combine<M: MemoryPort>(regs: &mut Regs, core: &mut M, i: &Instr, y: u16) -> OpEnd
     requires family { is_combination i.now.op ≡ true }
     requires fields { HasFields i.now }
     requires y { y < 2 ^ 15 }
     requires ic { regs.old.ic < 2 ^ 15 }
     ensures row { ended result regs.new (M.words core.new) ≡ logic_row i.now.op i.now regs.old (M.words core.old) y }
     ensures outside { Keeps result regs.old regs.new (M.words core.old) (M.words core.new) }
+    ensures goes { Goes result }
     ensures keeps { M.Keeps core.old core.new }
     ensures ic { regs.new.ic < 2 ^ 15 }
 {
@@ -170,13 +172,14 @@ fn combine<M: MemoryPort>(regs: &mut Regs, core: &mut M, i: &Instr, y: u16) -> O
 
 /// Shifts.
 #[inline(always)]
-fn shift<M: MemoryPort>(regs: &mut Regs, core: &mut M, i: &Instr, y: u16) -> OpEnd
+pub fn shift<M: MemoryPort>(regs: &mut Regs, core: &mut M, i: &Instr, y: u16) -> OpEnd
     requires family { is_shift i.now.op ≡ true }
     requires fields { HasFields i.now }
     requires y { y < 2 ^ 15 }
     requires ic { regs.old.ic < 2 ^ 15 }
     ensures row { ended result regs.new (M.words core.new) ≡ logic_row i.now.op i.now regs.old (M.words core.old) y }
     ensures outside { Keeps result regs.old regs.new (M.words core.old) (M.words core.new) }
+    ensures goes { Goes result }
     ensures keeps { M.Keeps core.old core.new }
     ensures ic { regs.new.ic < 2 ^ 15 }
 {
@@ -230,13 +233,14 @@ fn shift<M: MemoryPort>(regs: &mut Regs, core: &mut M, i: &Instr, y: u16) -> OpE
 
 /// Does an operation of the indicators with the accumulator.
 #[inline(always)]
-fn indicate<M: MemoryPort>(regs: &mut Regs, core: &mut M, i: &Instr, y: u16) -> OpEnd
+pub fn indicate<M: MemoryPort>(regs: &mut Regs, core: &mut M, i: &Instr, y: u16) -> OpEnd
     requires family { is_of_accumulator i.now.op ≡ true }
     requires fields { HasFields i.now }
     requires y { y < 2 ^ 15 }
     requires ic { regs.old.ic < 2 ^ 15 }
     ensures row { ended result regs.new (M.words core.new) ≡ logic_row i.now.op i.now regs.old (M.words core.old) y }
     ensures outside { Keeps result regs.old regs.new (M.words core.old) (M.words core.new) }
+    ensures goes { Goes result }
     ensures keeps { M.Keeps core.old core.new }
     ensures ic { regs.new.ic < 2 ^ 15 }
 {
@@ -281,13 +285,14 @@ fn indicate<M: MemoryPort>(regs: &mut Regs, core: &mut M, i: &Instr, y: u16) -> 
 
 /// Does an operation of the indicators with the word at `y`.
 #[inline(always)]
-fn indicate_by_word<M: MemoryPort>(regs: &mut Regs, core: &mut M, i: &Instr, y: u16) -> OpEnd
+pub fn indicate_by_word<M: MemoryPort>(regs: &mut Regs, core: &mut M, i: &Instr, y: u16) -> OpEnd
     requires family { is_of_word i.now.op ≡ true }
     requires fields { HasFields i.now }
     requires y { y < 2 ^ 15 }
     requires ic { regs.old.ic < 2 ^ 15 }
     ensures row { ended result regs.new (M.words core.new) ≡ logic_row i.now.op i.now regs.old (M.words core.old) y }
     ensures outside { Keeps result regs.old regs.new (M.words core.old) (M.words core.new) }
+    ensures goes { Goes result }
     ensures keeps { M.Keeps core.old core.new }
     ensures ic { regs.new.ic < 2 ^ 15 }
 {
@@ -336,13 +341,14 @@ fn indicate_by_word<M: MemoryPort>(regs: &mut Regs, core: &mut M, i: &Instr, y: 
 
 /// Does an operation of the indicators with half a word of the instruction.
 #[inline(always)]
-fn indicate_by_half<M: MemoryPort>(regs: &mut Regs, core: &mut M, i: &Instr, y: u16) -> OpEnd
+pub fn indicate_by_half<M: MemoryPort>(regs: &mut Regs, core: &mut M, i: &Instr, y: u16) -> OpEnd
     requires family { is_of_half i.now.op ≡ true }
     requires fields { HasFields i.now }
     requires y { y < 2 ^ 15 }
     requires ic { regs.old.ic < 2 ^ 15 }
     ensures row { ended result regs.new (M.words core.new) ≡ logic_row i.now.op i.now regs.old (M.words core.old) y }
     ensures outside { Keeps result regs.old regs.new (M.words core.old) (M.words core.new) }
+    ensures goes { Goes result }
     ensures keeps { M.Keeps core.old core.new }
     ensures ic { regs.new.ic < 2 ^ 15 }
 {

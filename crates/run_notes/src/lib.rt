@@ -2,7 +2,7 @@
 //! system_model `Cases`.
 #![tactic(auto)]
 
-ghost use Rattle.std.specs.Prelude.{◌≡◌, ◌<◌, ◌≤◌, ◌+◌, ◌-◌, ◌^◌, ◌++◌, ◌∷◌, [], vec_len, vec_capacity, option_to_list};
+ghost use Rattle.std.specs.Prelude.{◌≡◌, ◌<◌, ◌≤◌, ◌+◌, ◌-◌, ◌^◌, ◌++◌, ◌∷◌, [], Some, vec_len, vec_capacity, option_to_list};
 ghost use Rattle.time_sharing.specs.System.{without, out_of, cause_of as cause_from, clock_entry, service_entry, service_after as service_behind};
 ghost use Rattle.system_model.specs.Cases.{idle_notes, idle_start, stop_notes, not_served, end_notes};
 
@@ -78,6 +78,18 @@ pub fn end_note(service: Option<Service>) -> Option<Entry>
     }
 }
 
+/// The entry for an answer of the clock. It stands apart, so that other steps don't pay for the room of an entry.
+#[inline(never)]
+fn note_answer(entries: &mut Vec<Entry>, now: u64, user: UserNo)
+    requires { vec_len entries.old < vec_capacity entries.old }
+    ensures items { entries.new.items ≡ entries.old.items ++ Entry.Clock now user ∷ [] }
+    ensures len { vec_len entries.new ≡ vec_len entries.old + 1 }
+    ensures capacity { vec_capacity entries.old ≤ vec_capacity entries.new }
+{
+    let user = user.number();
+    note(entries, Entry::Clock { answer: now, user });
+}
+
 /// The entry for an answer of the clock, if it was asked.
 pub fn note_clock(entries: &mut Vec<Entry>, asked: bool, now: u64, user: UserNo)
     requires { vec_len entries.old < vec_capacity entries.old }
@@ -86,8 +98,7 @@ pub fn note_clock(entries: &mut Vec<Entry>, asked: bool, now: u64, user: UserNo)
     ensures capacity { vec_capacity entries.old ≤ vec_capacity entries.new }
 {
     if asked {
-        let user = user.number();
-        note(entries, Entry::Clock { answer: now, user });
+        note_answer(entries, now, user);
     }
 }
 
@@ -101,6 +112,26 @@ pub fn service_left(service: Option<Service>, user: UserNo) -> Option<Service>
     }
 }
 
+/// The entry of a service that ends behind a step of it. It stands apart, so that other steps don't pay for the room
+/// of an entry.
+#[inline(never)]
+fn note_end(entries: &mut Vec<Entry>, v: Service, cause: Cause)
+    requires room { vec_len entries.old < vec_capacity entries.old }
+    requires ran { v.ran < 2 ^ 64 - 1 }
+    ensures { entries.new.items ≡ entries.old.items ++ service_entry v (Some cause) }
+{
+    note(
+        entries,
+        Entry::Serve {
+            tick: v.tick,
+            user: v.user.number(),
+            level: v.level,
+            ran: v.ran + 1,
+            cause,
+        },
+    );
+}
+
 /// The service behind a step of it, if it goes on; where it ends, its entry is noted.
 pub fn note_step(entries: &mut Vec<Entry>, v: Service, cause: Option<Cause>) -> Option<Service>
     requires room { vec_len entries.old < vec_capacity entries.old }
@@ -110,16 +141,7 @@ pub fn note_step(entries: &mut Vec<Entry>, v: Service, cause: Option<Cause>) -> 
 {
     match cause {
         Some(cause) => {
-            note(
-                entries,
-                Entry::Serve {
-                    tick: v.tick,
-                    user: v.user.number(),
-                    level: v.level,
-                    ran: v.ran + 1,
-                    cause,
-                },
-            );
+            note_end(entries, v, cause);
             None
         }
         None => Some(Service {

@@ -18,7 +18,30 @@ use user_cores::Plan;
 use user_session::Step;
 
 /// What a service's end does to the queues, of a user with unread lines or none.
+#[inline(never)]
 #[tactic(auto, using(level_queues::proofs::Counts::not_waits))]
+fn leave_for(queues: &mut Queues, cause: Cause, user: UserNo, unread: bool, blocks: u8, now: u64)
+    requires { blocks ≤ 128 }
+    ensures { queues.new ≡ left_queues (Some cause) user unread blocks now queues.old }
+{
+    match cause {
+        Cause::Stop => {
+            queues.drop_user(user);
+            if unread {
+                queues.enter(user, 4, now);
+            }
+        }
+        Cause::Size => {
+            queues.drop_user(user);
+            queues.enter(user, blocks, now);
+        }
+        Cause::Wait => queues.drop_user(user),
+        Cause::Time | Cause::Preempt | Cause::End => {}
+    }
+}
+
+/// What a step does to the queues by the end of its service, if it ends it. Mostly it doesn't.
+#[inline(always)]
 fn leave(
     queues: &mut Queues,
     cause: Option<Cause>,
@@ -31,18 +54,7 @@ fn leave(
     ensures { queues.new ≡ left_queues cause user unread blocks now queues.old }
 {
     match cause {
-        Some(Cause::Stop) => {
-            queues.drop_user(user);
-            if unread {
-                queues.enter(user, 4, now);
-            }
-        }
-        Some(Cause::Size) => {
-            queues.drop_user(user);
-            queues.enter(user, blocks, now);
-        }
-        Some(Cause::Wait) => queues.drop_user(user),
-        Some(Cause::Time) | Some(Cause::Preempt) | Some(Cause::End) => {}
+        Some(cause) => leave_for(queues, cause, user, unread, blocks, now),
         None => queues.look_ahead(Some(user), now),
     }
 }

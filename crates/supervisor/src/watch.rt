@@ -5,16 +5,17 @@ ghost use Rattle.plan_model.specs.Loads.{no_places};
 ghost use Rattle.user_model.specs.User.{User};
 ghost use Rattle.system_model.specs.Run.{next, due_of};
 ghost use Rattle.system_model.specs.Sound.{Sound};
+ghost use Rattle.console_texts.specs.Following.{settled_in};
 ghost use Rattle.console_texts.specs.Watching.{refused_by, refusal_in as console_of};
 ghost use Rattle.supervisor.specs.Seen.{seen};
-ghost use Rattle.supervisor.specs.Shows.{MatchesConsoles, TextsGrow};
+ghost use Rattle.supervisor.specs.Shows.{MatchesConsoles, TextsGrow, rows_of};
 ghost use Rattle.supervisor.specs.Steps.{Lasts};
 ghost use Rattle.supervisor.specs.Whole.{watched, Holds, AreTied, AreCountedBy, NextIsCut, Steps, TextsFollow, RunsTo, TextsRunTo};
 
 use crate::state::State;
 use arrayvec::ArrayVec;
 use console_texts::ConsoleTexts;
-use ctss_types::{Entry, RunFault};
+use ctss_types::{Console, Entry, RunFault};
 use user_cores::Backing;
 use user_session::Session;
 
@@ -28,6 +29,18 @@ fn lengths(sessions: &[Session]) -> ArrayVec<usize, 30>
         lens.push(sessions[i].items().len());
     }
     lens
+}
+
+/// What the consoles show behind a step without an event. It stands apart, since the lengths of all transcripts take
+/// room and most steps need none.
+#[inline(never)]
+fn settle_texts(texts: &mut ConsoleTexts, consoles: &[Console], sessions: &[Session])
+    requires { length sessions.now ≤ 30 }
+    ensures { rows_of texts.new
+        ≡ map (settled_in consoles.now (map (λ (u : User). length u.transcript) sessions.now)) (rows_of texts.old) }
+{
+    let after = lengths(sessions);
+    texts.settle(consoles, after.as_slice());
 }
 
 /// The console at which an entry says that a login was refused, or 0.
@@ -135,9 +148,11 @@ impl Watch {
         if self.state.service.is_some() {
             return Ok(());
         }
-        let after = lengths(self.state.sessions.as_slice());
-        self.texts
-            .settle(self.state.consoles.as_slice(), after.as_slice());
+        settle_texts(
+            &mut self.texts,
+            self.state.consoles.as_slice(),
+            self.state.sessions.as_slice(),
+        );
         Ok(())
     }
 

@@ -16,7 +16,7 @@ impl<K: Sink> TextWriter<'_, K> {
     pub fn blank(&mut self, text: &[u8])
         ensures { Adds K.Sink (blank text.now) self.old self.new }
     {
-        self.add(b" ");
+        self.byte(b' ');
         self.add(text);
     }
 
@@ -58,7 +58,7 @@ impl<K: Sink> TextWriter<'_, K> {
     pub fn end_line(&mut self)
         ensures { Adds K.Sink (10 ∷ []) self.old self.new }
     {
-        self.add(b"\n");
+        self.byte(b'\n');
     }
 
     /// Adds a line.

@@ -1,4 +1,4 @@
-ghost use Rattle.std.specs.Prelude.{◌≡◌, ◌≤◌, ◌+◌, ◌++◌, [], length, IfOk, vec_len, vec_capacity};
+ghost use Rattle.std.specs.Prelude.{◌≡◌, ◌<◌, ◌≤◌, ◌+◌, ◌++◌, ◌∷◌, [], length, IfOk, vec_len, vec_capacity};
 
 use faults::NoMemory;
 use std::alloc::Global;
@@ -38,6 +38,15 @@ impl Piece {
     {
         // The room was taken when the piece was made.
         self.bytes.extend_from_slice(text).unwrap();
+    }
+
+    /// Adds a byte for which there is room.
+    pub fn push(&mut self, byte: u8)
+        requires { length self.old.bytes.items < 65536 }
+        ensures { self.new.bytes.items ≡ self.old.bytes.items ++ byte ∷ [] }
+    {
+        // The room was taken when the piece was made.
+        self.bytes.push(byte).unwrap();
     }
 
     /// Empties it.

@@ -1,4 +1,4 @@
-ghost use Rattle.std.specs.Prelude.{◌≡◌, ◌≤◌, ◌+◌, [], length, false};
+ghost use Rattle.std.specs.Prelude.{◌≡◌, ◌≤◌, ◌+◌, ◌∷◌, [], length, false};
 ghost use Rattle.text_writer.specs.Writing.{Adds};
 
 use crate::piece::Piece;
@@ -50,6 +50,7 @@ impl<'a, K: Sink> TextWriter<'a, K> {
     }
 
     /// Puts what waits.
+    #[inline(never)]
     pub fn flush(&mut self)
         ensures added { Adds K.Sink [] self.old self.new }
         ensures empty { self.new.piece.bytes.items ≡ [] }
@@ -74,7 +75,20 @@ impl<'a, K: Sink> TextWriter<'a, K> {
         }
     }
 
-    /// Adds a text where nothing waits.
+    /// Adds a byte. Mostly there is room for it.
+    #[inline]
+    pub(crate) fn byte(&mut self, byte: u8)
+        ensures { Adds K.Sink (byte ∷ []) self.old self.new }
+    {
+        if self.has_failed || self.piece.room() == 0 {
+            self.add(&[byte]);
+        } else {
+            self.piece.push(byte);
+        }
+    }
+
+    /// Adds a text where nothing waits. It stands apart, as it is rarely come to.
+    #[inline(never)]
     fn pass(&mut self, text: &[u8])
         requires { self.old.piece.bytes.items ≡ [] }
         ensures { Adds K.Sink text.now self.old self.new }

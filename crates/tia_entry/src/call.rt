@@ -1,4 +1,4 @@
-ghost use Rattle.std.specs.Prelude.{◌≡◌, ◌≤◌, ◌<◌, ◌^◌, length, IfOk, IfSome};
+ghost use Rattle.std.specs.Prelude.{◌≡◌, ◌≤◌, ◌<◌, ◌^◌, List, ℕ, true, Ok, length, IfOk, IfSome};
 ghost use Rattle.program_model.specs.Calls.{call_of, line_call, simple_call, is_line_count, answered};
 ghost use Rattle.tia_entry.specs.Buffers.{HasBuffer, call_with};
 
@@ -71,6 +71,24 @@ pub fn is_line_count(count: u16) -> bool
     ensures { result ≡ is_line_count count }
 {
     1 <= count && count <= 14
+}
+
+/// Whether the entry of a name is GETTM, of any program.
+#[inline]
+#[tactic(auto, unfolding(ctss_types::specs::Words::name_of))]
+pub fn is_get_time(name: Word) -> bool
+    ensures { result ≡ true → (r : Regs) (core : List ℕ) → call_of r core name ≡ Ok Call.GetTime }
+{
+    name.bits() == GET_TIME
+}
+
+/// Whether the entry of a name is GETMEM, of any program.
+#[inline]
+#[tactic(auto, unfolding(ctss_types::specs::Words::name_of))]
+pub fn is_get_memory(name: Word) -> bool
+    ensures { result ≡ true → (r : Regs) (core : List ℕ) → call_of r core name ≡ Ok Call.GetMemory }
+{
+    name.bits() == GET_MEMORY
 }
 
 /// What a program's call asks for, by the name of the entry. A fault changes nothing.

@@ -26,7 +26,9 @@ use ctss_types::{CommonOp, Ending, NoMemory, StepFault};
 use file_map::FilePort;
 use program_model::{Call, EntryFault, ProgramState};
 use session_text::ready_text;
-use tia_entry::{answer, is_line_count, line_in, read_call, store_line};
+use tia_entry::{
+    answer, is_get_memory, is_get_time, is_line_count, line_in, read_call, store_line,
+};
 use word36::Word;
 
 /// A step of a program that stops.
@@ -358,9 +360,11 @@ impl Session {
         }
     }
 
-    /// A supervisor entry.
+    /// A supervisor entry that asks for more than a number. It stands apart, so that the others don't pay for the
+    /// room of its call.
+    #[inline(never)]
     #[tactic(auto, using(crate::proofs::Enters::entered))]
-    pub(crate) fn enter<M: MemoryPort, P: FilePort>(
+    fn enter_apart<M: MemoryPort, P: FilePort>(
         &mut self,
         core: &mut M,
         files: &mut P,
@@ -390,5 +394,43 @@ impl Session {
             Err(fault) => Ok(self.refuse(core, fault, now)?),
             Ok(call) => self.answer_call(core, files, call, now),
         }
+    }
+
+    /// A supervisor entry.
+    #[inline(always)]
+    #[tactic(auto, using(crate::proofs::Enters::entered))]
+    pub(crate) fn enter<M: MemoryPort, P: FilePort>(
+        &mut self,
+        core: &mut M,
+        files: &mut P,
+        name: Word,
+        now: u64,
+    ) -> Result<Turn, StepFault>
+        requires on { self.old.on ≡ true }
+        requires works { works_in self.old.inner.state ≡ true }
+        requires filled { self.old.inner.fill ≡ None }
+        requires unbroken { at_break self.old.inner ≡ false }
+        requires at { step_of self.old.inner.regs (M.words core.old) ≡ entry name }
+        requires size { length (M.words core.old) ≡ 256 * self.old.inner.blocks }
+        requires port { P.Usable files.old }
+        requires quota { P.quota files.old ≡ self.old.inner.account.tracks }
+        requires fits { self.old.own < 2 ^ 64 - 1 }
+        requires time { now < 2 ^ 35 }
+        ensures turn { IfOk result (λ turn. Over (P.tells files.old)
+            (stored (M.words core.old) (P.files files.old)) (stored (M.words core.new) (P.files files.new))
+            (Runs turn now self.old self.new)) }
+        ensures account { self.new.inner.account ≡ self.old.inner.account }
+        ensures err { OnErr result (self.new ≡ self.old) }
+        ensures err_core { OnErr result (M.words core.new ≡ M.words core.old) }
+        ensures keeps { M.Keeps core.old core.new }
+        ensures uses { Uses P.FilePort result files.old files.new }
+    {
+        if is_get_time(name) {
+            return Ok(self.tell_time(core, now));
+        }
+        if is_get_memory(name) {
+            return Ok(self.tell_memory(core, now));
+        }
+        self.enter_apart(core, files, name, now)
     }
 }

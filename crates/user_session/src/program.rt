@@ -81,6 +81,7 @@ impl Session {
     }
 
     /// The next instruction of a program. A supervisor entry is not done yet.
+    #[inline(always)]
     fn instruct<M: MemoryPort>(&mut self, core: &mut M, now: u64) -> Result<Instructed, NoMemory>
         requires on { self.old.on ≡ true }
         requires works { works_in self.old.inner.state ≡ true }
@@ -123,6 +124,7 @@ impl Session {
     }
 
     /// The next instruction of a program, and the supervisor entry that it comes to. An open debugger doesn't know of it yet.
+    #[inline(always)]
     fn go_on<M: MemoryPort, P: FilePort>(
         &mut self,
         core: &mut M,
@@ -231,6 +233,7 @@ impl Session {
 
     /// The next step of a program that has its core, with the supervisor entry that it comes to. Without the debugger, as mostly, there is
     /// nothing to look for before it and nothing to note behind it.
+    #[inline(always)]
     fn run<M: MemoryPort, P: FilePort>(
         &mut self,
         core: &mut M,
@@ -348,11 +351,68 @@ impl Session {
         self.copy_replied(core, files, line, command_of(&line), reply, now)
     }
 
-    /// A step at a tick, if one can be done: the first unread line as a command or in INPUT, or the next step of a program.
-    ///
-    /// One port is to the words of the user's program, the other to its directory. Where a step gives the program another size or another program,
-    /// `blocks` is the new size, and the caller cuts, extends or clears the words.
-    pub fn step<M: MemoryPort, P: FilePort>(
+    /// A step at a tick of a user of whom no program works. It stands apart, so that programs don't pay for the room
+    /// of its answers.
+    #[inline(never)]
+    fn listen<M: MemoryPort, P: FilePort>(
+        &mut self,
+        core: &mut M,
+        files: &mut P,
+        now: u64,
+    ) -> Result<Turn, StepFault>
+        requires on { self.old.on ≡ true }
+        requires idle { works_in self.old.inner.state ≡ false }
+        requires size { length (M.words core.old) ≡ 256 * self.old.inner.blocks }
+        requires port { P.Usable files.old }
+        requires quota { P.quota files.old ≡ self.old.inner.account.tracks }
+        requires fits { self.old.own < 2 ^ 64 - 1 }
+        requires time { now < 2 ^ 35 }
+        ensures turn { IfOk result (λ turn. Over (P.tells files.old)
+            (stored (M.words core.old) (P.files files.old)) (stored (M.words core.new) (P.files files.new))
+            (IsTurn turn now self.old self.new)) }
+        ensures account { self.new.inner.account ≡ self.old.inner.account }
+        ensures err { OnErr result (self.new ≡ self.old) }
+        ensures err_core { OnErr result (M.words core.new ≡ M.words core.old) }
+        ensures keeps { M.Keeps core.old core.new }
+        ensures uses { Uses P.FilePort result files.old files.new }
+    {
+        if self.is_debugged() {
+            let turn = self.debug(core, files, now)?;
+            return Ok(turn);
+        }
+        self.take_line(core, files, now)
+    }
+
+    /// The next step of a program that works without the debugger, with the supervisor entry that it comes to.
+    #[inline(always)]
+    fn work<M: MemoryPort, P: FilePort>(
+        &mut self,
+        core: &mut M,
+        files: &mut P,
+        now: u64,
+    ) -> Result<Turn, StepFault>
+        requires work { IsAtWork self.old }
+        requires size { length (M.words core.old) ≡ 256 * self.old.inner.blocks }
+        requires port { P.Usable files.old }
+        requires quota { P.quota files.old ≡ self.old.inner.account.tracks }
+        requires fits { self.old.own < 2 ^ 64 - 1 }
+        requires time { now < 2 ^ 35 }
+        ensures turn { IfOk result (λ turn. Over (P.tells files.old)
+            (stored (M.words core.old) (P.files files.old)) (stored (M.words core.new) (P.files files.new))
+            (IsTurn turn now self.old self.new)) }
+        ensures account { self.new.inner.account ≡ self.old.inner.account }
+        ensures err { OnErr result (self.new ≡ self.old) }
+        ensures err_core { OnErr result (M.words core.new ≡ M.words core.old) }
+        ensures keeps { M.Keeps core.old core.new }
+        ensures uses { Uses P.FilePort result files.old files.new }
+    {
+        self.go_on(core, files, now)
+    }
+
+    /// A step at a tick of a user of whom no program works without the debugger, or of whom one is still to be
+    /// stored. It stands apart, so that the others don't pay for the room of its answers.
+    #[inline(never)]
+    fn step_apart<M: MemoryPort, P: FilePort>(
         &mut self,
         core: &mut M,
         files: &mut P,
@@ -376,15 +436,42 @@ impl Session {
             return Ok(Turn::Waits);
         }
         if !self.works() {
-            if self.is_debugged() {
-                let turn = self.debug(core, files, now)?;
-                return Ok(turn);
-            }
-            return self.take_line(core, files, now);
+            return self.listen(core, files, now);
         }
         match self.fill {
             Some(fill) => self.fill_core(core, files, fill, now),
             None => self.run(core, files, now),
         }
+    }
+
+    /// A step at a tick, if one can be done: the first unread line as a command or in INPUT, or the next step of a program.
+    ///
+    /// One port is to the words of the user's program, the other to its directory. Where a step gives the program another size or another program,
+    /// `blocks` is the new size, and the caller cuts, extends or clears the words.
+    #[inline(never)]
+    pub fn step<M: MemoryPort, P: FilePort>(
+        &mut self,
+        core: &mut M,
+        files: &mut P,
+        now: u64,
+    ) -> Result<Turn, StepFault>
+        requires size { length (M.words core.old) ≡ 256 * self.old.inner.blocks }
+        requires port { P.Usable files.old }
+        requires quota { P.quota files.old ≡ self.old.inner.account.tracks }
+        requires fits { self.old.own < 2 ^ 64 - 1 }
+        requires time { now < 2 ^ 35 }
+        ensures turn { IfOk result (λ turn. Over (P.tells files.old)
+            (stored (M.words core.old) (P.files files.old)) (stored (M.words core.new) (P.files files.new))
+            (IsTurn turn now self.old self.new)) }
+        ensures account { self.new.inner.account ≡ self.old.inner.account }
+        ensures err { OnErr result (self.new ≡ self.old) }
+        ensures err_core { OnErr result (M.words core.new ≡ M.words core.old) }
+        ensures keeps { M.Keeps core.old core.new }
+        ensures uses { Uses P.FilePort result files.old files.new }
+    {
+        if self.is_at_work() {
+            return self.work(core, files, now);
+        }
+        self.step_apart(core, files, now)
     }
 }

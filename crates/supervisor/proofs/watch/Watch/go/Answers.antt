@@ -12,11 +12,11 @@ use Rattle.supervisor.proofs.Doing.{does_sound}
 use Rattle.supervisor.proofs.Watching.{lengths_of, goes_by, told_by, rest_rows, rest_knows, rest_same, served_goes, served_told}
 use Rattle.supervisor.proofs.watch.Watch.go.Goals as goal
 
-pub lengths-after-requires : goal.lengths-after-requires
-lengths-after-requires g c =
+pub settle_texts-requires : goal.settle_texts-requires
+settle_texts-requires g c =
     let had : Held = (g.C.Backing.state c.args.cores.now).held in
     let has : Held = (g.C.Backing.state c.step_on.new.cores).held in
-    subst (λ (us : List User). length us ≤ 30) (sym c.as_slice.ensures.value)
+    subst (λ (us : List User). length us ≤ 30) (sym c.as_slice-2.ensures.value)
     (does_sound c.args.limit (seen had.places c.args.self.now.state) (seen has.places c.step_on.new.self) had has c.requires.in_time c.requires.held.sound c.in-Ok.ensures.ended).few
 
 pub returns-clause-texts : goal.returns-clause-texts
@@ -26,9 +26,9 @@ returns-clause-texts g c =
     let old : Run = seen had.places c.args.self.now.state in
     let new : Run = seen has.places c.step_on.new.self in
     let rows : List Shown = rows_of c.args.self.now.texts in
-    let is : rows_of c.settle.new.self ≡ map (rest_rows (lengths_of new.system.users) new) rows =
-    c.settle.ensures.shown ∙ ap (λ (cs : List Console). map (settled_in cs c.as_slice-3.result.now) rows) c.as_slice-2.ensures.value
-    ∙ ap (λ (ls : List ℕ). map (settled_in c.step_on.new.self.consoles.items ls) rows) (c.as_slice-3.ensures.value ∙ c.lengths-after.ensures ∙ ap lengths_of c.as_slice.ensures.value) in
+    let is : rows_of c.settle_texts.new.texts ≡ map (rest_rows (lengths_of new.system.users) new) rows =
+    c.settle_texts.ensures ∙ ap (λ (cs : List Console). map (settled_in cs (lengths_of c.as_slice-2.result.now)) rows) c.as_slice.ensures.value
+    ∙ ap (λ (us : List User). map (settled_in c.step_on.new.self.consoles.items (lengths_of us)) rows) c.as_slice-2.ensures.value in
     subst (λ (xs : List Shown). GoesOn c.args.limit old new (map (text_of (transcripts_of old.system.users)) rows) (map (text_of (transcripts_of new.system.users)) xs)) (sym is)
     (goes_by c.args.limit old new rows (rest_rows (lengths_of new.system.users)) (rest_knows c.args.limit old new rows c.requires.quiet c.requires.held.sound c.requires.matched) (rest_same c.args.limit old new rows (lengths_of new.system.users)))
 
@@ -39,9 +39,9 @@ returns-clause-matched g c =
     let old : Run = seen had.places c.args.self.now.state in
     let new : Run = seen has.places c.step_on.new.self in
     let rows : List Shown = rows_of c.args.self.now.texts in
-    let is : rows_of c.settle.new.self ≡ map (rest_rows (lengths_of new.system.users) new) rows =
-    c.settle.ensures.shown ∙ ap (λ (cs : List Console). map (settled_in cs c.as_slice-3.result.now) rows) c.as_slice-2.ensures.value
-    ∙ ap (λ (ls : List ℕ). map (settled_in c.step_on.new.self.consoles.items ls) rows) (c.as_slice-3.ensures.value ∙ c.lengths-after.ensures ∙ ap lengths_of c.as_slice.ensures.value) in
+    let is : rows_of c.settle_texts.new.texts ≡ map (rest_rows (lengths_of new.system.users) new) rows =
+    c.settle_texts.ensures ∙ ap (λ (cs : List Console). map (settled_in cs (lengths_of c.as_slice-2.result.now)) rows) c.as_slice.ensures.value
+    ∙ ap (λ (us : List User). map (settled_in c.step_on.new.self.consoles.items (lengths_of us)) rows) c.as_slice-2.ensures.value in
     subst (AreShown new.system.consoles (transcripts_of new.system.users)) (sym is)
     (told_by c.args.limit old new rows (rest_rows (lengths_of new.system.users)) had has (rest_knows c.args.limit old new rows c.requires.quiet c.requires.held.sound c.requires.matched) (rest_same c.args.limit old new rows (lengths_of new.system.users)) c.in-Ok.ensures.ended)
 

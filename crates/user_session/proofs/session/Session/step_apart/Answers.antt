@@ -1,7 +1,7 @@
 use Rattle.std.proofs.Common.{◌∙◌, sym, refl}
 use Rattle.user_model.proofs.RowTurns.{closed_waits}
 use Rattle.user_session.proofs.Enters.{over_these}
-use Rattle.user_session.proofs.session.Session.step.Goals as goal
+use Rattle.user_session.proofs.session.Session.step_apart.Goals as goal
 
 pub returns-then-not-is_open-clause-turn : goal.returns-then-not-is_open-clause-turn
 returns-then-not-is_open-clause-turn g c = let are = g.met.P.FilePort.is_known c.args.files.now c.requires.port in over_these _ _ _ _ are are (record {

@@ -62,7 +62,7 @@ fn add_parted<K: Sink>(
 }
 
 /// Adds the line of an entry.
-fn add_entry<K: Sink>(out: &mut TextWriter<'_, K>, entry: &Entry)
+pub fn add_entry<K: Sink>(out: &mut TextWriter<'_, K>, entry: &Entry)
     ensures { Adds K.Sink (entry_text entry.now) out.old out.new }
 {
     match entry {

@@ -1,0 +1,232 @@
+-- claim: the picture of a record, drawn: who ran, the levels, and the figures, as one SVG text.
+use Rattle.std.specs.Prelude.{ℕ, zero, suc, ◌+◌, ◌-◌, ◌*◌, ◌/◌, ◌%◌, nat_eq, nat_lt, nat_le, max, if◌then◌else◌, List, [], ◌∷◌, ◌++◌, length, codes}
+use Rattle.std.specs.List.{flat_map}
+use Rattle.std.specs.Fmt.{decimal}
+use Rattle.bcd48.specs.Words.{characters_of}
+use Rattle.ctss_types.specs.declared.script.Script.{Script}
+use Rattle.ctss_types.specs.declared.script.Account.{Account}
+use Rattle.ctss_types.specs.declared.history.Cause.{Cause}
+use Rattle.ctss_types.specs.declared.history.Cause.TheVariants as cause
+use Rattle.ctss_types.specs.declared.history.EventKind.{EventKind}
+use Rattle.ctss_types.specs.declared.history.EventKind.TheVariants as kind
+use Rattle.ctss_types.specs.declared.history.Record.{Record}
+use Rattle.ctss_types.specs.declared.history.Entry.{Entry}
+use Rattle.ctss_types.specs.declared.history.Entry.TheVariants.{Taken, Idle, Swap, Rise, Serve}
+use Rattle.text_model.specs.Parts.{line}
+use Rattle.text_model.specs.Report.{entry_text}
+use Rattle.picture_model.specs.declared.request.Track.{Track}
+use Rattle.picture_model.specs.declared.request.Track.TheVariants.{Fresh}
+use Rattle.picture_model.specs.Requests.{waited_from, track_after}
+use Rattle.picture_model.specs.FigureLines.{all_levels, figures_in, time_line}
+use Rattle.picture_model.specs.Folds.{cut_of, places_in, tick_at}
+
+-- an attribute and its number, as in x='12'
+abbrev pub attribute : List ℕ → ℕ → List ℕ
+attribute name n = name ++ (decimal n ++ (39 ∷ []))
+
+-- How a picture is laid out: a place is one unit wide, and all else is a multiple of this number, so that writing can be read however
+-- long the run is.
+abbrev pub scale_for : (places : ℕ) → ℕ
+scale_for places = suc (places / 1200)
+
+-- the left edge of a place
+abbrev pub across : (scale place : ℕ) → ℕ
+across scale place = 110 * scale + place
+
+-- the upper edges of a user's row and of a level's, and that of the figures; users count from 1
+abbrev pub user_top : (scale u : ℕ) → ℕ
+user_top scale u = (70 + 26 * u) * scale
+
+abbrev pub level_top : (scale users level : ℕ) → ℕ
+level_top scale users level = (140 + (26 * users + 18 * level)) * scale
+
+abbrev pub figures_top : (scale users : ℕ) → ℕ
+figures_top scale users = (330 + 26 * users) * scale
+
+abbrev pub sheet_height : (scale users : ℕ) → ℕ
+sheet_height scale users = (640 + 40 * users) * scale
+
+abbrev pub sheet_width : (scale places : ℕ) → ℕ
+sheet_width scale places = 130 * scale + max places (900 * scale)
+
+-- a rectangle of a class, with an entry's own line as its title
+abbrev pub bar : (class : List ℕ) (x y width height : ℕ) → Entry → List ℕ
+bar class x y width height e =
+    codes "<rect class='" ++ (class ++ (codes "'" ++ (attribute (codes " x='") x ++ (attribute (codes " y='") y
+    ++ (attribute (codes " width='") width ++ (attribute (codes " height='") height ++ (codes "><title>"
+    ++ (entry_text e ++ line (codes "</title></rect>")))))))))
+
+-- a rectangle without one
+abbrev pub box : (class : List ℕ) (x y width height : ℕ) → List ℕ
+box class x y width height =
+    codes "<rect class='" ++ (class ++ (codes "'" ++ (attribute (codes " x='") x ++ (attribute (codes " y='") y
+    ++ (attribute (codes " width='") width ++ (attribute (codes " height='") height ++ line (codes "/>")))))))
+
+-- a text of a class, at a point
+abbrev pub words_at : (class : List ℕ) (x y : ℕ) (text : List ℕ) → List ℕ
+words_at class x y text =
+    codes "<text class='" ++ (class ++ (codes "'" ++ (attribute (codes " x='") x ++ (attribute (codes " y='") y
+    ++ (codes ">" ++ (text ++ line (codes "</text>")))))))
+
+-- a sign at a point: its tip, and two strokes of three units to a side
+abbrev pub tip : (class : List ℕ) (scale x y : ℕ) (side : List ℕ) → Entry → List ℕ
+tip class scale x y side e =
+    codes "<path class='" ++ (class ++ (codes "' d='M" ++ (decimal x ++ (32 ∷ (decimal y ++ (codes "l-" ++ (decimal (3 * scale)
+    ++ (side ++ (decimal (6 * scale) ++ (104 ∷ (decimal (6 * scale) ++ (codes "z'><title>"
+    ++ (entry_text e ++ line (codes "</title></path>"))))))))))))))
+
+-- the letter of why a service ended
+abbrev pub cause_letter : Cause → ℕ
+cause_letter cause.Time = 84
+cause_letter cause.Wait = 87
+cause_letter cause.Stop = 83
+cause_letter cause.Size = 90
+cause_letter cause.Preempt = 80
+cause_letter cause.End = 69
+
+-- In the middle of a bar that is wide enough stands its number, and behind it a letter where there is room for that too.
+abbrev pub bar_label : (scale x y width number letter : ℕ) → List ℕ
+bar_label scale x y width number letter =
+    if nat_lt width (8 * scale) then []
+    else words_at (codes "n n" ++ decimal number) (x + width / 2) y
+    (decimal number ++ (if nat_lt width (16 * scale) then [] else letter ∷ []))
+
+-- a user's service: its bar and label
+abbrev pub service_drawn : (scale cut : ℕ) (tick u level ran : ℕ) → Cause → Entry → List ℕ
+service_drawn scale cut tick u level ran cause e =
+    bar (108 ∷ decimal level) (across scale (tick - cut)) (user_top scale u + 8 * scale) ran (14 * scale) e
+    ++ bar_label scale (across scale (tick - cut)) (user_top scale u + 19 * scale) ran level (cause_letter cause)
+
+-- what came to a user: a sign for a line, a letter for what ends its work, nothing for a dial
+abbrev pub event_drawn : (scale x y : ℕ) → EventKind → Entry → List ℕ
+event_drawn scale x y kind.Dial e = []
+event_drawn scale x y kind.Line e = tip (codes "line") scale x (y + 8 * scale) (codes "-") e
+event_drawn scale x y kind.Quit e = words_at (codes "q") x (y + 7 * scale) (codes "Q")
+event_drawn scale x y kind.Hang e = words_at (codes "q") x (y + 7 * scale) (codes "H")
+event_drawn scale x y kind.Spent e = words_at (codes "q") x (y + 7 * scale) (codes "S")
+
+-- an entry in the rows of users: a service, a load, what came to a user in a session, and a rise
+abbrev pub user_drawn : (swap scale cut : ℕ) → Entry → List ℕ
+user_drawn swap scale cut (Serve tick u level ran cause) =
+    service_drawn scale cut tick u level ran cause (Serve tick u level ran cause)
+user_drawn swap scale cut (Swap tick u dumped read fresh) =
+    bar (codes "load") (across scale (tick - cut)) (user_top scale u + 8 * scale) (swap * (dumped + read)) (14 * scale)
+    (Swap tick u dumped read fresh)
+user_drawn swap scale cut (Taken tick console kind u own) =
+    if nat_eq u 0 then [] else event_drawn scale (across scale (tick - cut)) (user_top scale u) kind (Taken tick console kind u own)
+user_drawn swap scale cut (Rise tick u level) =
+    tip (codes "rise") scale (across scale (tick - cut)) (user_top scale u + 2 * scale) (32 ∷ []) (Rise tick u level)
+user_drawn swap scale cut _ = []
+
+-- an entry in the rows of levels: a service, in the user's colour and with its number
+abbrev pub level_drawn : (scale users cut : ℕ) → Entry → List ℕ
+level_drawn scale users cut (Serve tick u level ran cause) =
+    bar (117 ∷ decimal (u % 10)) (across scale (tick - cut)) (level_top scale users level) ran (14 * scale)
+    (Serve tick u level ran cause)
+    ++ (if nat_lt ran (16 * scale) then []
+    else words_at (codes "n") (across scale (tick - cut) + ran / 2) (level_top scale users level + 11 * scale) (decimal u))
+level_drawn scale users cut _ = []
+
+-- an idle time behind all rows, and how long it was, where some of it is cut out and there is room
+abbrev pub idle_drawn : (scale users cut : ℕ) → Entry → List ℕ
+idle_drawn scale users cut (Idle from until) =
+    bar (codes "idle") (across scale (from - cut)) (user_top scale 1) ((until - from) - cut_of (Idle from until))
+    (level_top scale users 9 - user_top scale 1) (Idle from until)
+    ++ (if nat_lt scale 2 then words_at (codes "n cut") (across scale (from - cut) + 26) (94 * scale) (decimal (until - from)) else [])
+idle_drawn scale users cut _ = []
+
+-- a user's time in a queue, at an entry
+abbrev pub wait_drawn : (scale u cut : ℕ) → Track → Entry → List ℕ
+wait_drawn scale u cut t (Serve tick v level ran cause) =
+    if nat_eq v u then (if nat_lt (waited_from t tick) tick
+    then box (codes "wait") (across scale (waited_from t tick - cut)) (user_top scale u + 14 * scale) (tick - waited_from t tick) (2 * scale)
+    else []) else []
+wait_drawn scale u cut t _ = []
+
+-- these, of all entries, where so many ticks are cut out before the first
+
+abbrev pub users_drawn : (swap scale cut : ℕ) → List Entry → List ℕ
+users_drawn swap scale cut [] = []
+users_drawn swap scale cut (e ∷ es) = user_drawn swap scale cut e ++ users_drawn swap scale (cut + cut_of e) es
+
+abbrev pub levels_drawn : (scale users cut : ℕ) → List Entry → List ℕ
+levels_drawn scale users cut [] = []
+levels_drawn scale users cut (e ∷ es) = level_drawn scale users cut e ++ levels_drawn scale users (cut + cut_of e) es
+
+abbrev pub idles_drawn : (scale users cut : ℕ) → List Entry → List ℕ
+idles_drawn scale users cut [] = []
+idles_drawn scale users cut (e ∷ es) = idle_drawn scale users cut e ++ idles_drawn scale users (cut + cut_of e) es
+
+abbrev pub waits_drawn : (scale u cut : ℕ) → Track → List Entry → List ℕ
+waits_drawn scale u cut t [] = []
+waits_drawn scale u cut t (e ∷ es) = wait_drawn scale u cut t e ++ waits_drawn scale u (cut + cut_of e) (track_after u t e) es
+
+-- a user's name before its row, and its times in a queue
+abbrev pub user_row : (scale u : ℕ) → Account → List Entry → List ℕ
+user_row scale u a es =
+    words_at (codes "w") (4 * scale) (user_top scale u + 19 * scale) (decimal u ++ (32 ∷ characters_of a.name))
+    ++ waits_drawn scale u 0 Fresh es
+
+abbrev pub user_rows : (scale u : ℕ) → List Account → List Entry → List ℕ
+user_rows scale u [] es = []
+user_rows scale u (a ∷ accounts) es = user_row scale u a es ++ user_rows scale (suc u) accounts es
+
+-- a level's name before its row
+abbrev pub level_name : (scale users level : ℕ) → List ℕ
+level_name scale users level =
+    words_at (codes "w") (4 * scale) (level_top scale users level + 11 * scale) (codes "LEVEL " ++ decimal level)
+
+-- a line across all rows and its tick, at each hundredth unit of scale, so many of them from one on
+abbrev pub ruler_drawn : (scale users mark count : ℕ) → List Entry → List ℕ
+ruler_drawn scale users mark zero es = []
+ruler_drawn scale users mark (suc n) es =
+    box (codes "grid") (across scale (100 * scale * mark)) (76 * scale) scale (level_top scale users 9 - 76 * scale)
+    ++ (words_at (codes "w") (across scale (100 * scale * mark)) (72 * scale) (decimal (tick_at (100 * scale * mark) es))
+    ++ ruler_drawn scale users (suc mark) n es)
+
+-- colours: levels from light to dark, users, and all else
+abbrev pub style : List ℕ
+style =
+    codes "<style>rect{stroke:#555;stroke-width:.5px;vector-effect:non-scaling-stroke}text{fill:#222}.b{font-weight:bold}.n{text-anchor:middle}.n5,.n6,.n7,.n8{fill:#fff}"
+    ++ (codes ".l0{fill:#ffffd9}.l1{fill:#edf8b1}.l2{fill:#c7e9b4}.l3{fill:#7fcdbb}.l4{fill:#41b6c4}.l5{fill:#1d91c0}.l6{fill:#225ea8}.l7{fill:#253494}.l8{fill:#081d58}"
+    ++ (codes ".u0{fill:#bc80bd}.u1{fill:#8dd3c7}.u2{fill:#ffffb3}.u3{fill:#bebada}.u4{fill:#fb8072}.u5{fill:#80b1d3}.u6{fill:#fdb462}.u7{fill:#b3de69}.u8{fill:#fccde5}.u9{fill:#d9d9d9}"
+    ++ codes ".load{fill:#000}.wait{fill:#777;stroke:none}.idle{fill:#f2f2f2;stroke:none}.cut{fill:#777}.grid{fill:#ddd;stroke:none}.line{fill:#c00}.rise{fill:#060}.q{fill:#c00;font-weight:bold}.sheet{fill:#fff;stroke:none}</style>"))
+
+-- how it is read
+abbrev pub legend : ℕ → List ℕ
+legend scale =
+    words_at (codes "w") (110 * scale) (36 * scale) (codes "Number and colour: the level. Letter: why the service ended (T its time was over, P another was preferred, W it waits for a line,")
+    ++ words_at (codes "w") (110 * scale) (50 * scale) (codes "S done, Z a new size, E the end). Black: brought into core. Thin: in a queue. Red: a line, Q a quit, H a hang-up. Grey: idle, cut to 52 ticks.")
+
+-- the first lines, and a sheet of white
+abbrev pub sheet : (scale width height : ℕ) → List ℕ
+sheet scale width height =
+    codes "<svg xmlns='http://www.w3.org/2000/svg' font-family='monospace'" ++ (attribute (codes " font-size='") (11 * scale)
+    ++ (codes " viewBox='0 0 " ++ (decimal width ++ (32 ∷ (decimal height ++ (codes "' width='1500'"
+    ++ (attribute (codes " height='") (1500 * height / width) ++ (codes ">" ++ (10 ∷ (style
+    ++ box (codes "sheet") 0 0 width height))))))))))
+
+-- the figures as lines of one text
+abbrev pub figures_drawn : (scale users : ℕ) → Script → Record → List ℕ
+figures_drawn scale users script rec =
+    codes "<svg overflow='visible'" ++ (attribute (codes " x='") (4 * scale) ++ (attribute (codes " y='") (figures_top scale users)
+    ++ (codes "><text xml:space='preserve'>" ++ (figures_in (codes "<tspan x='0' dy='1.25em'>") (codes "</tspan>") script rec
+    ++ line (codes "</text></svg>")))))
+
+-- What is drawn, from back to front: idle times, the ruler, the rows of users and what is in them, those of levels, and the figures.
+abbrev pub drawing_with : (scale users places : ℕ) → Script → Record → List ℕ
+drawing_with scale users places script rec =
+    sheet scale (sheet_width scale places) (sheet_height scale users)
+    ++ (words_at (codes "b") (110 * scale) (20 * scale) (time_line script.params.swap rec)
+    ++ (legend scale
+    ++ (idles_drawn scale users 0 rec.entries
+    ++ (ruler_drawn scale users 0 (suc (places / (100 * scale))) rec.entries
+    ++ (user_rows scale 1 script.accounts rec.entries
+    ++ (users_drawn script.params.swap scale 0 rec.entries
+    ++ (flat_map (level_name scale users) all_levels
+    ++ (levels_drawn scale users 0 rec.entries
+    ++ (figures_drawn scale users script rec
+    ++ line (codes "</svg>"))))))))))
+
+unfoldable pub drawing_of : Script → Record → List ℕ
+drawing_of script rec = drawing_with (scale_for (places_in rec)) (length script.accounts) (places_in rec) script rec

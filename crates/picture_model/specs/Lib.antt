@@ -1,0 +1,10 @@
+pub mod Requests
+pub mod Figures
+pub mod Columns
+pub mod FigureLines
+pub mod Csv
+pub mod Folds
+pub mod Marks
+pub mod Chart
+pub mod Drawing
+pub mod Rows

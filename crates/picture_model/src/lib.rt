@@ -1,0 +1,37 @@
+//! The picture of a run: who ran, at which level, what each user waited for, and the figures.
+//!
+//! The definitions stand in `specs/`: `Requests` (what a user asks and waits for), `Figures` with `Columns` and `FigureLines`, `Csv`,
+//! `Folds` (where a tick stands in a picture), `Marks` and `Chart` (the picture in characters), `Drawing` (the drawn one), `Rows`
+//! (worked rows). The functions here do nothing: each carries a law or a row.
+#![tactic(auto)]
+
+mod request;
+
+ghost use Rattle.picture_model.specs.Folds.{PlacesJoin};
+ghost use Rattle.picture_model.specs.Rows.{RowOfCells, RowOfFigures, RowOfVisits};
+
+pub use request::{Track, Visit};
+
+/// The services, loads and idle times of every record take places that join, without gap and without overlap.
+#[tactic(auto, using(crate::proofs::Places::places_join))]
+pub fn places_join()
+    ensures { PlacesJoin }
+{}
+
+/// What a user asked and waited for in a short schedule.
+#[tactic(auto, using(crate::proofs::RowsComputed::row_of_visits))]
+pub fn row_of_visits()
+    ensures { RowOfVisits }
+{}
+
+/// Its figures.
+#[tactic(auto, using(crate::proofs::RowsComputed::row_of_figures))]
+pub fn row_of_figures()
+    ensures { RowOfFigures }
+{}
+
+/// Its cells, where idle time is cut out.
+#[tactic(auto, using(crate::proofs::RowsComputed::row_of_cells))]
+pub fn row_of_cells()
+    ensures { RowOfCells }
+{}

@@ -1,5 +1,5 @@
 -- claim: the picture of a record, drawn: who ran, the levels, and the figures, as one SVG text.
-use Rattle.std.specs.Prelude.{ℕ, zero, suc, ◌+◌, ◌-◌, ◌*◌, ◌/◌, ◌%◌, nat_eq, nat_lt, nat_le, max, if◌then◌else◌, List, [], ◌∷◌, ◌++◌, length, codes}
+use Rattle.std.specs.Prelude.{ℕ, zero, suc, ◌+◌, ◌-◌, ◌*◌, ◌/◌, ◌%◌, nat_eq, nat_lt, max, if◌then◌else◌, List, [], ◌∷◌, ◌++◌, length, codes}
 use Rattle.std.specs.List.{flat_map}
 use Rattle.std.specs.Fmt.{decimal}
 use Rattle.bcd48.specs.Words.{characters_of}
@@ -49,31 +49,42 @@ sheet_height scale users = (640 + 40 * users) * scale
 abbrev pub sheet_width : (scale places : ℕ) → ℕ
 sheet_width scale places = 130 * scale + max places (900 * scale)
 
--- a rectangle of a class, with an entry's own line as its title
-abbrev pub bar : (class : List ℕ) (x y width height : ℕ) → Entry → List ℕ
-bar class x y width height e =
-    codes "<rect class='" ++ (class ++ (codes "'" ++ (attribute (codes " x='") x ++ (attribute (codes " y='") y
-    ++ (attribute (codes " width='") width ++ (attribute (codes " height='") height ++ (codes "><title>"
-    ++ (entry_text e ++ line (codes "</title></rect>")))))))))
+-- where a rectangle lies
+abbrev pub area : (x y width height : ℕ) → List ℕ
+area x y width height =
+    attribute (codes " x='") x ++ (attribute (codes " y='") y ++ (attribute (codes " width='") width ++ attribute (codes " height='") height))
 
--- a rectangle without one
-abbrev pub box : (class : List ℕ) (x y width height : ℕ) → List ℕ
-box class x y width height =
-    codes "<rect class='" ++ (class ++ (codes "'" ++ (attribute (codes " x='") x ++ (attribute (codes " y='") y
-    ++ (attribute (codes " width='") width ++ (attribute (codes " height='") height ++ line (codes "/>")))))))
+-- the end of what has an entry's own line as its title
+abbrev pub titled : (what : List ℕ) → Entry → List ℕ
+titled what e = codes "><title>" ++ (entry_text e ++ (codes "</title></" ++ (what ++ line (codes ">"))))
+
+-- a rectangle of a class with a number, for an entry
+abbrev pub bar : (class : List ℕ) (number x y width height : ℕ) → Entry → List ℕ
+bar class number x y width height e =
+    codes "<rect class='" ++ (class ++ (decimal number ++ (codes "'" ++ (area x y width height ++ titled (codes "rect") e))))
+
+-- a rectangle of a class alone
+abbrev pub plain_box : (class : List ℕ) (x y width height : ℕ) → List ℕ
+plain_box class x y width height = codes "<rect class='" ++ (class ++ (codes "'" ++ (area x y width height ++ line (codes "/>"))))
 
 -- a text of a class, at a point
-abbrev pub words_at : (class : List ℕ) (x y : ℕ) (text : List ℕ) → List ℕ
-words_at class x y text =
-    codes "<text class='" ++ (class ++ (codes "'" ++ (attribute (codes " x='") x ++ (attribute (codes " y='") y
-    ++ (codes ">" ++ (text ++ line (codes "</text>")))))))
+abbrev pub text_begun : (class : List ℕ) (x y : ℕ) → List ℕ
+text_begun class x y =
+    codes "<text class='" ++ (class ++ (codes "'" ++ (attribute (codes " x='") x ++ (attribute (codes " y='") y ++ codes ">"))))
 
--- a sign at a point: its tip, and two strokes of three units to a side
+abbrev pub words_at : (class : List ℕ) (x y : ℕ) (text : List ℕ) → List ℕ
+words_at class x y text = text_begun class x y ++ (text ++ line (codes "</text>"))
+
+-- the form of a sign: its tip at a point, and two strokes of three units to each side
+abbrev pub form : (scale x y : ℕ) (side : List ℕ) → List ℕ
+form scale x y side =
+    decimal x ++ (codes " " ++ (decimal y ++ (codes "l-" ++ (decimal (3 * scale) ++ (side ++ (decimal (6 * scale)
+    ++ (codes "h" ++ decimal (6 * scale))))))))
+
+-- a sign for an entry
 abbrev pub tip : (class : List ℕ) (scale x y : ℕ) (side : List ℕ) → Entry → List ℕ
 tip class scale x y side e =
-    codes "<path class='" ++ (class ++ (codes "' d='M" ++ (decimal x ++ (32 ∷ (decimal y ++ (codes "l-" ++ (decimal (3 * scale)
-    ++ (side ++ (decimal (6 * scale) ++ (104 ∷ (decimal (6 * scale) ++ (codes "z'><title>"
-    ++ (entry_text e ++ line (codes "</title></path>"))))))))))))))
+    codes "<path class='" ++ (class ++ (codes "' d='M" ++ (form scale x y side ++ (codes "z'" ++ titled (codes "path") e))))
 
 -- the letter of why a service ended
 abbrev pub cause_letter : Cause → ℕ
@@ -84,18 +95,18 @@ cause_letter cause.Size = 90
 cause_letter cause.Preempt = 80
 cause_letter cause.End = 69
 
--- In the middle of a bar that is wide enough stands its number, and behind it a letter where there is room for that too.
+-- In the middle of a bar that is wide enough stands its number, and behind it a letter where there is room for that too. On dark bars,
+-- those of levels from 5 on, it is white.
+abbrev pub label_class : ℕ → List ℕ
+label_class number = if nat_lt number 5 then codes "n" else codes "n d"
+
+abbrev pub label_letter : (scale width letter : ℕ) → List ℕ
+label_letter scale width letter = if nat_lt width (16 * scale) then [] else letter ∷ []
+
 abbrev pub bar_label : (scale x y width number letter : ℕ) → List ℕ
 bar_label scale x y width number letter =
     if nat_lt width (8 * scale) then []
-    else words_at (codes "n n" ++ decimal number) (x + width / 2) y
-    (decimal number ++ (if nat_lt width (16 * scale) then [] else letter ∷ []))
-
--- a user's service: its bar and label
-abbrev pub service_drawn : (scale cut : ℕ) (tick u level ran : ℕ) → Cause → Entry → List ℕ
-service_drawn scale cut tick u level ran cause e =
-    bar (108 ∷ decimal level) (across scale (tick - cut)) (user_top scale u + 8 * scale) ran (14 * scale) e
-    ++ bar_label scale (across scale (tick - cut)) (user_top scale u + 19 * scale) ran level (cause_letter cause)
+    else words_at (label_class number) (x + width / 2) y (decimal number ++ label_letter scale width letter)
 
 -- what came to a user: a sign for a line, a letter for what ends its work, nothing for a dial
 abbrev pub event_drawn : (scale x y : ℕ) → EventKind → Entry → List ℕ
@@ -108,54 +119,56 @@ event_drawn scale x y kind.Spent e = words_at (codes "q") x (y + 7 * scale) (cod
 -- an entry in the rows of users: a service, a load, what came to a user in a session, and a rise
 abbrev pub user_drawn : (swap scale cut : ℕ) → Entry → List ℕ
 user_drawn swap scale cut (Serve tick u level ran cause) =
-    service_drawn scale cut tick u level ran cause (Serve tick u level ran cause)
+    bar (codes "l") level (across scale (tick - cut)) (user_top scale u + 8 * scale) ran (14 * scale) (Serve tick u level ran cause)
+    ++ bar_label scale (across scale (tick - cut)) (user_top scale u + 19 * scale) ran level (cause_letter cause)
 user_drawn swap scale cut (Swap tick u dumped read fresh) =
-    bar (codes "load") (across scale (tick - cut)) (user_top scale u + 8 * scale) (swap * (dumped + read)) (14 * scale)
+    bar (codes "load") 0 (across scale (tick - cut)) (user_top scale u + 8 * scale) (swap * (dumped + read)) (14 * scale)
     (Swap tick u dumped read fresh)
 user_drawn swap scale cut (Taken tick console kind u own) =
-    if nat_eq u 0 then [] else event_drawn scale (across scale (tick - cut)) (user_top scale u) kind (Taken tick console kind u own)
+    if nat_eq u 0 then []
+    else event_drawn scale (across scale (tick - cut)) (user_top scale u) kind (Taken tick console kind u own)
 user_drawn swap scale cut (Rise tick u level) =
-    tip (codes "rise") scale (across scale (tick - cut)) (user_top scale u + 2 * scale) (32 ∷ []) (Rise tick u level)
+    tip (codes "rise") scale (across scale (tick - cut)) (user_top scale u + 2 * scale) (codes " ") (Rise tick u level)
 user_drawn swap scale cut _ = []
 
 -- an entry in the rows of levels: a service, in the user's colour and with its number
+abbrev pub level_label : (scale x y width number : ℕ) → List ℕ
+level_label scale x y width number =
+    if nat_lt width (16 * scale) then [] else words_at (codes "n") (x + width / 2) y (decimal number)
+
 abbrev pub level_drawn : (scale users cut : ℕ) → Entry → List ℕ
 level_drawn scale users cut (Serve tick u level ran cause) =
-    bar (117 ∷ decimal (u % 10)) (across scale (tick - cut)) (level_top scale users level) ran (14 * scale)
-    (Serve tick u level ran cause)
-    ++ (if nat_lt ran (16 * scale) then []
-    else words_at (codes "n") (across scale (tick - cut) + ran / 2) (level_top scale users level + 11 * scale) (decimal u))
+    bar (codes "u") (u % 10) (across scale (tick - cut)) (level_top scale users level) ran (14 * scale) (Serve tick u level ran cause)
+    ++ level_label scale (across scale (tick - cut)) (level_top scale users level + 11 * scale) ran u
 level_drawn scale users cut _ = []
 
--- an idle time behind all rows, and how long it was, where some of it is cut out and there is room
+-- an idle time behind all rows, and how long it was, where there is room
+abbrev pub idle_label : (scale x from until : ℕ) → List ℕ
+idle_label scale x from until =
+    if nat_lt 1 scale then [] else words_at (codes "n cut") (x + 26) (94 * scale) (decimal (until - from))
+
 abbrev pub idle_drawn : (scale users cut : ℕ) → Entry → List ℕ
 idle_drawn scale users cut (Idle from until) =
-    bar (codes "idle") (across scale (from - cut)) (user_top scale 1) ((until - from) - cut_of (Idle from until))
+    bar (codes "idle") 0 (across scale (from - cut)) (user_top scale 1) ((until - from) - cut_of (Idle from until))
     (level_top scale users 9 - user_top scale 1) (Idle from until)
-    ++ (if nat_lt scale 2 then words_at (codes "n cut") (across scale (from - cut) + 26) (94 * scale) (decimal (until - from)) else [])
+    ++ idle_label scale (across scale (from - cut)) from until
 idle_drawn scale users cut _ = []
 
--- a user's time in a queue, at an entry
+-- what is drawn of each entry, where so many ticks are cut out before the first
+abbrev pub drawn : (ℕ → Entry → List ℕ) → (cut : ℕ) → List Entry → List ℕ
+drawn what cut [] = []
+drawn what cut (e ∷ es) = what cut e ++ drawn what (cut + cut_of e) es
+
+-- a user's time in a queue
+abbrev pub queue_drawn : (scale u cut waited tick : ℕ) → List ℕ
+queue_drawn scale u cut waited tick =
+    if nat_lt waited tick
+    then plain_box (codes "wait") (across scale (waited - cut)) (user_top scale u + 14 * scale) (tick - waited) (2 * scale) else []
+
 abbrev pub wait_drawn : (scale u cut : ℕ) → Track → Entry → List ℕ
 wait_drawn scale u cut t (Serve tick v level ran cause) =
-    if nat_eq v u then (if nat_lt (waited_from t tick) tick
-    then box (codes "wait") (across scale (waited_from t tick - cut)) (user_top scale u + 14 * scale) (tick - waited_from t tick) (2 * scale)
-    else []) else []
+    if nat_eq v u then queue_drawn scale u cut (waited_from t tick) tick else []
 wait_drawn scale u cut t _ = []
-
--- these, of all entries, where so many ticks are cut out before the first
-
-abbrev pub users_drawn : (swap scale cut : ℕ) → List Entry → List ℕ
-users_drawn swap scale cut [] = []
-users_drawn swap scale cut (e ∷ es) = user_drawn swap scale cut e ++ users_drawn swap scale (cut + cut_of e) es
-
-abbrev pub levels_drawn : (scale users cut : ℕ) → List Entry → List ℕ
-levels_drawn scale users cut [] = []
-levels_drawn scale users cut (e ∷ es) = level_drawn scale users cut e ++ levels_drawn scale users (cut + cut_of e) es
-
-abbrev pub idles_drawn : (scale users cut : ℕ) → List Entry → List ℕ
-idles_drawn scale users cut [] = []
-idles_drawn scale users cut (e ∷ es) = idle_drawn scale users cut e ++ idles_drawn scale users (cut + cut_of e) es
 
 abbrev pub waits_drawn : (scale u cut : ℕ) → Track → List Entry → List ℕ
 waits_drawn scale u cut t [] = []
@@ -177,20 +190,23 @@ level_name scale users level =
     words_at (codes "w") (4 * scale) (level_top scale users level + 11 * scale) (codes "LEVEL " ++ decimal level)
 
 -- a line across all rows and its tick, at each hundredth unit of scale, so many of them from one on
+abbrev pub ruler_mark : (scale users place : ℕ) → List Entry → List ℕ
+ruler_mark scale users place es =
+    plain_box (codes "grid") (across scale place) (76 * scale) scale (level_top scale users 9 - 76 * scale)
+    ++ words_at (codes "w") (across scale place) (72 * scale) (decimal (tick_at place es))
+
 abbrev pub ruler_drawn : (scale users mark count : ℕ) → List Entry → List ℕ
 ruler_drawn scale users mark zero es = []
 ruler_drawn scale users mark (suc n) es =
-    box (codes "grid") (across scale (100 * scale * mark)) (76 * scale) scale (level_top scale users 9 - 76 * scale)
-    ++ (words_at (codes "w") (across scale (100 * scale * mark)) (72 * scale) (decimal (tick_at (100 * scale * mark) es))
-    ++ ruler_drawn scale users (suc mark) n es)
+    ruler_mark scale users (100 * scale * mark) es ++ ruler_drawn scale users (suc mark) n es
 
 -- colours: levels from light to dark, users, and all else
 abbrev pub style : List ℕ
 style =
-    codes "<style>rect{stroke:#555;stroke-width:.5px;vector-effect:non-scaling-stroke}text{fill:#222}.b{font-weight:bold}.n{text-anchor:middle}.n5,.n6,.n7,.n8{fill:#fff}"
+    codes "<style>rect{stroke:#555;stroke-width:.5px;vector-effect:non-scaling-stroke}text{fill:#222}.b{font-weight:bold}.n{text-anchor:middle}.d{fill:#fff}"
     ++ (codes ".l0{fill:#ffffd9}.l1{fill:#edf8b1}.l2{fill:#c7e9b4}.l3{fill:#7fcdbb}.l4{fill:#41b6c4}.l5{fill:#1d91c0}.l6{fill:#225ea8}.l7{fill:#253494}.l8{fill:#081d58}"
     ++ (codes ".u0{fill:#bc80bd}.u1{fill:#8dd3c7}.u2{fill:#ffffb3}.u3{fill:#bebada}.u4{fill:#fb8072}.u5{fill:#80b1d3}.u6{fill:#fdb462}.u7{fill:#b3de69}.u8{fill:#fccde5}.u9{fill:#d9d9d9}"
-    ++ codes ".load{fill:#000}.wait{fill:#777;stroke:none}.idle{fill:#f2f2f2;stroke:none}.cut{fill:#777}.grid{fill:#ddd;stroke:none}.line{fill:#c00}.rise{fill:#060}.q{fill:#c00;font-weight:bold}.sheet{fill:#fff;stroke:none}</style>"))
+    ++ line (codes ".load0{fill:#000}.wait{fill:#777;stroke:none}.idle0{fill:#f2f2f2;stroke:none}.cut{fill:#777}.grid{fill:#ddd;stroke:none}.line{fill:#c00}.rise{fill:#060}.q{fill:#c00;font-weight:bold}.sheet{fill:#fff;stroke:none}</style>")))
 
 -- how it is read
 abbrev pub legend : ℕ → List ℕ
@@ -203,8 +219,8 @@ abbrev pub sheet : (scale width height : ℕ) → List ℕ
 sheet scale width height =
     codes "<svg xmlns='http://www.w3.org/2000/svg' font-family='monospace'" ++ (attribute (codes " font-size='") (11 * scale)
     ++ (codes " viewBox='0 0 " ++ (decimal width ++ (32 ∷ (decimal height ++ (codes "' width='1500'"
-    ++ (attribute (codes " height='") (1500 * height / width) ++ (codes ">" ++ (10 ∷ (style
-    ++ box (codes "sheet") 0 0 width height))))))))))
+    ++ (attribute (codes " height='") (1500 * height / width) ++ (line (codes ">") ++ (style
+    ++ plain_box (codes "sheet") 0 0 width height)))))))))
 
 -- the figures as lines of one text
 abbrev pub figures_drawn : (scale users : ℕ) → Script → Record → List ℕ
@@ -219,12 +235,12 @@ drawing_with scale users places script rec =
     sheet scale (sheet_width scale places) (sheet_height scale users)
     ++ (words_at (codes "b") (110 * scale) (20 * scale) (time_line script.params.swap rec)
     ++ (legend scale
-    ++ (idles_drawn scale users 0 rec.entries
+    ++ (drawn (idle_drawn scale users) 0 rec.entries
     ++ (ruler_drawn scale users 0 (suc (places / (100 * scale))) rec.entries
     ++ (user_rows scale 1 script.accounts rec.entries
-    ++ (users_drawn script.params.swap scale 0 rec.entries
+    ++ (drawn (user_drawn script.params.swap scale) 0 rec.entries
     ++ (flat_map (level_name scale users) all_levels
-    ++ (levels_drawn scale users 0 rec.entries
+    ++ (drawn (level_drawn scale users) 0 rec.entries
     ++ (figures_drawn scale users script rec
     ++ line (codes "</svg>"))))))))))
 

@@ -1,0 +1,5 @@
+use Rattle.text_writer.proofs.Added.{◌⨾◌}
+use Rattle.schedule_drawing.proofs.shape.add_area.Goals as goal
+
+pub returns : goal.returns
+returns g c = c.add_attribute.ensures ⨾ c.add_attribute-2.ensures ⨾ c.add_attribute-3.ensures ⨾ c.add_attribute-4.ensures

@@ -1,0 +1,172 @@
+//! Rectangles, texts and signs, as they stand in the text of a picture.
+ghost use Rattle.picture_model.specs.Drawing.{area, attribute, bar, form, plain_box, text_begun, tip, titled, words_at};
+ghost use Rattle.text_writer.specs.Writing.{Adds};
+
+use ctss_io::Sink;
+use ctss_types::Entry;
+use itoa::{Buffer, Integer};
+use report_text::add_entry;
+use text_writer::TextWriter;
+
+/// Where a rectangle lies: its upper left corner, and how wide and how high it is.
+#[derive(Clone, Copy)]
+pub struct Area {
+    pub x: u128,
+    pub y: u128,
+    pub width: u128,
+    pub height: u128,
+}
+
+/// A point of a picture.
+#[derive(Clone, Copy)]
+pub struct Point {
+    pub x: u128,
+    pub y: u128,
+}
+
+/// Adds a number.
+pub(crate) fn add_digits<K: Sink, I: Integer>(out: &mut TextWriter<'_, K>, n: I)
+    ensures { Adds K.Sink (I.text n) out.old out.new }
+{
+    let mut digits = Buffer::new();
+    out.add(digits.format(n).as_bytes());
+}
+
+/// Adds an attribute, whose name comes with all that stands before its number.
+pub(crate) fn add_attribute<K: Sink>(out: &mut TextWriter<'_, K>, name: &[u8], n: u128)
+    ensures { Adds K.Sink (attribute name.now n) out.old out.new }
+{
+    out.add(name);
+    add_digits(out, n);
+    out.add(b"'");
+}
+
+/// Adds where a rectangle lies.
+fn add_area<K: Sink>(out: &mut TextWriter<'_, K>, at: Area)
+    ensures { Adds K.Sink (area at.x at.y at.width at.height) out.old out.new }
+{
+    add_attribute(out, b" x='", at.x);
+    add_attribute(out, b" y='", at.y);
+    add_attribute(out, b" width='", at.width);
+    add_attribute(out, b" height='", at.height);
+}
+
+/// Adds the end of what has the line of an entry as its title.
+fn add_titled<K: Sink>(out: &mut TextWriter<'_, K>, what: &[u8], entry: &Entry)
+    ensures { Adds K.Sink (titled what.now entry.now) out.old out.new }
+{
+    out.add(b"><title>");
+    add_entry(out, entry);
+    out.add(b"</title></");
+    out.add(what);
+    out.line(b">");
+}
+
+/// Adds a rectangle of a class with a number, for an entry.
+pub(crate) fn add_bar<K: Sink>(
+    out: &mut TextWriter<'_, K>,
+    class: &[u8],
+    number: u8,
+    at: Area,
+    entry: &Entry,
+)
+    ensures { Adds K.Sink (bar class.now number at.x at.y at.width at.height entry.now) out.old out.new }
+{
+    out.add(b"<rect class='");
+    out.add(class);
+    add_digits(out, number);
+    out.add(b"'");
+    add_area(out, at);
+    add_titled(out, b"rect", entry);
+}
+
+/// Adds a rectangle of a class alone.
+pub(crate) fn add_box<K: Sink>(out: &mut TextWriter<'_, K>, class: &[u8], at: Area)
+    ensures { Adds K.Sink (plain_box class.now at.x at.y at.width at.height) out.old out.new }
+{
+    out.add(b"<rect class='");
+    out.add(class);
+    out.add(b"'");
+    add_area(out, at);
+    out.line(b"/>");
+}
+
+/// Adds the begin of a text of a class, at a point.
+pub(crate) fn begin_text<K: Sink>(out: &mut TextWriter<'_, K>, class: &[u8], at: Point)
+    ensures { Adds K.Sink (text_begun class.now at.x at.y) out.old out.new }
+{
+    out.add(b"<text class='");
+    out.add(class);
+    out.add(b"'");
+    add_attribute(out, b" x='", at.x);
+    add_attribute(out, b" y='", at.y);
+    out.add(b">");
+}
+
+/// Adds a text of a class, at a point.
+pub(crate) fn add_words<K: Sink>(
+    out: &mut TextWriter<'_, K>,
+    class: &[u8],
+    at: Point,
+    text: &[u8],
+)
+    ensures { Adds K.Sink (words_at class.now at.x at.y text.now) out.old out.new }
+{
+    begin_text(out, class, at);
+    out.add(text);
+    out.line(b"</text>");
+}
+
+/// Adds a number as a text of a class, at a point.
+pub(crate) fn add_number_at<K: Sink, I: Integer>(
+    out: &mut TextWriter<'_, K>,
+    class: &[u8],
+    at: Point,
+    n: I,
+)
+    ensures { Adds K.Sink (words_at class.now at.x at.y (I.text n)) out.old out.new }
+{
+    begin_text(out, class, at);
+    add_digits(out, n);
+    out.line(b"</text>");
+}
+
+/// A sign: its class, and what stands between its two strokes, `-` where they go up and a blank where they go down.
+#[derive(Clone, Copy)]
+pub(crate) struct Sign {
+    pub class: &'static [u8],
+    pub side: &'static [u8],
+}
+
+/// Adds the form of a sign whose tip is at a point.
+fn add_form<K: Sink>(out: &mut TextWriter<'_, K>, scale: u64, at: Point, side: &[u8])
+    ensures { Adds K.Sink (form scale at.x at.y side.now) out.old out.new }
+{
+    add_digits(out, at.x);
+    out.add(b" ");
+    add_digits(out, at.y);
+    out.add(b"l-");
+    add_digits(out, 3 * u128::from(scale));
+    out.add(side);
+    add_digits(out, 6 * u128::from(scale));
+    out.add(b"h");
+    add_digits(out, 6 * u128::from(scale));
+}
+
+/// Adds a sign for an entry, with its tip at a point.
+pub(crate) fn add_sign<K: Sink>(
+    out: &mut TextWriter<'_, K>,
+    scale: u64,
+    sign: Sign,
+    at: Point,
+    entry: &Entry,
+)
+    ensures { Adds K.Sink (tip sign.class.now scale at.x at.y sign.side.now entry.now) out.old out.new }
+{
+    out.add(b"<path class='");
+    out.add(sign.class);
+    out.add(b"' d='M");
+    add_form(out, scale, at, sign.side);
+    out.add(b"z'");
+    add_titled(out, b"path", entry);
+}

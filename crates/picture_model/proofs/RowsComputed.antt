@@ -1,6 +1,7 @@
 -- The rows of specs/Rows, by computing.
 use Rattle.std.proofs.Common.{refl}
 use Rattle.std.specs.Fmt.{digits}
+use Rattle.picture_model.specs.Drawing.{attribute, text_begun}
 use Rattle.picture_model.specs.Rows.{RowOfVisits, RowOfFigures, RowOfCells}
 
 pub row_of_visits : RowOfVisits
@@ -20,7 +21,7 @@ row_of_figures = record {
 }
 
 pub row_of_cells : RowOfCells
-unfolding digits
+unfolding digits attribute text_begun
 row_of_cells = record {
   cut = refl;
   before = refl;

@@ -1,5 +1,5 @@
 -- claim: the picture of a record, drawn: who ran, the levels, and the figures, as one SVG text.
-use Rattle.std.specs.Prelude.{ℕ, zero, suc, ◌+◌, ◌-◌, ◌*◌, ◌/◌, ◌%◌, nat_eq, nat_lt, max, if◌then◌else◌, List, [], ◌∷◌, ◌++◌, length, codes}
+use Rattle.std.specs.Prelude.{ℕ, zero, suc, ◌+◌, ◌-◌, ◌*◌, ◌/◌, ◌%◌, nat_eq, nat_lt, nat_le, max, if◌then◌else◌, List, [], ◌∷◌, ◌++◌, length, codes}
 use Rattle.std.specs.List.{flat_map}
 use Rattle.std.specs.Fmt.{decimal}
 use Rattle.bcd48.specs.Words.{characters_of}
@@ -21,7 +21,7 @@ use Rattle.picture_model.specs.FigureLines.{all_levels, figures_in, time_line}
 use Rattle.picture_model.specs.Folds.{cut_of, places_in, tick_at}
 
 -- an attribute and its number, as in x='12'
-abbrev pub attribute : List ℕ → ℕ → List ℕ
+unfoldable pub attribute : List ℕ → ℕ → List ℕ
 attribute name n = name ++ (decimal n ++ (39 ∷ []))
 
 -- How a picture is laid out: a place is one unit wide, and all else is a multiple of this number, so that writing can be read however
@@ -50,25 +50,25 @@ abbrev pub sheet_width : (scale places : ℕ) → ℕ
 sheet_width scale places = 130 * scale + max places (900 * scale)
 
 -- where a rectangle lies
-abbrev pub area : (x y width height : ℕ) → List ℕ
+unfoldable pub area : (x y width height : ℕ) → List ℕ
 area x y width height =
     attribute (codes " x='") x ++ (attribute (codes " y='") y ++ (attribute (codes " width='") width ++ attribute (codes " height='") height))
 
 -- the end of what has an entry's own line as its title
-abbrev pub titled : (what : List ℕ) → Entry → List ℕ
+unfoldable pub titled : (what : List ℕ) → Entry → List ℕ
 titled what e = codes "><title>" ++ (entry_text e ++ (codes "</title></" ++ (what ++ line (codes ">"))))
 
 -- a rectangle of a class with a number, for an entry
-abbrev pub bar : (class : List ℕ) (number x y width height : ℕ) → Entry → List ℕ
+unfoldable pub bar : (class : List ℕ) (number x y width height : ℕ) → Entry → List ℕ
 bar class number x y width height e =
     codes "<rect class='" ++ (class ++ (decimal number ++ (codes "'" ++ (area x y width height ++ titled (codes "rect") e))))
 
 -- a rectangle of a class alone
-abbrev pub plain_box : (class : List ℕ) (x y width height : ℕ) → List ℕ
+unfoldable pub plain_box : (class : List ℕ) (x y width height : ℕ) → List ℕ
 plain_box class x y width height = codes "<rect class='" ++ (class ++ (codes "'" ++ (area x y width height ++ line (codes "/>"))))
 
 -- a text of a class, at a point
-abbrev pub text_begun : (class : List ℕ) (x y : ℕ) → List ℕ
+unfoldable pub text_begun : (class : List ℕ) (x y : ℕ) → List ℕ
 text_begun class x y =
     codes "<text class='" ++ (class ++ (codes "'" ++ (attribute (codes " x='") x ++ (attribute (codes " y='") y ++ codes ">"))))
 
@@ -76,13 +76,13 @@ abbrev pub words_at : (class : List ℕ) (x y : ℕ) (text : List ℕ) → List 
 words_at class x y text = text_begun class x y ++ (text ++ line (codes "</text>"))
 
 -- the form of a sign: its tip at a point, and two strokes of three units to each side
-abbrev pub form : (scale x y : ℕ) (side : List ℕ) → List ℕ
+unfoldable pub form : (scale x y : ℕ) (side : List ℕ) → List ℕ
 form scale x y side =
     decimal x ++ (codes " " ++ (decimal y ++ (codes "l-" ++ (decimal (3 * scale) ++ (side ++ (decimal (6 * scale)
     ++ (codes "h" ++ decimal (6 * scale))))))))
 
 -- a sign for an entry
-abbrev pub tip : (class : List ℕ) (scale x y : ℕ) (side : List ℕ) → Entry → List ℕ
+unfoldable pub tip : (class : List ℕ) (scale x y : ℕ) (side : List ℕ) → Entry → List ℕ
 tip class scale x y side e =
     codes "<path class='" ++ (class ++ (codes "' d='M" ++ (form scale x y side ++ (codes "z'" ++ titled (codes "path") e))))
 
@@ -101,12 +101,12 @@ abbrev pub label_class : ℕ → List ℕ
 label_class number = if nat_lt number 5 then codes "n" else codes "n d"
 
 abbrev pub label_letter : (scale width letter : ℕ) → List ℕ
-label_letter scale width letter = if nat_lt width (16 * scale) then [] else letter ∷ []
+label_letter scale width letter = if nat_le (16 * scale) width then letter ∷ [] else []
 
 abbrev pub bar_label : (scale x y width number letter : ℕ) → List ℕ
 bar_label scale x y width number letter =
-    if nat_lt width (8 * scale) then []
-    else words_at (label_class number) (x + width / 2) y (decimal number ++ label_letter scale width letter)
+    if nat_le (8 * scale) width
+    then words_at (label_class number) (x + width / 2) y (decimal number ++ label_letter scale width letter) else []
 
 -- what came to a user: a sign for a line, a letter for what ends its work, nothing for a dial
 abbrev pub event_drawn : (scale x y : ℕ) → EventKind → Entry → List ℕ
@@ -116,42 +116,63 @@ event_drawn scale x y kind.Quit e = words_at (codes "q") x (y + 7 * scale) (code
 event_drawn scale x y kind.Hang e = words_at (codes "q") x (y + 7 * scale) (codes "H")
 event_drawn scale x y kind.Spent e = words_at (codes "q") x (y + 7 * scale) (codes "S")
 
--- an entry in the rows of users: a service, a load, what came to a user in a session, and a rise
+-- a service, at a place: its bar, and its label
+abbrev pub service_drawn : (scale place u level ran : ℕ) → Cause → Entry → List ℕ
+service_drawn scale place u level ran cause e =
+    bar (codes "l") level (across scale place) (user_top scale u + 8 * scale) ran (14 * scale) e
+    ++ bar_label scale (across scale place) (user_top scale u + 19 * scale) ran level (cause_letter cause)
+
+-- a load: its bar
+abbrev pub load_drawn : (swap scale place u dumped read : ℕ) → Entry → List ℕ
+load_drawn swap scale place u dumped read e =
+    bar (codes "load") 0 (across scale place) (user_top scale u + 8 * scale) (swap * (dumped + read)) (14 * scale) e
+
+-- what came to a user, if it came in a session
+abbrev pub taken_drawn : (scale place u : ℕ) → EventKind → Entry → List ℕ
+taken_drawn scale place u kind e = if nat_eq u 0 then [] else event_drawn scale (across scale place) (user_top scale u) kind e
+
+-- a rise: a sign
+abbrev pub rise_drawn : (scale place u : ℕ) → Entry → List ℕ
+rise_drawn scale place u e = tip (codes "rise") scale (across scale place) (user_top scale u + 2 * scale) (codes " ") e
+
+-- an entry in the rows of users, where so many ticks are cut out before
 abbrev pub user_drawn : (swap scale cut : ℕ) → Entry → List ℕ
 user_drawn swap scale cut (Serve tick u level ran cause) =
-    bar (codes "l") level (across scale (tick - cut)) (user_top scale u + 8 * scale) ran (14 * scale) (Serve tick u level ran cause)
-    ++ bar_label scale (across scale (tick - cut)) (user_top scale u + 19 * scale) ran level (cause_letter cause)
+    service_drawn scale (tick - cut) u level ran cause (Serve tick u level ran cause)
 user_drawn swap scale cut (Swap tick u dumped read fresh) =
-    bar (codes "load") 0 (across scale (tick - cut)) (user_top scale u + 8 * scale) (swap * (dumped + read)) (14 * scale)
-    (Swap tick u dumped read fresh)
-user_drawn swap scale cut (Taken tick console kind u own) =
-    if nat_eq u 0 then []
-    else event_drawn scale (across scale (tick - cut)) (user_top scale u) kind (Taken tick console kind u own)
-user_drawn swap scale cut (Rise tick u level) =
-    tip (codes "rise") scale (across scale (tick - cut)) (user_top scale u + 2 * scale) (codes " ") (Rise tick u level)
+    load_drawn swap scale (tick - cut) u dumped read (Swap tick u dumped read fresh)
+user_drawn swap scale cut (Taken tick console kind u own) = taken_drawn scale (tick - cut) u kind (Taken tick console kind u own)
+user_drawn swap scale cut (Rise tick u level) = rise_drawn scale (tick - cut) u (Rise tick u level)
 user_drawn swap scale cut _ = []
 
 -- an entry in the rows of levels: a service, in the user's colour and with its number
 abbrev pub level_label : (scale x y width number : ℕ) → List ℕ
 level_label scale x y width number =
-    if nat_lt width (16 * scale) then [] else words_at (codes "n") (x + width / 2) y (decimal number)
+    if nat_le (16 * scale) width then words_at (codes "n") (x + width / 2) y (decimal number) else []
+
+abbrev pub level_service : (scale users place level ran u : ℕ) → Entry → List ℕ
+level_service scale users place level ran u e =
+    bar (codes "u") (u % 10) (across scale place) (level_top scale users level) ran (14 * scale) e
+    ++ level_label scale (across scale place) (level_top scale users level + 11 * scale) ran u
 
 abbrev pub level_drawn : (scale users cut : ℕ) → Entry → List ℕ
 level_drawn scale users cut (Serve tick u level ran cause) =
-    bar (codes "u") (u % 10) (across scale (tick - cut)) (level_top scale users level) ran (14 * scale) (Serve tick u level ran cause)
-    ++ level_label scale (across scale (tick - cut)) (level_top scale users level + 11 * scale) ran u
+    level_service scale users (tick - cut) level ran u (Serve tick u level ran cause)
 level_drawn scale users cut _ = []
 
 -- an idle time behind all rows, and how long it was, where there is room
 abbrev pub idle_label : (scale x from until : ℕ) → List ℕ
 idle_label scale x from until =
-    if nat_lt 1 scale then [] else words_at (codes "n cut") (x + 26) (94 * scale) (decimal (until - from))
+    if nat_le scale 1 then words_at (codes "n cut") (x + 26) (94 * scale) (decimal (until - from)) else []
+
+abbrev pub idle_bar : (scale users cut from until : ℕ) → Entry → List ℕ
+idle_bar scale users cut from until e =
+    bar (codes "idle") 0 (across scale (from - cut)) (user_top scale 1) ((until - from) - cut_of e)
+    (level_top scale users 9 - user_top scale 1) e
+    ++ idle_label scale (across scale (from - cut)) from until
 
 abbrev pub idle_drawn : (scale users cut : ℕ) → Entry → List ℕ
-idle_drawn scale users cut (Idle from until) =
-    bar (codes "idle") 0 (across scale (from - cut)) (user_top scale 1) ((until - from) - cut_of (Idle from until))
-    (level_top scale users 9 - user_top scale 1) (Idle from until)
-    ++ idle_label scale (across scale (from - cut)) from until
+idle_drawn scale users cut (Idle from until) = idle_bar scale users cut from until (Idle from until)
 idle_drawn scale users cut _ = []
 
 -- what is drawn of each entry, where so many ticks are cut out before the first
@@ -177,7 +198,7 @@ waits_drawn scale u cut t (e ∷ es) = wait_drawn scale u cut t e ++ waits_drawn
 -- a user's name before its row, and its times in a queue
 abbrev pub user_row : (scale u : ℕ) → Account → List Entry → List ℕ
 user_row scale u a es =
-    words_at (codes "w") (4 * scale) (user_top scale u + 19 * scale) (decimal u ++ (32 ∷ characters_of a.name))
+    words_at (codes "w") (4 * scale) (user_top scale u + 19 * scale) (decimal u ++ (codes " " ++ characters_of a.name))
     ++ waits_drawn scale u 0 Fresh es
 
 abbrev pub user_rows : (scale u : ℕ) → List Account → List Entry → List ℕ
@@ -201,7 +222,7 @@ ruler_drawn scale users mark (suc n) es =
     ruler_mark scale users (100 * scale * mark) es ++ ruler_drawn scale users (suc mark) n es
 
 -- colours: levels from light to dark, users, and all else
-abbrev pub style : List ℕ
+unfoldable pub style : List ℕ
 style =
     codes "<style>rect{stroke:#555;stroke-width:.5px;vector-effect:non-scaling-stroke}text{fill:#222}.b{font-weight:bold}.n{text-anchor:middle}.d{fill:#fff}"
     ++ (codes ".l0{fill:#ffffd9}.l1{fill:#edf8b1}.l2{fill:#c7e9b4}.l3{fill:#7fcdbb}.l4{fill:#41b6c4}.l5{fill:#1d91c0}.l6{fill:#225ea8}.l7{fill:#253494}.l8{fill:#081d58}"
@@ -209,40 +230,50 @@ style =
     ++ line (codes ".load0{fill:#000}.wait{fill:#777;stroke:none}.idle0{fill:#f2f2f2;stroke:none}.cut{fill:#777}.grid{fill:#ddd;stroke:none}.line{fill:#c00}.rise{fill:#060}.q{fill:#c00;font-weight:bold}.sheet{fill:#fff;stroke:none}</style>")))
 
 -- how it is read
-abbrev pub legend : ℕ → List ℕ
+unfoldable pub legend : ℕ → List ℕ
 legend scale =
     words_at (codes "w") (110 * scale) (36 * scale) (codes "Number and colour: the level. Letter: why the service ended (T its time was over, P another was preferred, W it waits for a line,")
     ++ words_at (codes "w") (110 * scale) (50 * scale) (codes "S done, Z a new size, E the end). Black: brought into core. Thin: in a queue. Red: a line, Q a quit, H a hang-up. Grey: idle, cut to 52 ticks.")
 
--- the first lines, and a sheet of white
-abbrev pub sheet : (scale width height : ℕ) → List ℕ
-sheet scale width height =
+-- the first lines: on a screen a unit of scale is a pixel
+unfoldable pub sheet_begun : (scale users places : ℕ) → List ℕ
+sheet_begun scale users places =
     codes "<svg xmlns='http://www.w3.org/2000/svg' font-family='monospace'" ++ (attribute (codes " font-size='") (11 * scale)
-    ++ (codes " viewBox='0 0 " ++ (decimal width ++ (32 ∷ (decimal height ++ (codes "' width='1500'"
-    ++ (attribute (codes " height='") (1500 * height / width) ++ (line (codes ">") ++ (style
-    ++ plain_box (codes "sheet") 0 0 width height)))))))))
+    ++ (codes " viewBox='0 0 " ++ (decimal (sheet_width scale places) ++ (codes " " ++ (decimal (sheet_height scale users)
+    ++ (codes "'" ++ (attribute (codes " width='") (sheet_width scale places / scale)
+    ++ (attribute (codes " height='") (640 + 40 * users) ++ line (codes ">")))))))))
+
+-- a sheet of white
+abbrev pub sheet : (scale users places : ℕ) → List ℕ
+sheet scale users places =
+    sheet_begun scale users places ++ (style ++ plain_box (codes "sheet") 0 0 (sheet_width scale places) (sheet_height scale users))
 
 -- the figures as lines of one text
-abbrev pub figures_drawn : (scale users : ℕ) → Script → Record → List ℕ
+unfoldable pub figures_drawn : (scale users : ℕ) → Script → Record → List ℕ
 figures_drawn scale users script rec =
     codes "<svg overflow='visible'" ++ (attribute (codes " x='") (4 * scale) ++ (attribute (codes " y='") (figures_top scale users)
     ++ (codes "><text xml:space='preserve'>" ++ (figures_in (codes "<tspan x='0' dy='1.25em'>") (codes "</tspan>") script rec
     ++ line (codes "</text></svg>")))))
 
--- What is drawn, from back to front: idle times, the ruler, the rows of users and what is in them, those of levels, and the figures.
+-- the rows of users and what is in them, and those of levels
+abbrev pub rows_drawn : (swap scale users : ℕ) → Script → Record → List ℕ
+rows_drawn swap scale users script rec =
+    user_rows scale 1 script.accounts rec.entries
+    ++ (drawn (user_drawn swap scale) 0 rec.entries
+    ++ (flat_map (level_name scale users) all_levels
+    ++ drawn (level_drawn scale users) 0 rec.entries))
+
+-- what is drawn, from back to front: idle times, the ruler, the rows, and the figures
 abbrev pub drawing_with : (scale users places : ℕ) → Script → Record → List ℕ
 drawing_with scale users places script rec =
-    sheet scale (sheet_width scale places) (sheet_height scale users)
+    sheet scale users places
     ++ (words_at (codes "b") (110 * scale) (20 * scale) (time_line script.params.swap rec)
     ++ (legend scale
     ++ (drawn (idle_drawn scale users) 0 rec.entries
     ++ (ruler_drawn scale users 0 (suc (places / (100 * scale))) rec.entries
-    ++ (user_rows scale 1 script.accounts rec.entries
-    ++ (drawn (user_drawn script.params.swap scale) 0 rec.entries
-    ++ (flat_map (level_name scale users) all_levels
-    ++ (drawn (level_drawn scale users) 0 rec.entries
+    ++ (rows_drawn script.params.swap scale users script rec
     ++ (figures_drawn scale users script rec
-    ++ line (codes "</svg>"))))))))))
+    ++ line (codes "</svg>")))))))
 
 unfoldable pub drawing_of : Script → Record → List ℕ
 drawing_of script rec = drawing_with (scale_for (places_in rec)) (length script.accounts) (places_in rec) script rec

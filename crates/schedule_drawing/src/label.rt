@@ -32,6 +32,7 @@ fn label_class(number: u8) -> &'static [u8]
 }
 
 /// Adds the letter, where there is room for it.
+#[tactic(auto, using(text_writer::proofs::Added::adds_none))]
 fn add_letter<K: Sink>(out: &mut TextWriter<'_, K>, sheet: Sheet, width: u64, letter: u8)
     ensures { Adds K.Sink (label_letter sheet.scale width letter) out.old out.new }
 {
@@ -71,6 +72,7 @@ fn middle_of(at: Point, width: u64) -> Point
 }
 
 /// Adds the label of a user's bar that begins at a point, if the bar is wide enough.
+#[tactic(auto, using(text_writer::proofs::Added::adds_none))]
 pub(crate) fn add_label<K: Sink>(
     out: &mut TextWriter<'_, K>,
     sheet: Sheet,
@@ -88,6 +90,7 @@ pub(crate) fn add_label<K: Sink>(
 }
 
 /// Adds the label of a level's bar that begins at a point, if the bar is wide enough.
+#[tactic(auto, using(text_writer::proofs::Added::adds_none))]
 pub(crate) fn add_level_label<K: Sink>(
     out: &mut TextWriter<'_, K>,
     sheet: Sheet,

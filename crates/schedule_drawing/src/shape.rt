@@ -2,6 +2,7 @@
 ghost use Rattle.picture_model.specs.Drawing.{area, attribute, bar, form, plain_box, text_begun, tip, titled, words_at};
 ghost use Rattle.text_writer.specs.Writing.{Adds};
 
+use crate::sheet::Sheet;
 use ctss_io::Sink;
 use ctss_types::Entry;
 use itoa::{Buffer, Integer};
@@ -139,34 +140,34 @@ pub(crate) struct Sign {
 }
 
 /// Adds the form of a sign whose tip is at a point.
-fn add_form<K: Sink>(out: &mut TextWriter<'_, K>, scale: u64, at: Point, side: &[u8])
-    ensures { Adds K.Sink (form scale at.x at.y side.now) out.old out.new }
+fn add_form<K: Sink>(out: &mut TextWriter<'_, K>, sheet: Sheet, at: Point, side: &[u8])
+    ensures { Adds K.Sink (form sheet.scale at.x at.y side.now) out.old out.new }
 {
     add_digits(out, at.x);
     out.add(b" ");
     add_digits(out, at.y);
     out.add(b"l-");
-    add_digits(out, 3 * u128::from(scale));
+    add_digits(out, sheet.units(3));
     out.add(side);
-    add_digits(out, 6 * u128::from(scale));
+    add_digits(out, sheet.units(6));
     out.add(b"h");
-    add_digits(out, 6 * u128::from(scale));
+    add_digits(out, sheet.units(6));
 }
 
 /// Adds a sign for an entry, with its tip at a point.
 pub(crate) fn add_sign<K: Sink>(
     out: &mut TextWriter<'_, K>,
-    scale: u64,
+    sheet: Sheet,
     sign: Sign,
     at: Point,
     entry: &Entry,
 )
-    ensures { Adds K.Sink (tip sign.class.now scale at.x at.y sign.side.now entry.now) out.old out.new }
+    ensures { Adds K.Sink (tip sign.class.now sheet.scale at.x at.y sign.side.now entry.now) out.old out.new }
 {
     out.add(b"<path class='");
     out.add(sign.class);
     out.add(b"' d='M");
-    add_form(out, scale, at, sign.side);
+    add_form(out, sheet, at, sign.side);
     out.add(b"z'");
     add_titled(out, b"path", entry);
 }

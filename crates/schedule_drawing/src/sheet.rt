@@ -1,6 +1,6 @@
 //! How a picture is laid out: a place is one unit wide, and all else a multiple of the scale.
 ghost use Rattle.std.specs.Prelude.{◌≡◌, ◌≤◌, ◌+◌, ◌*◌, ◌/◌, ◌^◌, suc};
-ghost use Rattle.picture_model.specs.Drawing.{across, level_top, scale_for, user_top};
+ghost use Rattle.picture_model.specs.Drawing.{across, figures_top, level_top, scale_for, sheet_height, sheet_width, user_top};
 
 /// The scale of a picture, how many users it has, and the ticks that a block takes.
 #[derive(Clone, Copy)]
@@ -15,6 +15,7 @@ pub struct Sheet {
 pub(crate) fn scale_for(places: u64) -> u64
     ensures value { result ≡ scale_for places }
     ensures small { result ≤ 2 ^ 54 }
+    ensures some { 1 ≤ result }
 {
     places / 1200 + 1
 }
@@ -50,5 +51,27 @@ impl Sheet {
         ensures small { result ≤ 2 ^ 124 }
     {
         (140 + (26 * u128::from(self.users) + 18 * u128::from(level))) * u128::from(self.scale)
+    }
+
+    /// The upper edge of the figures.
+    pub(crate) fn figures_top(self) -> u128
+        ensures { result ≡ figures_top self.scale self.users }
+    {
+        (330 + 26 * u128::from(self.users)) * u128::from(self.scale)
+    }
+
+    /// How high the picture is.
+    pub(crate) fn height(self) -> u128
+        ensures value { result ≡ sheet_height self.scale self.users }
+        ensures small { result ≤ 2 ^ 124 }
+    {
+        (640 + 40 * u128::from(self.users)) * u128::from(self.scale)
+    }
+
+    /// How wide a picture of so many places is.
+    pub(crate) fn width(self, places: u64) -> u128
+        ensures value { result ≡ sheet_width self.scale places }
+    {
+        self.units(130) + u128::from(places).max(self.units(900))
     }
 }

@@ -134,7 +134,7 @@ impl Track {
     }
 
     /// Behind one entry more, of this user's.
-    pub fn after(self, user: u8, entry: &Entry) -> Track
+    pub fn after(self, user: u64, entry: &Entry) -> Track
         ensures { result ≡ track_after user self entry.now }
     {
         match entry {
@@ -143,14 +143,14 @@ impl Track {
                 kind,
                 user: of,
                 ..
-            } if *of == user => self.taken_as(*kind, u128::from(*tick)),
+            } if u64::from(*of) == user => self.taken_as(*kind, u128::from(*tick)),
             Entry::Serve {
                 tick,
                 user: of,
                 ran,
                 cause,
                 ..
-            } if *of == user => self.served(*tick, *ran, *cause),
+            } if u64::from(*of) == user => self.served(*tick, *ran, *cause),
             _ => self,
         }
     }

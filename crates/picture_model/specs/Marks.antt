@@ -1,5 +1,5 @@
 -- claim: the marks of a picture in characters, and the cells that they cover.
-use Rattle.std.specs.Prelude.{ℕ, zero, suc, ◌+◌, ◌-◌, ◌*◌, ◌/◌, Bool, nat_eq, nat_lt, nat_le, ◌&&◌, max, if◌then◌else◌, List, [], ◌∷◌, ◌++◌, map, fold}
+use Rattle.std.specs.Prelude.{ℕ, zero, suc, ◌+◌, ◌-◌, ◌*◌, ◌/◌, Bool, nat_eq, nat_lt, nat_le, ◌&&◌, min, max, if◌then◌else◌, List, [], ◌∷◌, ◌++◌, map, fold}
 use Rattle.ctss_types.specs.declared.history.EventKind.{EventKind}
 use Rattle.ctss_types.specs.declared.history.EventKind.TheVariants as kind
 use Rattle.ctss_types.specs.declared.history.Entry.{Entry}
@@ -18,6 +18,11 @@ pub record Mark : Type 0 where
 abbrev pub mark : (at ticks character : ℕ) → Mark
 mark at ticks character = record { at = at; ticks = ticks; character = character }
 
+-- A number in one character: the digits, and then letters from A on, of which Z stands for 35 and all numbers behind it. Levels and
+-- users' numbers are below that.
+abbrev pub number_character : ℕ → ℕ
+number_character n = if nat_lt n 10 then 48 + n else 55 + min n 35
+
 -- A user waits from one tick to another, where so many are cut out before: a point. It is in a queue, so nothing of this time is cut out.
 abbrev pub wait_marks : (cut waited tick : ℕ) → List Mark
 wait_marks cut waited tick = if nat_lt waited tick then mark (waited - cut) (tick - waited) 46 ∷ [] else []
@@ -25,7 +30,7 @@ wait_marks cut waited tick = if nat_lt waited tick then mark (waited - cut) (tic
 -- A user's marks at an entry: a point while it waits, / while it is brought in, and the number of the level that it is served at.
 abbrev pub served_marks : (swap u cut : ℕ) → Track → Entry → List Mark
 served_marks swap u cut t (Serve tick v level ran cause) =
-    if nat_eq v u then wait_marks cut (waited_from t tick) tick ++ (mark (tick - cut) ran (48 + level) ∷ []) else []
+    if nat_eq v u then wait_marks cut (waited_from t tick) tick ++ (mark (tick - cut) ran (number_character level) ∷ []) else []
 served_marks swap u cut t (Swap tick v dumped read fresh) =
     if nat_eq v u then mark (tick - cut) (swap * (dumped + read)) 47 ∷ [] else []
 served_marks swap u cut t _ = []
@@ -53,13 +58,9 @@ abbrev pub event_row : (u cut : ℕ) → List Entry → List Mark
 event_row u cut [] = []
 event_row u cut (e ∷ es) = event_marks u cut e ++ event_row u (cut + cut_of e) es
 
--- a user's character: the digits, and then letters from A on
-abbrev pub user_character : ℕ → ℕ
-user_character u = if nat_lt u 10 then 48 + u else 55 + u
-
 -- who is served at a level
 abbrev pub level_marks : (level cut : ℕ) → Entry → List Mark
-level_marks level cut (Serve tick u l ran cause) = if nat_eq l level then mark (tick - cut) ran (user_character u) ∷ [] else []
+level_marks level cut (Serve tick u l ran cause) = if nat_eq l level then mark (tick - cut) ran (number_character u) ∷ [] else []
 level_marks level cut _ = []
 
 abbrev pub level_row : (level cut : ℕ) → List Entry → List Mark

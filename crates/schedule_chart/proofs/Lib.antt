@@ -1,1 +1,5 @@
+pub mod Left
 pub mod Lists
+pub mod Numbered
+pub mod Painted
+pub mod Places

@@ -1,0 +1,2 @@
+pub mod Painted
+pub mod Times

@@ -1,0 +1,48 @@
+//! The users' rows.
+ghost use Rattle.bcd48.specs.Words.{characters_of};
+ghost use Rattle.picture_model.specs.Chart.{user_rows, all_user_rows};
+ghost use Rattle.text_writer.specs.Writing.{Adds};
+
+use crate::columns::Columns;
+use crate::numbers::add_right;
+use crate::rows::{add_event_row, add_served_row};
+use bcd48::text6;
+use ctss_io::Sink;
+use ctss_types::{Account, Entry};
+use text_writer::TextWriter;
+
+/// Adds the two rows of a user: what came to it, and how it waited and was served.
+fn add_user<K: Sink>(
+    out: &mut TextWriter<'_, K>,
+    columns: Columns,
+    swap: u64,
+    user: u64,
+    account: &Account,
+    entries: &[Entry],
+)
+    ensures { Adds K.Sink (user_rows swap columns.each columns.count user account.now entries.now) out.old out.new }
+{
+    out.add(b"          ");
+    add_event_row(out, columns, user, entries);
+    out.end_line();
+    add_right(out, user);
+    out.blank(&text6(account.name.bits()));
+    out.add(b" ");
+    add_served_row(out, columns, swap, user, entries);
+    out.end_line();
+}
+
+/// Adds the rows of all users; the first account is user 1.
+pub fn add_users<K: Sink>(
+    out: &mut TextWriter<'_, K>,
+    columns: Columns,
+    swap: u64,
+    accounts: &[Account],
+    entries: &[Entry],
+)
+    ensures { Adds K.Sink (all_user_rows swap columns.each columns.count 1 accounts.now entries.now) out.old out.new }
+{
+    for (index, account) in accounts.iter().enumerate() {
+        add_user(out, columns, swap, index as u64 + 1, account, entries);
+    }
+}

@@ -256,24 +256,29 @@ figures_drawn scale users script rec =
     ++ line (codes "</text></svg>")))))
 
 -- the rows of users and what is in them, and those of levels
-abbrev pub rows_drawn : (swap scale users : ℕ) → Script → Record → List ℕ
-rows_drawn swap scale users script rec =
-    user_rows scale 1 script.accounts rec.entries
-    ++ (drawn (user_drawn swap scale) 0 rec.entries
+abbrev pub rows_drawn : (swap scale users : ℕ) → List Account → List Entry → List ℕ
+rows_drawn swap scale users accounts es =
+    user_rows scale 1 accounts es
+    ++ (drawn (user_drawn swap scale) 0 es
     ++ (flat_map (level_name scale users) all_levels
-    ++ drawn (level_drawn scale users) 0 rec.entries))
+    ++ drawn (level_drawn scale users) 0 es))
 
--- what is drawn, from back to front: idle times, the ruler, the rows, and the figures
-abbrev pub drawing_with : (scale users places : ℕ) → Script → Record → List ℕ
-drawing_with scale users places script rec =
+-- what lies behind the rows: a sheet, what the whole time went into, how the picture is read, idle times and the ruler
+abbrev pub back_drawn : (scale users places swap : ℕ) → Record → List ℕ
+back_drawn scale users places swap rec =
     sheet scale users places
-    ++ (words_at (codes "b") (110 * scale) (20 * scale) (time_line script.params.swap rec)
+    ++ (words_at (codes "b") (110 * scale) (20 * scale) (time_line swap rec)
     ++ (legend scale
     ++ (drawn (idle_drawn scale users) 0 rec.entries
-    ++ (ruler_drawn scale users 0 (suc (places / (100 * scale))) rec.entries
-    ++ (rows_drawn script.params.swap scale users script rec
+    ++ ruler_drawn scale users 0 (suc (places / (100 * scale))) rec.entries)))
+
+-- what is drawn, from back to front
+abbrev pub drawing_with : (scale users places : ℕ) → Script → Record → List ℕ
+drawing_with scale users places script rec =
+    back_drawn scale users places script.params.swap rec
+    ++ (rows_drawn script.params.swap scale users script.accounts rec.entries
     ++ (figures_drawn scale users script rec
-    ++ line (codes "</svg>")))))))
+    ++ line (codes "</svg>")))
 
 unfoldable pub drawing_of : Script → Record → List ℕ
 drawing_of script rec = drawing_with (scale_for (places_in rec)) (length script.accounts) (places_in rec) script rec

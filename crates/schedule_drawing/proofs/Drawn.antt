@@ -1,5 +1,5 @@
 -- What is drawn of entries and of users, one after another.
-use Rattle.std.proofs.Common.{◌≡◌, ℕ, suc, ◌+◌, ◌-◌, ◌*◌, ◌<◌, ◌≤◌, List, [], ◌∷◌, ◌++◌, length, drop, get_or, refl, sym, ap, ◌∙◌, arith, append_assoc, append-nil, drop-cons}
+use Rattle.std.proofs.Common.{◌≡◌, ℕ, suc, ◌+◌, ◌-◌, ◌*◌, ◌/◌, ◌<◌, ◌≤◌, List, [], ◌∷◌, ◌++◌, length, drop, get_or, refl, sym, ap, ◌∙◌, arith, append_assoc, append-nil, drop-cons}
 use Rattle.std.specs.Fmt.{decimal}
 use Rattle.std.proofs.lemmas.List.{drop_all}
 use Rattle.ctss_types.specs.declared.history.Entry.{Entry}
@@ -7,7 +7,7 @@ use Rattle.ctss_types.specs.declared.script.Account.{Account}
 use Rattle.picture_model.specs.declared.request.Track.{Track}
 use Rattle.picture_model.specs.Requests.{track_after}
 use Rattle.picture_model.specs.Folds.{cut_of}
-use Rattle.picture_model.specs.Drawing.{drawn, wait_drawn, waits_drawn, user_row, user_rows, ruler_mark, ruler_drawn, bar, bar_label, level_label, plain_box, text_begun, words_at}
+use Rattle.picture_model.specs.Drawing.{drawn, wait_drawn, waits_drawn, user_row, user_rows, ruler_mark, ruler_drawn, attribute, bar, bar_label, level_label, plain_box, text_begun, words_at}
 
 -- an element of a list, and those behind it
 split : {X : Type 0} (xs : List X) (i : ℕ) (x : X) → i < length xs → x ≡ get_or xs i x → drop i xs ≡ x ∷ drop (i + 1) xs
@@ -98,3 +98,12 @@ label_is scale w n p q r = rw (p, q, r) refl
 
 pub level_label_is : (scale w n : ℕ) {x y x2 y2 : ℕ} → x ≡ x2 → y ≡ y2 → level_label scale x y w n ≡ level_label scale x2 y2 w n
 level_label_is scale w n p q = rw (p, q) refl
+
+pub attribute_is : (name : List ℕ) {n m : ℕ} → n ≡ m → attribute name n ≡ attribute name m
+attribute_is name p = ap (attribute name) p
+
+pub ratio_is : {a b c d : ℕ} → a ≡ b → c ≡ d → a / c ≡ b / d
+ratio_is p q = rw (p, q) refl
+
+pub words_are : (class text : List ℕ) {x y x2 y2 : ℕ} → x ≡ x2 → y ≡ y2 → words_at class x y text ≡ words_at class x2 y2 text
+words_are class text p q = rw (p, q) refl

@@ -1,4 +1,4 @@
--- proof: a column of a level's line, and a level's lines.
+-- proof: a column of a level's line, and a level's line between two texts.
 use Rattle.std.specs.Prelude.{ℕ, List}
 use Rattle.ctss_types.specs.declared.history.Cause.{Cause}
 use Rattle.ctss_types.specs.declared.history.Entry.{Entry}
@@ -11,8 +11,6 @@ services_column level es c = column 10 (total (service_at level c) es)
 
 abbrev pub ticks_column : ℕ → List Entry → Cause → List ℕ
 ticks_column level es c = column 10 (total (ticks_at level c) es)
-
--- between two texts
 
 abbrev pub service_line : (front behind : List ℕ) → List Entry → ℕ → List ℕ
 service_line front behind es level = between front behind (level_services es level)

@@ -1,7 +1,6 @@
 //! The figures of a schedule, by user, by level and as a whole, and its spans as comma-separated values.
 #![tactic(auto)]
 
-ghost use Rattle.std.specs.Prelude.{◌++◌};
 ghost use Rattle.picture_model.specs.FigureLines.{between, figures_in};
 ghost use Rattle.text_writer.specs.Writing.{Adds};
 

@@ -64,7 +64,8 @@ fn with_visit(requests: Requests, visit: Visit) -> Requests
 /// With one entry more of a schedule, before which so much is known of a user.
 fn with_entry(requests: Requests, user: usize, track: Track, entry: &Entry) -> Requests
     requires { AreFewRequests (2 ^ 60) requests }
-    ensures requests { (vs : Visits) → AreRequests requests vs → AreRequests result (vs ++ visit_of user track entry.now) }
+    ensures requests { (vs : Visits) → AreRequests requests vs
+        → AreRequests result (vs ++ visit_of user track entry.now) }
     ensures few { (n : ℕ) → AreFewRequests n requests → AreFewRequests (n + 1) result }
 {
     match entry {

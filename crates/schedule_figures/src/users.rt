@@ -1,10 +1,5 @@
 //! The users' lines of figures.
-ghost use Rattle.std.specs.Prelude.{◌++◌, sum, map};
-ghost use Rattle.picture_model.specs.Columns.{column, mean_columns};
-ghost use Rattle.picture_model.specs.Figures.{responses, turnarounds, wait_of};
 ghost use Rattle.picture_model.specs.FigureLines.{user_line, user_lines};
-ghost use Rattle.picture_model.specs.Requests.{visits};
-ghost use Rattle.schedule_figures.specs.Work.{IsWork};
 ghost use Rattle.schedule_figures.specs.Lines.{figure_columns, load_columns};
 ghost use Rattle.text_writer.specs.Writing.{Adds};
 

@@ -17,7 +17,7 @@ use word36::Word;
 
 /// The six characters of a word, the blanks behind a name included.
 #[tactic(auto, using(bcd48::proofs::Table::all_characters))]
-pub fn characters(word: Word) -> LineText
+fn characters(word: Word) -> LineText
     ensures { result ≡ characters_of word }
 {
     LineText::of(&text6(word.bits()))

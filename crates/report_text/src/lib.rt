@@ -15,7 +15,6 @@ mod schedule;
 use ctss_io::Sink;
 use ctss_types::{Record, Script};
 pub use entry::add_entry;
-pub use file::characters;
 pub use load::Summary;
 use text_writer::{Text, TextWriter};
 

@@ -11,8 +11,8 @@ use crate::sheet::Sheet;
 use ctss_io::Sink;
 use ctss_types::{Account, Entry};
 use picture_model::Track;
-use report_text::characters;
 use schedule_chart::{cut_of, place_of};
+use schedule_figures::add_characters;
 use text_writer::TextWriter;
 
 /// Adds a time in a queue, from one tick to another, if there is any.
@@ -81,11 +81,10 @@ fn add_name<K: Sink>(out: &mut TextWriter<'_, K>, sheet: Sheet, user: u64, accou
         x: sheet.units(4),
         y: sheet.user_top(user) + sheet.units(19),
     };
-    let name = characters(account.name);
     begin_text(out, b"w", at);
     add_digits(out, user);
     out.add(b" ");
-    out.add(name.as_slice());
+    add_characters(out, account.name);
     out.line(b"</text>");
 }
 

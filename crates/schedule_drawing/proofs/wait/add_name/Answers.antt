@@ -1,4 +1,3 @@
-use Rattle.std.proofs.Common.{◌∙◌}
 use Rattle.text_writer.proofs.Added.{◌⨾◌, adds_is}
 use Rattle.schedule_drawing.proofs.Drawn.{begun_is, plus_is}
 use Rattle.schedule_drawing.proofs.wait.add_name.Goals as goal
@@ -6,5 +5,5 @@ use Rattle.schedule_drawing.proofs.wait.add_name.Goals as goal
 pub returns : goal.returns
 returns g c =
     adds_is (begun_is _ c.units.ensures.value (plus_is c.user_top.ensures.value c.units-2.ensures.value)) c.begin_text.ensures
-    ⨾ (c.add_digits.ensures ⨾ c.add.ensures ⨾ adds_is (c.as_slice.ensures.value ∙ c.characters-name.ensures) c.add-2.ensures)
+    ⨾ (c.add_digits.ensures ⨾ c.add.ensures ⨾ c.add_characters.ensures)
     ⨾ c.line.ensures

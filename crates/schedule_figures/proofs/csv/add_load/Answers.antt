@@ -1,0 +1,8 @@
+use Rattle.text_writer.proofs.Added.{◌⨾◌}
+use Rattle.schedule_figures.proofs.csv.add_load.Goals as goal
+
+pub returns : goal.returns
+returns g c =
+    (c.add.ensures ⨾ c.add_comma.ensures ⨾ c.add_comma-2.ensures ⨾ c.add_comma-3.ensures ⨾ c.add-2.ensures ⨾ c.add_comma-4.ensures
+    ⨾ c.add_comma-5.ensures ⨾ c.add_comma-6.ensures)
+    ⨾ c.end_line.ensures

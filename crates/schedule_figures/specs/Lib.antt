@@ -1,0 +1,6 @@
+pub mod Tallies
+pub mod Requests
+pub mod Work
+pub mod Lines
+pub mod Levels
+pub mod Time

@@ -79,6 +79,8 @@ pub(crate) struct Each {
 pub(crate) struct Case {
     /// None for a case that stands alone.
     pub(crate) name: Option<String>,
+    /// Whether the words are those of `ctss_picture`.
+    pub(crate) is_picture: bool,
     pub(crate) words: Vec<String>,
     pub(crate) turns: Option<u32>,
     pub(crate) text: Vec<u8>,
@@ -103,6 +105,7 @@ impl Case {
     pub(crate) fn new(alloc: Global, name: Option<String>) -> Case {
         Case {
             name,
+            is_picture: false,
             words: Vec::new(alloc),
             turns: None,
             text: Vec::new(alloc),

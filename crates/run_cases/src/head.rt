@@ -59,14 +59,22 @@ fn each(fields: &str) -> Result<Each> {
 }
 
 impl Case {
+    /// The words of the command line.
+    fn add_words(&mut self, alloc: Global, fields: &str) -> Result<()> {
+        for field in fields.split_whitespace() {
+            self.words.push(String::from_str(alloc, field)?)?;
+        }
+        Ok(())
+    }
+
     /// One more line of how it is done. Answers whether the text begins behind it.
     pub(crate) fn add_head(&mut self, alloc: Global, line: &str) -> Result<bool> {
         let (word, fields) = line.split_once(" ").unwrap_or((line, ""));
         match word {
-            "WORDS" => {
-                for field in fields.split_whitespace() {
-                    self.words.push(String::from_str(alloc, field)?)?;
-                }
+            "WORDS" => self.add_words(alloc, fields)?,
+            "PICTURE" => {
+                self.is_picture = true;
+                self.add_words(alloc, fields)?;
             }
             "SOURCE" => self.source = stream(alloc, fields)?,
             "SINK" => {

@@ -15,6 +15,7 @@ use console_link::{Accepted, CallMade, MemoryLink};
 use ctss_io::{MemorySink, MemorySource};
 use ctss_top::{ArgList, Outcome, run_ctss};
 use medium::{Damage, MemoryMedium};
+use run_picture::write_picture;
 use std::alloc::{AllocError, Global};
 use std::io::{Write, writer};
 
@@ -228,14 +229,35 @@ fn outcome_of(
     )
 }
 
+/// What comes of a case over streams, media and a link: the program's answer to its words, or that of `ctss_picture`.
+fn answer_of(
+    alloc: Global,
+    case: &Case,
+    streams: &mut Streams,
+    media: &mut Media,
+    link: &mut MemoryLink,
+) -> Result<Outcome>
+    requires { AreWhole media.old }
+{
+    let words = words_of(alloc, case)?;
+    if case.is_picture {
+        return Ok(write_picture(
+            alloc,
+            &words,
+            &mut streams.input,
+            &mut streams.output,
+        ));
+    }
+    Ok(outcome_of(alloc, &words, streams, media, link))
+}
+
 /// Does a case, of which one call may fail beside those that it names, and answers the status.
 fn status_of(rt: &HostRuntime, case: &Case, beside: Option<FailingCall>) -> Result<u8> {
     let alloc = rt.alloc();
-    let words = words_of(alloc, case)?;
     let mut media = media_of(alloc, case, beside)?;
     let mut link = link_of(alloc, case)?;
     let mut streams = streams_of(alloc, case, beside)?;
-    let outcome = outcome_of(alloc, &words, &mut streams, &mut media, &mut link);
+    let outcome = answer_of(alloc, case, &mut streams, &mut media, &mut link)?;
     tell(
         rt,
         case,

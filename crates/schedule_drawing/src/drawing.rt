@@ -29,7 +29,11 @@ fn begin_sheet<K: Sink>(out: &mut TextWriter<'_, K>, sheet: Sheet, places: u64)
     out.add(b" ");
     add_digits(out, sheet.height());
     out.add(b"'");
-    add_attribute(out, b" width='", sheet.width(places) / u128::from(sheet.scale));
+    add_attribute(
+        out,
+        b" width='",
+        sheet.width(places) / u128::from(sheet.scale),
+    );
     add_attribute(out, b" height='", 640 + 40 * u128::from(sheet.users));
     out.line(b">");
 }
@@ -38,10 +42,18 @@ fn begin_sheet<K: Sink>(out: &mut TextWriter<'_, K>, sheet: Sheet, places: u64)
 fn add_style<K: Sink>(out: &mut TextWriter<'_, K>)
     ensures { Adds K.Sink style out.old out.new }
 {
-    out.add(b"<style>rect{stroke:#555;stroke-width:.5px;vector-effect:non-scaling-stroke}text{fill:#222}.b{font-weight:bold}.n{text-anchor:middle}.d{fill:#fff}");
-    out.add(b".l0{fill:#ffffd9}.l1{fill:#edf8b1}.l2{fill:#c7e9b4}.l3{fill:#7fcdbb}.l4{fill:#41b6c4}.l5{fill:#1d91c0}.l6{fill:#225ea8}.l7{fill:#253494}.l8{fill:#081d58}");
-    out.add(b".u0{fill:#bc80bd}.u1{fill:#8dd3c7}.u2{fill:#ffffb3}.u3{fill:#bebada}.u4{fill:#fb8072}.u5{fill:#80b1d3}.u6{fill:#fdb462}.u7{fill:#b3de69}.u8{fill:#fccde5}.u9{fill:#d9d9d9}");
-    out.line(b".load0{fill:#000}.wait{fill:#777;stroke:none}.idle0{fill:#f2f2f2;stroke:none}.cut{fill:#777}.grid{fill:#ddd;stroke:none}.line{fill:#c00}.rise{fill:#060}.q{fill:#c00;font-weight:bold}.sheet{fill:#fff;stroke:none}</style>");
+    out.add(
+        b"<style>rect{stroke:#555;stroke-width:.5px;vector-effect:non-scaling-stroke}text{fill:#222}.b{font-weight:bold}.n{text-anchor:middle}.d{fill:#fff}",
+    );
+    out.add(
+        b".l0{fill:#ffffd9}.l1{fill:#edf8b1}.l2{fill:#c7e9b4}.l3{fill:#7fcdbb}.l4{fill:#41b6c4}.l5{fill:#1d91c0}.l6{fill:#225ea8}.l7{fill:#253494}.l8{fill:#081d58}",
+    );
+    out.add(
+        b".u0{fill:#bc80bd}.u1{fill:#8dd3c7}.u2{fill:#ffffb3}.u3{fill:#bebada}.u4{fill:#fb8072}.u5{fill:#80b1d3}.u6{fill:#fdb462}.u7{fill:#b3de69}.u8{fill:#fccde5}.u9{fill:#d9d9d9}",
+    );
+    out.line(
+        b".load0{fill:#000}.wait{fill:#777;stroke:none}.idle0{fill:#f2f2f2;stroke:none}.cut{fill:#777}.grid{fill:#ddd;stroke:none}.line{fill:#c00}.rise{fill:#060}.q{fill:#c00;font-weight:bold}.sheet{fill:#fff;stroke:none}</style>",
+    );
 }
 
 /// Adds how the picture is read.
@@ -56,8 +68,18 @@ fn add_legend<K: Sink>(out: &mut TextWriter<'_, K>, sheet: Sheet)
         x: sheet.units(110),
         y: sheet.units(50),
     };
-    add_words(out, b"w", first, b"Number and colour: the level. Letter: why the service ended (T its time was over, P another was preferred, W it waits for a line,");
-    add_words(out, b"w", second, b"S done, Z a new size, E the end). Black: brought into core. Thin: in a queue. Red: a line, Q a quit, H a hang-up. Grey: idle, cut to 52 ticks.");
+    add_words(
+        out,
+        b"w",
+        first,
+        b"Number and colour: the level. Letter: why the service ended (T its time was over, P another was preferred, W it waits for a line,",
+    );
+    add_words(
+        out,
+        b"w",
+        second,
+        b"S done, Z a new size, E the end). Black: brought into core. Thin: in a queue. Red: a line, Q a quit, H a hang-up. Grey: idle, cut to 52 ticks.",
+    );
 }
 
 /// Adds what the whole time went into, as the picture's title.
@@ -74,7 +96,12 @@ fn add_heading<K: Sink>(out: &mut TextWriter<'_, K>, sheet: Sheet, run: &Record)
 }
 
 /// Adds the figures as lines of one text.
-fn add_figure_lines<K: Sink>(out: &mut TextWriter<'_, K>, sheet: Sheet, script: &Script, run: &Record)
+fn add_figure_lines<K: Sink>(
+    out: &mut TextWriter<'_, K>,
+    sheet: Sheet,
+    script: &Script,
+    run: &Record,
+)
     ensures { Adds K.Sink (figures_drawn sheet.scale sheet.users script.now run.now) out.old out.new }
 {
     out.add(b"<svg overflow='visible'");

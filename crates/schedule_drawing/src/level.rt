@@ -69,6 +69,7 @@ fn add_in_levels<K: Sink>(out: &mut TextWriter<'_, K>, sheet: Sheet, cut: u128, 
 }
 
 /// The rows of levels.
+#[derive(Clone, Copy)]
 pub(crate) struct LevelRows {
     pub sheet: Sheet,
 }
@@ -150,6 +151,7 @@ fn add_behind<K: Sink>(out: &mut TextWriter<'_, K>, sheet: Sheet, cut: u128, ent
 }
 
 /// Idle times, behind all rows.
+#[derive(Clone, Copy)]
 pub(crate) struct IdleTimes {
     pub sheet: Sheet,
 }

@@ -105,12 +105,7 @@ pub(crate) fn begin_text<K: Sink>(out: &mut TextWriter<'_, K>, class: &[u8], at:
 }
 
 /// Adds a text of a class, at a point.
-pub(crate) fn add_words<K: Sink>(
-    out: &mut TextWriter<'_, K>,
-    class: &[u8],
-    at: Point,
-    text: &[u8],
-)
+pub(crate) fn add_words<K: Sink>(out: &mut TextWriter<'_, K>, class: &[u8], at: Point, text: &[u8])
     ensures { Adds K.Sink (words_at class.now at.x at.y text.now) out.old out.new }
 {
     begin_text(out, class, at);

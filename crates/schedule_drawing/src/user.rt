@@ -91,7 +91,13 @@ fn bar_area(sheet: Sheet, user: u8, place: u64, width: u128) -> Area
 }
 
 /// Adds a service: its bar, and its label.
-fn add_service<K: Sink>(out: &mut TextWriter<'_, K>, sheet: Sheet, place: u64, service: Service, entry: &Entry)
+fn add_service<K: Sink>(
+    out: &mut TextWriter<'_, K>,
+    sheet: Sheet,
+    place: u64,
+    service: Service,
+    entry: &Entry,
+)
     ensures { Adds K.Sink (service_drawn sheet.scale place service.user service.level service.ran service.cause entry.now)
         out.old out.new }
 {
@@ -101,20 +107,46 @@ fn add_service<K: Sink>(out: &mut TextWriter<'_, K>, sheet: Sheet, place: u64, s
         y: sheet.user_top(u64::from(service.user)) + sheet.units(19),
     };
     add_bar(out, b"l", service.level, at, entry);
-    add_label(out, sheet, label, service.ran, service.level, cause_letter(service.cause));
+    add_label(
+        out,
+        sheet,
+        label,
+        service.ran,
+        service.level,
+        cause_letter(service.cause),
+    );
 }
 
 /// Adds a load: its bar.
-fn add_load<K: Sink>(out: &mut TextWriter<'_, K>, sheet: Sheet, place: u64, load: Load, entry: &Entry)
+fn add_load<K: Sink>(
+    out: &mut TextWriter<'_, K>,
+    sheet: Sheet,
+    place: u64,
+    load: Load,
+    entry: &Entry,
+)
     ensures { Adds K.Sink (load_drawn sheet.swap sheet.scale place load.user load.dumped load.read entry.now) out.old out.new }
 {
     let ticks = u128::from(sheet.swap) * (u128::from(load.dumped) + u128::from(load.read));
-    add_bar(out, b"load", 0, bar_area(sheet, load.user, place, ticks), entry);
+    add_bar(
+        out,
+        b"load",
+        0,
+        bar_area(sheet, load.user, place, ticks),
+        entry,
+    );
 }
 
 /// Adds what came to a user, if it came in a session.
 #[tactic(auto, using(text_writer::proofs::Added::adds_none))]
-fn add_taken<K: Sink>(out: &mut TextWriter<'_, K>, sheet: Sheet, place: u64, user: u8, kind: EventKind, entry: &Entry)
+fn add_taken<K: Sink>(
+    out: &mut TextWriter<'_, K>,
+    sheet: Sheet,
+    place: u64,
+    user: u8,
+    kind: EventKind,
+    entry: &Entry,
+)
     ensures { Adds K.Sink (taken_drawn sheet.scale place user kind entry.now) out.old out.new }
 {
     if user != 0 {
@@ -173,7 +205,10 @@ fn add_entry<K: Sink>(out: &mut TextWriter<'_, K>, sheet: Sheet, cut: u128, entr
             add_load(out, sheet, place_of(*tick, cut), load, entry);
         }
         Entry::Taken {
-            tick, kind, user, ..
+            tick,
+            kind,
+            user,
+            ..
         } => add_taken(out, sheet, place_of(*tick, cut), *user, *kind, entry),
         Entry::Rise { tick, user, .. } => add_rise(out, sheet, place_of(*tick, cut), *user, entry),
         _ => {}
@@ -181,6 +216,7 @@ fn add_entry<K: Sink>(out: &mut TextWriter<'_, K>, sheet: Sheet, cut: u128, entr
 }
 
 /// The rows of users.
+#[derive(Clone, Copy)]
 pub(crate) struct UserRows {
     pub sheet: Sheet,
 }

@@ -1,7 +1,7 @@
 //! What a user waited for, over a schedule.
 ghost use Rattle.std.specs.Prelude.{◌≡◌, ◌<◌, ◌+◌, ◌^◌, ℕ, List, [], ◌∷◌, ◌++◌};
 ghost use Rattle.picture_model.specs.Figures.{responses, turnarounds};
-ghost use Rattle.picture_model.specs.Requests.{track_after, visit_of, visits};
+ghost use Rattle.picture_model.specs.Requests.{visit_of, visits};
 ghost use Rattle.schedule_figures.specs.Requests.{AreRequests, AreFewRequests, Visits};
 ghost use Rattle.schedule_figures.specs.Tallies.{IsTally, IsTallyOfFew};
 
@@ -80,17 +80,6 @@ fn with_entry(requests: Requests, user: usize, track: Track, entry: &Entry) -> R
     }
 }
 
-/// What is known of a user behind one entry more.
-fn track_after(track: Track, user: usize, entry: &Entry) -> Track
-    ensures { result ≡ track_after user track entry.now }
-{
-    match entry {
-        Entry::Taken { user: of, .. } | Entry::Serve { user: of, .. } if usize::from(*of) == user =>
-            { track.after(*of, entry) }
-        _ => track,
-    }
-}
-
 /// What a user waited for, over a whole schedule.
 pub(crate) fn requests_of(user: usize, entries: &[Entry]) -> Requests
     ensures requests { AreRequests result (visits user entries.now) }
@@ -104,7 +93,7 @@ pub(crate) fn requests_of(user: usize, entries: &[Entry]) -> Requests
     let mut track = Track::Fresh;
     for entry in entries {
         requests = with_entry(requests, user, track, entry);
-        track = track_after(track, user, entry);
+        track = track.after(user as u64, entry);
     }
     requests
 }

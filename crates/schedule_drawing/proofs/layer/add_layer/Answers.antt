@@ -13,15 +13,14 @@ loop-entry-preserved g c =
     let what = g.L.Layer.text c.args.layer.now in
     let cut = c.loop-entry.cut in
     let rest = drop (c.loop-entry.entry-index + 1) c.args.entries.now in
-    let is : cut_of c.entry-item.result ≡ c.from-cut.result = sym (c.from-cut.ensures ∙ c.cut_of.ensures) in
-    (
+    let is : cut_of c.entry-item.result ≡ c.from-cut.result = sym (c.from-cut.ensures ∙ c.cut_of.ensures) in (
       c.loop-entry.invariant.0 ++ what cut c.entry-item.result,
       c.loop-entry.invariant.1 ⨾ c.add.ensures,
       one_more c.loop-entry.invariant.0 (what cut c.entry-item.result) (drawn what (cut + c.from-cut.result) rest)
-      (drawn what cut (drop c.loop-entry.entry-index c.args.entries.now)) (drawn what 0 c.args.entries.now)
-      (drawn_next what cut c.args.entries.now c.loop-entry.entry-index c.entry-item.result c.loop-entry-test.true c.entry-item.is
-      ∙ ap (λ (n : ℕ). what cut c.entry-item.result ++ drawn what (cut + n) rest) is)
-      c.loop-entry.invariant.2,
+          (drawn what cut (drop c.loop-entry.entry-index c.args.entries.now)) (drawn what 0 c.args.entries.now)
+          (drawn_next what cut c.args.entries.now c.loop-entry.entry-index c.entry-item.result c.loop-entry-test.true c.entry-item.is
+          ∙ ap (λ (n : ℕ). what cut c.entry-item.result ++ drawn what (cut + n) rest) is)
+          c.loop-entry.invariant.2,
       omega (arith, c.loop-entry.invariant.3),
     )
 

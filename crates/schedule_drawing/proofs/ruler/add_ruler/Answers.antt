@@ -6,8 +6,7 @@ use Rattle.schedule_drawing.proofs.ruler.add_ruler.Goals as goal
 
 pub loop-mark-init : goal.loop-mark-init
 loop-mark-init g c =
-    let all : suc (c.args.places / (100 * c.args.sheet.scale)) - 0 ≡ suc (c.args.places / (100 * c.args.sheet.scale)) = omega arith in
-    (
+    let all : suc (c.args.places / (100 * c.args.sheet.scale)) - 0 ≡ suc (c.args.places / (100 * c.args.sheet.scale)) = omega arith in (
       [],
       adds_none g.K.Sink c.args.out.now,
       ap (λ (n : ℕ). ruler_drawn c.args.sheet.scale c.args.sheet.users 0 n c.args.entries.now) all,
@@ -15,17 +14,16 @@ loop-mark-init g c =
 
 pub loop-mark-preserved : goal.loop-mark-preserved
 loop-mark-preserved g c =
-    let count : ℕ = suc (c.args.places / (100 * c.args.sheet.scale)) in
-    (
+    let count : ℕ = suc (c.args.places / (100 * c.args.sheet.scale)) in (
       c.loop-mark.invariant.0 ++ ruler_mark c.args.sheet.scale c.args.sheet.users (100 * c.args.sheet.scale * c.loop-mark.mark) c.args.entries.now,
       c.loop-mark.invariant.1 ⨾ c.add_mark.ensures,
       one_more c.loop-mark.invariant.0
-      (ruler_mark c.args.sheet.scale c.args.sheet.users (100 * c.args.sheet.scale * c.loop-mark.mark) c.args.entries.now)
-      (ruler_drawn c.args.sheet.scale c.args.sheet.users (c.loop-mark.mark + 1) (count - (c.loop-mark.mark + 1)) c.args.entries.now)
-      (ruler_drawn c.args.sheet.scale c.args.sheet.users c.loop-mark.mark (count - c.loop-mark.mark) c.args.entries.now)
-      (ruler_drawn c.args.sheet.scale c.args.sheet.users 0 count c.args.entries.now)
-      (ruler_next c.args.sheet.scale c.args.sheet.users c.loop-mark.mark count c.args.entries.now (omega (arith, c.loop-mark-test.true)))
-      c.loop-mark.invariant.2,
+          (ruler_mark c.args.sheet.scale c.args.sheet.users (100 * c.args.sheet.scale * c.loop-mark.mark) c.args.entries.now)
+          (ruler_drawn c.args.sheet.scale c.args.sheet.users (c.loop-mark.mark + 1) (count - (c.loop-mark.mark + 1)) c.args.entries.now)
+          (ruler_drawn c.args.sheet.scale c.args.sheet.users c.loop-mark.mark (count - c.loop-mark.mark) c.args.entries.now)
+          (ruler_drawn c.args.sheet.scale c.args.sheet.users 0 count c.args.entries.now)
+          (ruler_next c.args.sheet.scale c.args.sheet.users c.loop-mark.mark count c.args.entries.now (omega (arith, c.loop-mark-test.true)))
+          c.loop-mark.invariant.2,
     )
 
 pub returns : goal.returns

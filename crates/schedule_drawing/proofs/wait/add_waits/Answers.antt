@@ -19,16 +19,15 @@ loop-entry-preserved g c =
     let t = c.loop-entry.track in
     let e = c.entry-item.result in
     let rest = drop (c.loop-entry.entry-index + 1) c.args.entries.now in
-    let is : cut_of e ≡ c.from-cut.result = sym (c.from-cut.ensures ∙ c.cut_of.ensures) in
-    (
+    let is : cut_of e ≡ c.from-cut.result = sym (c.from-cut.ensures ∙ c.cut_of.ensures) in (
       c.loop-entry.invariant.0 ++ wait_drawn scale u cut t e,
       c.loop-entry.invariant.1 ⨾ c.add_wait.ensures,
       one_more c.loop-entry.invariant.0 (wait_drawn scale u cut t e) (waits_drawn scale u (cut + c.from-cut.result) c.after-track.result rest)
-      (waits_drawn scale u cut t (drop c.loop-entry.entry-index c.args.entries.now)) (waits_drawn scale u 0 Fresh c.args.entries.now)
-      (waits_next scale u cut t c.args.entries.now c.loop-entry.entry-index e c.loop-entry-test.true c.entry-item.is
-      ∙ ap (λ (n : ℕ). wait_drawn scale u cut t e ++ waits_drawn scale u (cut + n) (track_after u t e) rest) is
-      ∙ ap (λ (s : Track). wait_drawn scale u cut t e ++ waits_drawn scale u (cut + c.from-cut.result) s rest) (sym c.after-track.ensures))
-      c.loop-entry.invariant.2,
+          (waits_drawn scale u cut t (drop c.loop-entry.entry-index c.args.entries.now)) (waits_drawn scale u 0 Fresh c.args.entries.now)
+          (waits_next scale u cut t c.args.entries.now c.loop-entry.entry-index e c.loop-entry-test.true c.entry-item.is
+          ∙ ap (λ (n : ℕ). wait_drawn scale u cut t e ++ waits_drawn scale u (cut + n) (track_after u t e) rest) is
+          ∙ ap (λ (s : Track). wait_drawn scale u cut t e ++ waits_drawn scale u (cut + c.from-cut.result) s rest) (sym c.after-track.ensures))
+          c.loop-entry.invariant.2,
       omega (arith, c.loop-entry.invariant.3),
     )
 

@@ -22,7 +22,7 @@ loop-entry-preserved c = (
   ap
       (λ (t : Track). (c.loop-entry.invariant.0 ++ visit_of c.args.user c.loop-entry.track c.entry-item.result)
       ++ visits_from c.args.user t (drop (c.loop-entry.entry-index + 1) c.args.entries.now))
-      c.track_after-track.ensures
+      c.after-track.ensures
       ∙ visit_more c.args.user c.args.entries.now c.loop-entry.entry-index c.entry-item.result c.loop-entry.track c.loop-entry.invariant.0
       (visits c.args.user c.args.entries.now) c.loop-entry-test.true c.entry-item.is c.loop-entry.invariant.3,
 )

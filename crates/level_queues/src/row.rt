@@ -223,7 +223,8 @@ fn earliest_in(rows: &[Row], age: u64, besides: &Option<UserNo>, soon: u64) -> u
     }
 }
 
-/// The same of all levels above the first of these.
+/// The same of all levels above the first of these. It stands apart, as it is rarely come to.
+#[inline(never)]
 pub(crate) fn earliest_above(rows: &[Row], age: u64, besides: &Option<UserNo>, soon: u64) -> u64
     ensures { AreLater age result besides.now (drop 1 rows.now) }
 {

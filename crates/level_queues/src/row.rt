@@ -265,6 +265,7 @@ pub(crate) fn wait_from_in_all(rows: &mut [Row], user: u8, now: u64)
 }
 
 /// So many ticks of a user's quantum go by, in whichever row it stands. The first `low` rows have no users.
+#[inline(always)]
 pub(crate) fn spend_in_all(rows: &mut [Row], low: u8, user: u8, ticks: u64)
     requires once { count user rows.old ≤ 1 }
     requires empty { AreEmpty low rows.old }

@@ -5,8 +5,6 @@ use Rattle.cpu_regs.specs.declared.regs.OpEnd.{OpEnd}
 use Rattle.cpu_regs.specs.declared.regs.OpEnd.TheVariants as op_end
 use Rattle.opcode_table.specs.declared.op.Class.{Class}
 use Rattle.opcode_table.specs.declared.op.Class.TheVariants as class
-use Rattle.opcode_table.specs.declared.op.Op.{Op}
-use Rattle.opcode_table.specs.declared.op.Op.TheVariants as op
 use Rattle.machine_model.specs.Step.{Step}
 use Rattle.machine_model.specs.Step as step
 use Rattle.cpu_step.specs.declared.Stepped.{Stepped}
@@ -38,15 +36,6 @@ Stays (stepped.Outside a) r s core d = (s ≡ r) × (d ≡ core)
 abbrev pub is_addressed : Class → Bool
 is_addressed class.Addressed = true
 is_addressed _ = false
-
--- the operations that a run of many steps leaves to a step: those that may halt, a supervisor entry, and an XEC
-abbrev pub is_apart : Op → Bool
-is_apart op.Dvh = true
-is_apart op.Htr = true
-is_apart op.Hpr = true
-is_apart op.Xec = true
-is_apart op.Tia = true
-is_apart _ = false
 
 -- what doesn't go on leaves everything as it was
 abbrev pub Stands : OpEnd → Regs → Regs → List ℕ → List ℕ → Type 0

@@ -9,13 +9,16 @@ ghost use Rattle.machine_model.specs.Machine.{step_of, instruction, executed, on
 ghost use Rattle.machine_model.specs.Results.{ended};
 ghost use Rattle.machine_model.specs.Runs.{many};
 ghost use Rattle.machine_model.specs.Step.{went, at, entry};
-ghost use Rattle.cpu_step.specs.Results.{outcome, stepped_by, is_addressed, is_apart, Stays, Stands};
+ghost use Rattle.cpu_step.specs.Results.{outcome, stepped_by, is_addressed, Stays, Stands};
 
 use cpu_regs::{MemoryPort, OpEnd, Regs};
 use opcode_table::{
     Class, Instr, Kind, Op, Row, class, decode, decode_prefixed, instr_coded, kind, row_coded,
 };
 use word36::Word;
+
+/// The prefix of TIX.
+const TIX: u8 = 2;
 
 /// How a step ended.
 ///
@@ -156,7 +159,8 @@ pub fn run<M: MemoryPort>(regs: &mut Regs, core: &mut M, most: u64) -> u64
     done
 }
 
-/// Does a step if it goes on and is of no operation that `is_apart` names; else nothing.
+/// Does a step if it goes on, and is of no operation that a run leaves to `step`; else nothing. TIX, with which programs
+/// count, is told first.
 #[inline(always)]
 fn go<M: MemoryPort>(regs: &mut Regs, core: &mut M) -> bool
     requires { regs.old.ic < 2 ^ 15 }
@@ -169,11 +173,13 @@ fn go<M: MemoryPort>(regs: &mut Regs, core: &mut M) -> bool
     let Ok(fetched) = core.load(regs.ic) else {
         return false;
     };
-    if fetched.prefix() & 3 != 0 {
-        go_prefixed(regs, core, fetched)
-    } else {
-        go_coded(regs, core, fetched)
+    if fetched.prefix() == TIX {
+        return go_prefixed(regs, core, fetched);
     }
+    if fetched.prefix() & 3 != 0 {
+        return go_prefixed(regs, core, fetched);
+    }
+    go_coded(regs, core, fetched)
 }
 
 /// Does the instruction that a word with a prefix is, if there is one; else nothing.
@@ -198,8 +204,8 @@ fn go_prefixed<M: MemoryPort>(regs: &mut Regs, core: &mut M, word: Word) -> bool
     }
 }
 
-/// Does the instruction that a word without a prefix is, if it goes on and is of no operation that `is_apart` names;
-/// else nothing.
+/// Does the instruction that a word without a prefix is, if it goes on and is of no operation that a run leaves to
+/// `step`; else nothing.
 #[inline(always)]
 fn go_coded<M: MemoryPort>(regs: &mut Regs, core: &mut M, word: Word) -> bool
     requires prefix { prefix_of word % 4 ≡ 0 }
@@ -223,27 +229,51 @@ fn go_coded<M: MemoryPort>(regs: &mut Regs, core: &mut M, word: Word) -> bool
     }
 }
 
-/// Does the operation of a row at the place `y`, with the other fields of a word; but for those that `is_apart`
-/// names: these are not done, and the answer is `Halt`. One jump leads to each operation that programs do most, and
-/// two to the others.
+/// Does the operation of a row at the place `y`, with the other fields of a word, if it goes on and is none that a run
+/// leaves to `step`; else nothing. One jump leads to each operation that programs do most, and two to the others.
 #[inline(always)]
 #[tactic(auto, using(crate::proofs::Goes::stands))]
 fn go_at<M: MemoryPort>(regs: &mut Regs, core: &mut M, known: &Row, word: Word, y: u16) -> OpEnd
     requires class { known.now.3 ≢ Class.Prefixed }
     requires y { y < 2 ^ 15 }
     requires ic { regs.old.ic < 2 ^ 15 }
-    ensures row { is_apart known.now.0 ≡ false → ended result regs.new (M.words core.new)
-        ≡ row (kind_of known.now.0) (fields_for known.now.3 word known.now) regs.old (M.words core.old) y }
-    ensures apart { is_apart known.now.0 ≡ true → result ≡ OpEnd.Halt }
+    ensures goes { result ≡ OpEnd.Went → row (kind_of known.now.0) (fields_for known.now.3 word known.now)
+        regs.old (M.words core.old) y ≡ went regs.new (M.words core.new) }
     ensures stands { Stands result regs.old regs.new (M.words core.old) (M.words core.new) }
     ensures keeps { M.Keeps core.old core.new }
     ensures ic { regs.new.ic < 2 ^ 15 }
 {
     match known.0 {
-        Op::Dvh | Op::Htr | Op::Hpr | Op::Xec | Op::Tia => OpEnd::Halt,
         Op::Cla => ops_fixed::load_or_store(regs, core, &instr_coded(known, word), y),
         Op::Sto => ops_fixed::load_or_store(regs, core, &instr_coded(known, word), y),
         Op::Ldq => ops_fixed::load_or_store(regs, core, &instr_coded(known, word), y),
+        Op::Add => ops_fixed::sum(regs, core, &instr_coded(known, word), y),
+        Op::Sub => ops_fixed::sum(regs, core, &instr_coded(known, word), y),
+        Op::Cal => ops_logic::load_or_store(regs, core, &instr_coded(known, word), y),
+        Op::Slw => ops_logic::load_or_store(regs, core, &instr_coded(known, word), y),
+        Op::Ana => ops_logic::combine(regs, core, &instr_coded(known, word), y),
+        Op::Ora => ops_logic::combine(regs, core, &instr_coded(known, word), y),
+        Op::Tra => ops_index::transfer(regs, core, &instr_coded(known, word), y),
+        Op::Tze => ops_index::transfer(regs, core, &instr_coded(known, word), y),
+        Op::Tnz => ops_index::transfer(regs, core, &instr_coded(known, word), y),
+        _ => go_fixed(regs, core, known, word, y),
+    }
+}
+
+/// The same of the other fixed operations; DVH, which may halt, is left to `step`.
+#[inline(always)]
+#[tactic(auto, using(crate::proofs::Goes::stands))]
+fn go_fixed<M: MemoryPort>(regs: &mut Regs, core: &mut M, known: &Row, word: Word, y: u16) -> OpEnd
+    requires class { known.now.3 ≢ Class.Prefixed }
+    requires y { y < 2 ^ 15 }
+    requires ic { regs.old.ic < 2 ^ 15 }
+    ensures goes { result ≡ OpEnd.Went → row (kind_of known.now.0) (fields_for known.now.3 word known.now)
+        regs.old (M.words core.old) y ≡ went regs.new (M.words core.new) }
+    ensures stands { Stands result regs.old regs.new (M.words core.old) (M.words core.new) }
+    ensures keeps { M.Keeps core.old core.new }
+    ensures ic { regs.new.ic < 2 ^ 15 }
+{
+    match known.0 {
         Op::Cls | Op::Stz | Op::Stq => ops_fixed::load_or_store(
             regs,
             core,
@@ -256,8 +286,6 @@ fn go_at<M: MemoryPort>(regs: &mut Regs, core: &mut M, known: &Row, word: Word, 
             &instr_coded(known, word),
             y,
         ),
-        Op::Add => ops_fixed::sum(regs, core, &instr_coded(known, word), y),
-        Op::Sub => ops_fixed::sum(regs, core, &instr_coded(known, word), y),
         Op::Adm | Op::Sbm => ops_fixed::sum(regs, core, &instr_coded(known, word), y),
         Op::Mpy | Op::Mpr | Op::Dvp => ops_fixed::product(regs, core, &instr_coded(known, word), y),
         Op::Cas | Op::Zet | Op::Nzt | Op::Lbt | Op::Pbt | Op::Dct => ops_fixed::test(
@@ -272,11 +300,25 @@ fn go_at<M: MemoryPort>(regs: &mut Regs, core: &mut M, known: &Row, word: Word, 
             &instr_coded(known, word),
             y,
         ),
-        Op::Cal => ops_logic::load_or_store(regs, core, &instr_coded(known, word), y),
-        Op::Slw => ops_logic::load_or_store(regs, core, &instr_coded(known, word), y),
+        _ => go_logic(regs, core, known, word, y),
+    }
+}
+
+/// The same of the other operations on bits.
+#[inline(always)]
+#[tactic(auto, using(crate::proofs::Goes::stands))]
+fn go_logic<M: MemoryPort>(regs: &mut Regs, core: &mut M, known: &Row, word: Word, y: u16) -> OpEnd
+    requires class { known.now.3 ≢ Class.Prefixed }
+    requires y { y < 2 ^ 15 }
+    requires ic { regs.old.ic < 2 ^ 15 }
+    ensures goes { result ≡ OpEnd.Went → row (kind_of known.now.0) (fields_for known.now.3 word known.now)
+        regs.old (M.words core.old) y ≡ went regs.new (M.words core.new) }
+    ensures stands { Stands result regs.old regs.new (M.words core.old) (M.words core.new) }
+    ensures keeps { M.Keeps core.old core.new }
+    ensures ic { regs.new.ic < 2 ^ 15 }
+{
+    match known.0 {
         Op::Ldi | Op::Sti => ops_logic::load_or_store(regs, core, &instr_coded(known, word), y),
-        Op::Ana => ops_logic::combine(regs, core, &instr_coded(known, word), y),
-        Op::Ora => ops_logic::combine(regs, core, &instr_coded(known, word), y),
         Op::Acl | Op::Era | Op::Ans | Op::Ors | Op::Las => ops_logic::combine(
             regs,
             core,
@@ -299,6 +341,24 @@ fn go_at<M: MemoryPort>(regs: &mut Regs, core: &mut M, known: &Row, word: Word, 
         ),
         Op::Sir | Op::Sil | Op::Rir | Op::Ril | Op::Rnt | Op::Lnt | Op::Rft | Op::Lft =>
             ops_logic::indicate_by_half(regs, core, &instr_coded(known, word), y),
+        _ => go_index(regs, core, known, word, y),
+    }
+}
+
+/// The same of index registers and the other transfers. HTR and HPR, a supervisor entry and an XEC are left to `step`.
+#[inline(always)]
+#[tactic(auto, using(crate::proofs::Goes::stands))]
+fn go_index<M: MemoryPort>(regs: &mut Regs, core: &mut M, known: &Row, word: Word, y: u16) -> OpEnd
+    requires class { known.now.3 ≢ Class.Prefixed }
+    requires y { y < 2 ^ 15 }
+    requires ic { regs.old.ic < 2 ^ 15 }
+    ensures goes { result ≡ OpEnd.Went → row (kind_of known.now.0) (fields_for known.now.3 word known.now)
+        regs.old (M.words core.old) y ≡ went regs.new (M.words core.new) }
+    ensures stands { Stands result regs.old regs.new (M.words core.old) (M.words core.new) }
+    ensures keeps { M.Keeps core.old core.new }
+    ensures ic { regs.new.ic < 2 ^ 15 }
+{
+    match known.0 {
         Op::Lxa
         | Op::Lxd
         | Op::Lac
@@ -311,22 +371,14 @@ fn go_at<M: MemoryPort>(regs: &mut Regs, core: &mut M, known: &Row, word: Word, 
         | Op::Pdc => ops_index::load_index(regs, core, &instr_coded(known, word), y),
         Op::Sxa | Op::Sxd | Op::Sca | Op::Scd | Op::Pxa | Op::Pxd | Op::Pca | Op::Pcd =>
             ops_index::store_index(regs, core, &instr_coded(known, word), y),
-        Op::Tra => ops_index::transfer(regs, core, &instr_coded(known, word), y),
-        Op::Tze => ops_index::transfer(regs, core, &instr_coded(known, word), y),
-        Op::Tnz => ops_index::transfer(regs, core, &instr_coded(known, word), y),
         Op::Tpl | Op::Tmi | Op::Tov | Op::Tno | Op::Tqp | Op::Tlq | Op::Tsx => ops_index::transfer(
             regs,
             core,
             &instr_coded(known, word),
             y,
         ),
-        Op::Txi | Op::Tix | Op::Tnx | Op::Txh | Op::Txl => ops_index::count(
-            regs,
-            core,
-            &instr_coded(known, word),
-            y,
-        ),
         Op::Nop => ops_index::pass(regs, core, &instr_coded(known, word), y),
+        _ => OpEnd::Halt,
     }
 }
 

@@ -190,6 +190,7 @@ impl Queues {
         self.enter_at(level, user, now);
     }
 
+    #[inline(always)]
     #[tactic(auto, unfolding(plan_model::specs::Levels::ticked))]
     fn tick(&mut self, user: UserNo)
         ensures { self.new ≡ ticked user self.old }
@@ -292,6 +293,7 @@ impl Queues {
     }
 
     /// Where it isn't known any more that nobody rises, it is looked up from when on a user does while this one is served.
+    #[inline(always)]
     pub fn look_ahead(&mut self, served: Option<UserNo>, now: u64)
         ensures { self.new ≡ self.old }
     {

@@ -223,7 +223,8 @@ fn earliest_in(rows: &[Row], age: u64, besides: &Option<UserNo>, soon: u64) -> u
     }
 }
 
-/// The same of all levels above the first of these.
+/// The same of all levels above the first of these. It stands apart, as it is rarely come to.
+#[inline(never)]
 pub(crate) fn earliest_above(rows: &[Row], age: u64, besides: &Option<UserNo>, soon: u64) -> u64
     ensures { AreLater age result besides.now (drop 1 rows.now) }
 {
@@ -264,6 +265,7 @@ pub(crate) fn wait_from_in_all(rows: &mut [Row], user: u8, now: u64)
 }
 
 /// So many ticks of a user's quantum go by, in whichever row it stands. The first `low` rows have no users.
+#[inline(always)]
 pub(crate) fn spend_in_all(rows: &mut [Row], low: u8, user: u8, ticks: u64)
     requires once { count user rows.old ≤ 1 }
     requires empty { AreEmpty low rows.old }

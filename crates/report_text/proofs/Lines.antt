@@ -23,3 +23,8 @@ pub parted : (word before second behind : List ℕ)
     → line (word ++ (spaced before ++ (blank second ++ spaced behind))) ≡ line (word ++ spaced_then before (worded second behind))
 parted word before second behind =
     ap (λ (l : List ℕ). line (word ++ l)) (ap (λ (l : List ℕ). spaced before ++ l) (worded_is second behind) ∙ then_is before (worded second behind))
+
+-- a line whose end was added with its last numbers
+pub ended : (word before second behind : List ℕ)
+    → word ++ (spaced before ++ (blank second ++ (spaced behind ++ 10 ∷ []))) ≡ line (word ++ (spaced before ++ (blank second ++ spaced behind)))
+ended word before second behind = simp append_assoc

@@ -40,8 +40,7 @@ fn add_line<K: Sink>(out: &mut TextWriter<'_, K>, word: &[u8], numbers: &[u64])
     ensures { Adds K.Sink (line (word.now ++ spaced numbers.now)) out.old out.new }
 {
     out.add(word);
-    out.numbers(numbers);
-    out.end_line();
+    out.end_by(numbers);
 }
 
 /// Adds a line of a word, numbers, another word, and numbers again.
@@ -57,8 +56,7 @@ fn add_parted<K: Sink>(
     out.add(word);
     out.numbers(before);
     out.blank(second.as_bytes());
-    out.numbers(behind);
-    out.end_line();
+    out.end_by(behind);
 }
 
 /// Adds the line of an entry.

@@ -86,8 +86,10 @@ fn note_answer(entries: &mut Vec<Entry>, now: u64, user: UserNo)
     ensures len { vec_len entries.new ≡ vec_len entries.old + 1 }
     ensures capacity { vec_capacity entries.old ≤ vec_capacity entries.new }
 {
-    let user = user.number();
-    note(entries, Entry::Clock { answer: now, user });
+    let _ = entries.push(Entry::Clock {
+        answer: now,
+        user: user.number(),
+    });
 }
 
 /// The entry for an answer of the clock, if it was asked.

@@ -1,7 +1,7 @@
 -- What comes to a sink of texts that are added one after another.
 use Rattle.std.specs.Prelude.{Option, None, Some, Ok, Err, OnOk, OnErr, true, false, is_err}
 use Rattle.std.specs.declared.result.Result.{Result}
-use Rattle.std.proofs.Common.{◌≡◌, ℕ, ◌+◌, ◌-◌, ◌<◌, ◌≤◌, ◌^◌, min, nat_eq, Bool, List, [], ◌∷◌, ◌++◌, get_or, length, take, drop, refl, sym, ◌∙◌, ap, arith, subst, append_assoc, append-nil, length-append, length-drop, take-append-drop}
+use Rattle.std.proofs.Common.{◌≡◌, ℕ, ◌+◌, ◌<◌, ◌≤◌, nat_eq, Bool, List, [], ◌∷◌, ◌++◌, get_or, length, take, drop, refl, sym, ◌∙◌, ap, arith, subst, append_assoc, append-nil, length-append, length-drop, take-append-drop}
 use Rattle.std.proofs.lemmas.Grind.{flat_map-append}
 use Rattle.std.proofs.lemmas.List.{take_more, take_all, take_at}
 use Rattle.std.specs.List.{flat_map}
@@ -16,7 +16,7 @@ use Rattle.text_model.specs.Canonical.{typed_text}
 use Rattle.text_model.specs.Parts.{number, blank}
 use Rattle.text_writer.specs.Lines.{spaced}
 use Rattle.text_writer.specs.declared.writer.TextWriter.{TextWriter}
-use Rattle.text_writer.specs.Writing.{WriterSeen, Passes, Loses, Drops, Added, Adds, writer_seen}
+use Rattle.text_writer.specs.Writing.{WriterSeen, Added, Adds, writer_seen}
 
 -- what comes behind what has come
 pub after_both : (held : Option (List ℕ)) (xs ys : List ℕ) → after (after held xs) ys ≡ after held (xs ++ ys)
@@ -151,7 +151,7 @@ pub adds_all : {K X : Type 0} (g : Ghosts K) (f : X → List ℕ) (xs : List X) 
     → Adds g (flat_map f (take i xs)) x y → Adds g (flat_map f xs) x y
 adds_all g f xs i x y all adds = subst (λ (l : List _). Adds g (flat_map f l) x y) (take_all i xs all) adds
 
-spaced_all : (ns : List ℕ) → flat_map number ns ≡ spaced ns
+pub spaced_all : (ns : List ℕ) → flat_map number ns ≡ spaced ns
 spaced_all [] = refl
 spaced_all (n ∷ []) = append-nil (number n)
 spaced_all (n ∷ m ∷ ns) = ap (λ (l : List ℕ). number n ++ l) (spaced_all (m ∷ ns))

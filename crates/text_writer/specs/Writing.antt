@@ -1,5 +1,5 @@
 -- proof: what is seen of a text on its way to a sink, and what a piece of text makes of it.
-use Rattle.std.specs.Prelude.{◌≡◌, ◌<◌, ◌≤◌, ℕ, Bool, true, false, List, [], ◌++◌, length, Option}
+use Rattle.std.specs.Prelude.{◌≡◌, ◌<◌, ◌≤◌, ℕ, Bool, true, false, List, ◌++◌, length, Option}
 use Rattle.faults.specs.Faults.{Rose}
 use Rattle.ctss_io.specs.Outside.{after}
 use Rattle.ctss_io.specs.declared.outside.Sink.{Ghosts}

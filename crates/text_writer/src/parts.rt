@@ -1,10 +1,11 @@
 //! The parts that lines are made of.
-ghost use Rattle.std.specs.Prelude.{◌≡◌, ◌∷◌, []};
+ghost use Rattle.std.specs.Prelude.{◌≡◌, ◌++◌, ◌∷◌, []};
 ghost use Rattle.text_model.specs.Canonical.{typed_text};
 ghost use Rattle.text_model.specs.Parts.{line, blank, name};
 ghost use Rattle.text_writer.specs.Writing.{Adds};
 ghost use Rattle.text_writer.specs.Lines.{spaced};
 
+use crate::digits::put_numbers;
 use crate::writer::TextWriter;
 use ctss_io::Sink;
 use ctss_types::{LineText, name_text};
@@ -44,6 +45,20 @@ impl<K: Sink> TextWriter<'_, K> {
         for n in numbers {
             self.number(*n);
         }
+    }
+
+    /// Adds numbers, each behind a blank, and ends the line. Few of them are added as one text.
+    pub fn end_by(&mut self, numbers: &[u64])
+        ensures { Adds K.Sink (spaced numbers.now ++ 10 ∷ []) self.old self.new }
+    {
+        if numbers.len() <= 3 {
+            let mut bytes = [b'\n'; 64];
+            let start = put_numbers(numbers, &mut bytes, 63);
+            self.add(&bytes[start..]);
+            return;
+        }
+        self.numbers(numbers);
+        self.end_line();
     }
 
     /// Adds a name behind a blank.

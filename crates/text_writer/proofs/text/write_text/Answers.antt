@@ -1,4 +1,4 @@
-use Rattle.std.proofs.Common.{rules, sym, ◌∙◌, ap, [], ◌++◌, List, ℕ, append-nil, subst}
+use Rattle.std.proofs.Common.{rules, sym, ◌∙◌, ap, List, ℕ, append-nil, subst}
 use Rattle.std.specs.Prelude.{Option}
 use Rattle.ctss_io.specs.Whole.{GrewByProperPrefix}
 use Rattle.text_writer.specs.Writing.{writer_seen}

@@ -7,4 +7,5 @@ returns-then-tens-eq0 g c = adds_is (units_alone c.args.tens c.args.units c.if-t
 
 pub returns-else-tens-eq0 : goal.returns-else-tens-eq0
 returns-else-tens-eq0 g c =
-    adds_is (tens_then_units c.args.tens c.args.units c.if-tens-eq0.false c.ranges.tens.fits c.requires) (c.add_number-else-tens-eq0.ensures ⨾ c.add_number-else-tens-eq0-2.ensures)
+    adds_is (tens_then_units c.args.tens c.args.units c.if-tens-eq0.false c.ranges.tens.fits c.requires)
+    (c.add_number-else-tens-eq0.ensures ⨾ c.add_number-else-tens-eq0-2.ensures)

@@ -1,6 +1,5 @@
-use Rattle.std.proofs.Common.{List, ap, ◌∙◌}
+use Rattle.std.proofs.Common.{ap, ◌∙◌}
 use Rattle.std.specs.Fmt.{decimal}
-use Rattle.ctss_types.specs.declared.history.Entry.{Entry}
 use Rattle.tick_laws.specs.Spans.{served_in, swapping_in, idle_in}
 use Rattle.schedule_chart.specs.Times.{AreTimes}
 use Rattle.text_writer.proofs.Added.{◌⨾◌, adds_is}

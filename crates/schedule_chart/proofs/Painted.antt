@@ -27,7 +27,7 @@ pub painted_mark : (at ticks character first last : ℕ) (old new : Row) → new
 painted_mark at ticks character first last old new same from to before inside behind =
     let one : AreSeen old → (k : ℕ) → k < 110 → slice_index new.cells k ≡ max (slice_index old.cells k) (character_at old.each k (mark at ticks character)) =
     λ seen k below. painted_cell (at / old.each) ((at + (ticks - 1)) / old.each) k character (slice_index old.cells k) (slice_index new.cells k) below (seen k below)
-        (λ h. before k (omega (arith, from, h))) (λ h i. inside k (omega (arith, from, h)) (omega (arith, to, i))) (λ h. behind k (omega (arith, to, h))) in
+    (λ h. before k (omega (arith, from, h))) (λ h i. inside k (omega (arith, from, h)) (omega (arith, to, i))) (λ h. behind k (omega (arith, to, h))) in
     record {
       same = same;
       seen = λ seen k below. raised _ _ _ (one seen k below) (seen k below);

@@ -1,2 +1,1 @@
 pub mod Painted
-pub mod Times

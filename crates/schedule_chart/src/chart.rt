@@ -7,10 +7,10 @@ use crate::levels::add_levels;
 use crate::numbers::add_number;
 use crate::place::places_in;
 use crate::ruler::add_ruler;
-use crate::time::add_time_line;
 use crate::users::add_users;
 use ctss_io::Sink;
 use ctss_types::{Record, Script};
+use schedule_figures::add_time_line;
 use text_writer::TextWriter;
 
 /// How the rows are read, behind the ticks of a column.

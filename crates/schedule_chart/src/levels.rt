@@ -11,12 +11,7 @@ use ctss_types::Entry;
 use text_writer::TextWriter;
 
 /// Adds the line of a level.
-fn add_level<K: Sink>(
-    out: &mut TextWriter<'_, K>,
-    columns: Columns,
-    entries: &[Entry],
-    level: u8,
-)
+fn add_level<K: Sink>(out: &mut TextWriter<'_, K>, columns: Columns, entries: &[Entry], level: u8)
     ensures { Adds K.Sink (level_line columns.each columns.count entries.now level) out.old out.new }
 {
     out.add(b"LEVEL ");

@@ -11,7 +11,6 @@ mod place;
 mod row;
 mod rows;
 mod ruler;
-mod time;
 mod users;
 
 pub use chart::add_chart;

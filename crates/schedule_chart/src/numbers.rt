@@ -1,7 +1,6 @@
 //! Numbers in lines.
 ghost use Rattle.std.specs.Prelude.{◌≤◌, replicate};
 ghost use Rattle.picture_model.specs.Chart.{left_number};
-ghost use Rattle.picture_model.specs.Columns.{column};
 ghost use Rattle.text_writer.specs.Writing.{Adds};
 
 use ctss_io::Sink;
@@ -23,16 +22,6 @@ fn add_blanks<K: Sink>(out: &mut TextWriter<'_, K>, count: usize)
 {
     let blanks = [b' '; 10];
     out.add(blanks.split_at(count).0);
-}
-
-/// Adds a number right in 2 places; a longer one stands whole.
-pub fn add_right<K: Sink>(out: &mut TextWriter<'_, K>, n: u64)
-    ensures { Adds K.Sink (column 2 n) out.old out.new }
-{
-    let mut buffer = Buffer::new();
-    let digits = buffer.format(n).as_bytes();
-    add_blanks(out, 2_usize.saturating_sub(digits.len()));
-    out.add(digits);
 }
 
 /// Adds a number left in 10 places; a longer one stands whole.

@@ -9,7 +9,8 @@ use crate::row::{MOST_CELLS, Row};
 fn raise(cells: &mut [u8; 110], first: usize, behind: usize, character: u8)
     requires { behind ≤ 110 }
     ensures before { (k : ℕ) → k < first → slice_index cells.new k ≡ slice_index cells.old k }
-    ensures within { (k : ℕ) → first ≤ k → k < behind → slice_index cells.new k ≡ max (slice_index cells.old k) character }
+    ensures within { (k : ℕ) → first ≤ k → k < behind
+        → slice_index cells.new k ≡ max (slice_index cells.old k) character }
     ensures behind { (k : ℕ) → behind ≤ k → slice_index cells.new k ≡ slice_index cells.old k }
 {
     for column in first..behind {

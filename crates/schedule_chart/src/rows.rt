@@ -87,9 +87,14 @@ pub fn add_served_row<K: Sink>(
     user: u64,
     entries: &[Entry],
 )
-    ensures { Adds K.Sink (cells columns.each 0 columns.count (served_row swap user 0 Fresh entries.now)) out.old out.new }
+    ensures { Adds K.Sink (cells columns.each 0 columns.count (served_row swap user 0 Fresh entries.now))
+        out.old out.new }
 {
-    add_cells(out, &served_row(columns.each, swap, user, entries), columns.count);
+    add_cells(
+        out,
+        &served_row(columns.each, swap, user, entries),
+        columns.count,
+    );
 }
 
 /// Adds who was served at a level.

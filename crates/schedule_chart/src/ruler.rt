@@ -11,12 +11,7 @@ use ctss_types::Entry;
 use text_writer::TextWriter;
 
 /// Adds the tick over each tenth column, so many of them.
-fn add_ticks<K: Sink>(
-    out: &mut TextWriter<'_, K>,
-    each: u64,
-    count: usize,
-    entries: &[Entry],
-)
+fn add_ticks<K: Sink>(out: &mut TextWriter<'_, K>, each: u64, count: usize, entries: &[Entry])
     requires { count ≤ 11 }
     ensures { Adds K.Sink (ruler_from each 0 count entries.now) out.old out.new }
 {

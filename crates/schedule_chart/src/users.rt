@@ -1,14 +1,12 @@
 //! The users' rows.
-ghost use Rattle.bcd48.specs.Words.{characters_of};
 ghost use Rattle.picture_model.specs.Chart.{user_rows, all_user_rows};
 ghost use Rattle.text_writer.specs.Writing.{Adds};
 
 use crate::columns::Columns;
-use crate::numbers::add_right;
 use crate::rows::{add_event_row, add_served_row};
-use bcd48::text6;
 use ctss_io::Sink;
 use ctss_types::{Account, Entry};
+use schedule_figures::{add_characters, add_column};
 use text_writer::TextWriter;
 
 /// Adds the two rows of a user: what came to it, and how it waited and was served.
@@ -25,8 +23,9 @@ fn add_user<K: Sink>(
     out.add(b"          ");
     add_event_row(out, columns, user, entries);
     out.end_line();
-    add_right(out, user);
-    out.blank(&text6(account.name.bits()));
+    add_column(out, 2, user);
+    out.add(b" ");
+    add_characters(out, account.name);
     out.add(b" ");
     add_served_row(out, columns, swap, user, entries);
     out.end_line();

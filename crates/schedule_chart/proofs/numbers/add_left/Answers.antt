@@ -5,5 +5,6 @@ use Rattle.schedule_chart.proofs.numbers.add_left.Goals as goal
 
 pub returns : goal.returns
 returns g c =
-    adds_is (left_is c.args.n c.saturating_sub.result c.as_bytes-digits.result.now (c.as_bytes-digits.ensures.value ∙ c.format.ensures.text) c.saturating_sub.ensures)
+    adds_is
+    (left_is c.args.n c.saturating_sub.result c.as_bytes-digits.result.now (c.as_bytes-digits.ensures.value ∙ c.format.ensures.text) c.saturating_sub.ensures)
     (c.add.ensures ⨾ c.add_blanks.ensures)

@@ -1,4 +1,4 @@
-use Rattle.std.proofs.Common.{◌+◌, drop, ap, arith, ◌∙◌}
+use Rattle.std.proofs.Common.{ap, arith, ◌∙◌}
 use Rattle.std.proofs.lemmas.List.{drop_all}
 use Rattle.picture_model.specs.Marks.{level_marks, level_row}
 use Rattle.schedule_chart.proofs.Painted.{painted_start, painted_more, painted_all}

@@ -8,4 +8,4 @@ abbrev pub invariant-loop-index : goal.invariant-loop-index
 invariant-loop-index g l =
     (done : List ℕ) × Adds g.K.Sink done l.fn.out l.out
     × (done ++ all_user_rows l.swap l.columns.each l.columns.count (l.index + 1) (drop l.index l.accounts) l.entries
-        ≡ all_user_rows l.swap l.columns.each l.columns.count 1 l.accounts l.entries)
+    ≡ all_user_rows l.swap l.columns.each l.columns.count 1 l.accounts l.entries)

@@ -230,10 +230,17 @@ style =
     ++ line (codes ".load0{fill:#000}.wait{fill:#777;stroke:none}.idle0{fill:#f2f2f2;stroke:none}.cut{fill:#777}.grid{fill:#ddd;stroke:none}.line{fill:#c00}.rise{fill:#060}.q{fill:#c00;font-weight:bold}.sheet{fill:#fff;stroke:none}</style>")))
 
 -- how it is read
+abbrev pub how_read : List ℕ
+how_read =
+    codes "Number and colour: the level. Letter: why the service ended (T its time was over, P another was preferred, W it waits for a line,"
+
+abbrev pub how_read_further : List ℕ
+how_read_further =
+    codes "S done, Z a new size, E the end). Black: brought into core. Thin: in a queue. Red: a line, Q a quit, H a hang-up. Grey: idle, cut to 52 ticks."
+
 unfoldable pub legend : ℕ → List ℕ
 legend scale =
-    words_at (codes "w") (110 * scale) (36 * scale) (codes "Number and colour: the level. Letter: why the service ended (T its time was over, P another was preferred, W it waits for a line,")
-    ++ words_at (codes "w") (110 * scale) (50 * scale) (codes "S done, Z a new size, E the end). Black: brought into core. Thin: in a queue. Red: a line, Q a quit, H a hang-up. Grey: idle, cut to 52 ticks.")
+    words_at (codes "w") (110 * scale) (36 * scale) how_read ++ words_at (codes "w") (110 * scale) (50 * scale) how_read_further
 
 -- the first lines: on a screen a unit of scale is a pixel
 unfoldable pub sheet_begun : (scale users places : ℕ) → List ℕ

@@ -14,9 +14,11 @@ tenths_placed n k whole tenth first second is =
     ∙ ap (λ (l : List ℕ). in_places 10 (l ++ (46 ∷ tenth))) first
     ∙ ap (λ (l : List ℕ). in_places 10 (decimal (n / 10) ++ (46 ∷ l))) second
 
+-- the mean of no number
 pub mean_none : (count sum : ℕ) → count ≡ 0 → in_places 10 (codes "-") ≡ in_places 10 (mean count sum)
 mean_none count sum none = ap (λ (n : ℕ). in_places 10 (mean n sum)) (sym none)
 
+-- the mean of some
 pub mean_some : (count sum : ℕ) → 0 < count → in_places 10 (tenths (sum * 10 / count)) ≡ in_places 10 (mean count sum)
 mean_some zero sum some = absurd (omega (arith, some))
 mean_some (suc n) sum some = refl
@@ -31,6 +33,7 @@ tens_and_units tens units some small digit =
     ∙ ap (λ (n : ℕ). decimal n ++ ((48 + (10 * tens + units) % 10) ∷ [])) (sym front)
     ∙ sym (decimal_step_wide (10 * tens + units) (omega arith) (omega arith))
 
+-- a number that has no tens
 pub no_tens : (tens units : ℕ) → tens ≡ 0 → decimal units ≡ decimal (10 * tens + units)
 no_tens tens units none = let same : units ≡ 10 * tens + units = omega arith in ap decimal same
 

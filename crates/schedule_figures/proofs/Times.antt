@@ -8,6 +8,7 @@ use Rattle.picture_model.specs.Figures.{total}
 use Rattle.schedule_figures.proofs.Tallies.{sum_first, sum_more}
 use Rattle.schedule_figures.specs.Time.{served_of, moved_of, idle_of}
 
+-- the ticks of the services
 pub served_is : (es : List Entry) → total served_of es ≡ served_in es
 served_is [] = refl
 served_is (Serve tick user level ran cause ∷ es) = sum_first ran (map served_of es) ∙ ap (λ (n : ℕ). ran + n) (served_is es)
@@ -20,6 +21,7 @@ served_is (Rise tick user level ∷ es) = served_is es
 served_is (Clock answer user ∷ es) = served_is es
 served_is (Common user op reply ∷ es) = served_is es
 
+-- the ticks of idling
 pub idle_is : (es : List Entry) → total idle_of es ≡ idle_in es
 idle_is [] = refl
 idle_is (Serve tick user level ran cause ∷ es) = idle_is es
@@ -32,6 +34,7 @@ idle_is (Rise tick user level ∷ es) = idle_is es
 idle_is (Clock answer user ∷ es) = idle_is es
 idle_is (Common user op reply ∷ es) = idle_is es
 
+-- the ticks of the loads: so many for each block, so for all blocks at once
 pub swapping_is : (swap : ℕ) (es : List Entry) → swap * total moved_of es ≡ swapping_in swap es
 swapping_is swap [] = omega arith
 swapping_is swap (Serve tick user level ran cause ∷ es) = swapping_is swap es

@@ -6,6 +6,7 @@ use Rattle.picture_model.specs.declared.request.Track.{Track}
 use Rattle.picture_model.specs.declared.request.Visit.{Visit}
 use Rattle.picture_model.specs.Requests.{track_after, visit_of, visits_from}
 
+-- what is left from an element on is that element and what is left behind it
 pub one_less : {X : Type 0} (xs : List X) (i : ℕ) (x : X) → i < length xs → x ≡ get_or xs i x → drop i xs ≡ x ∷ drop (i + 1) xs
 one_less xs i x within is =
     let next : suc i ≡ i + 1 = omega arith in

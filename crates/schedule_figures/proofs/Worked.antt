@@ -7,6 +7,7 @@ use Rattle.schedule_figures.specs.Work.{top, IsWork}
 use Rattle.schedule_figures.specs.declared.work.Work.{Work}
 use Rattle.picture_model.specs.Columns.{column}
 
+-- what is left from the element before a place on is that element and what is left from the place on
 pub entry_dropped : {X : Type 0} (xs : List X) (n : ℕ) (x : X) → 0 < n → n ≤ length xs → x ≡ get_or xs (n - 1) x → drop (n - 1) xs ≡ x ∷ drop n xs
 entry_dropped xs zero x some within is = absurd (omega (arith, some))
 entry_dropped xs (suc k) x some within is =
@@ -22,6 +23,7 @@ from_end a (n ∷ ns) =
     let rest : fold max (max 0 n) ns ≡ max (fold max 0 ns) (max 0 n) = from_end (max 0 n) ns in
     omega (arith, all, rest)
 
+-- the highest level, from the first entry on
 pub top_is : (u : ℕ) (es : List Entry) → top u es ≡ highest_level u es
 top_is u [] = refl
 top_is u (e ∷ es) =

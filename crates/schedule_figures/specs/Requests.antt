@@ -5,9 +5,11 @@ use Rattle.picture_model.specs.declared.request.Visit.{Visit}
 use Rattle.schedule_figures.specs.declared.requests.Requests.{Requests}
 use Rattle.schedule_figures.specs.Tallies.{IsTally, IsTallyOfFew}
 
+-- visits, in the order of a schedule
 abbrev pub Visits : Type 0
 Visits = List Visit
 
+-- the code's requests are what these visits come to
 pub record AreRequests (r : Requests) (vs : List Visit) : Type 0 where
   pub waited : r.waited ≡ sum (map wait_of vs)
   pub responses : IsTally r.responses (responses vs)

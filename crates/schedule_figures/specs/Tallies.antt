@@ -3,6 +3,7 @@ use Rattle.std.specs.Prelude.{◌≡◌, ◌≤◌, ◌*◌, ◌^◌, ℕ, List,
 use Rattle.picture_model.specs.Figures.{greatest}
 use Rattle.schedule_figures.specs.declared.tally.Tally.{Tally}
 
+-- the code's tally is that of these numbers
 pub record IsTally (t : Tally) (ns : List ℕ) : Type 0 where
   pub count : t.count ≡ length ns
   pub sum : t.sum ≡ sum ns

@@ -4,6 +4,7 @@ use Rattle.ctss_types.specs.declared.history.Entry.{Entry}
 use Rattle.picture_model.specs.Figures.{line_of, service_of, served_of, load_of, dumped_of, read_of, level_of, total}
 use Rattle.schedule_figures.specs.declared.work.Work.{Work}
 
+-- entries, in a clause of a file that names the code's
 abbrev pub TheEntries : Type 0
 TheEntries = List Entry
 
@@ -12,6 +13,7 @@ abbrev pub top : ℕ → List Entry → ℕ
 top u [] = 0
 top u (e ∷ es) = max (top u es) (level_of u e)
 
+-- the code's work is what these entries come to for a user
 pub record IsWork (u : ℕ) (w : Work) (es : List Entry) : Type 0 where
   pub lines : w.lines ≡ total (line_of u) es
   pub services : w.services ≡ total (service_of u) es

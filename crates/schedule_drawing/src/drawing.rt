@@ -139,7 +139,7 @@ fn add_rows<K: Sink>(
 {
     add_users(out, sheet, accounts, entries);
     add_layer(out, &UserRows { sheet }, entries);
-    add_level_names(out, sheet);
+    add_level_names(out, sheet, &[0, 1, 2, 3, 4, 5, 6, 7, 8]);
     add_layer(out, &LevelRows { sheet }, entries);
 }
 

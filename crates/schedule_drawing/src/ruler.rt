@@ -1,7 +1,6 @@
 //! The ruler, and names of levels.
 ghost use Rattle.std.specs.Prelude.{◌*◌, ◌/◌, ◌≤◌, suc};
 ghost use Rattle.std.specs.List.{flat_map};
-ghost use Rattle.picture_model.specs.FigureLines.{all_levels};
 ghost use Rattle.picture_model.specs.Drawing.{level_name, ruler_drawn, ruler_mark};
 ghost use Rattle.text_writer.specs.Writing.{Adds};
 
@@ -44,12 +43,12 @@ fn add_level_name<K: Sink>(out: &mut TextWriter<'_, K>, sheet: Sheet, level: u8)
     out.line(b"</text>");
 }
 
-/// Adds the names of all levels.
-pub(crate) fn add_level_names<K: Sink>(out: &mut TextWriter<'_, K>, sheet: Sheet)
-    ensures { Adds K.Sink (flat_map (level_name sheet.scale sheet.users) all_levels) out.old out.new }
+/// Adds the names of some levels.
+pub(crate) fn add_level_names<K: Sink>(out: &mut TextWriter<'_, K>, sheet: Sheet, levels: &[u8])
+    ensures { Adds K.Sink (flat_map (level_name sheet.scale sheet.users) levels.now) out.old out.new }
 {
-    for level in [0, 1, 2, 3, 4, 5, 6, 7, 8] {
-        add_level_name(out, sheet, level);
+    for level in levels {
+        add_level_name(out, sheet, *level);
     }
 }
 

@@ -6,4 +6,4 @@ use Rattle.schedule_drawing.proofs.ruler.add_level_names.Given as goal
 
 abbrev pub invariant-loop-level : goal.invariant-loop-level
 invariant-loop-level g l =
-    Adds g.K.Sink (flat_map (level_name l.sheet.scale l.sheet.users) (take l.level-index l.level-items)) l.fn.out l.out
+    Adds g.K.Sink (flat_map (level_name l.sheet.scale l.sheet.users) (take l.level-index l.levels)) l.fn.out l.out

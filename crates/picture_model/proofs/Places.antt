@@ -5,7 +5,7 @@ use Rattle.ctss_types.specs.declared.history.Entry.TheVariants.{Taken, Login, Re
 use Rattle.system_model.specs.Record.{record_of}
 use Rattle.tick_laws.specs.Spans.{Span, spans, JoinFrom}
 use Rattle.tick_laws.proofs.Loaded.{ticks_join}
-use Rattle.picture_model.specs.Folds.{cut_of, all_cut, place_spans, PlacesJoin}
+use Rattle.picture_model.specs.Folds.{all_cut, place_spans, PlacesJoin}
 
 -- the same spans between equal ends
 moved : (a b c d : ℕ) (xs : List Span) → a ≡ b → c ≡ d → JoinFrom a xs c → JoinFrom b xs d

@@ -1,5 +1,5 @@
 -- claim: texts and numbers in columns.
-use Rattle.std.specs.Prelude.{ℕ, zero, suc, ◌-◌, ◌*◌, ◌/◌, ◌%◌, List, [], ◌∷◌, ◌++◌, length, replicate, sum, codes}
+use Rattle.std.specs.Prelude.{ℕ, zero, suc, ◌-◌, ◌*◌, ◌/◌, ◌%◌, List, ◌∷◌, ◌++◌, length, replicate, sum, codes}
 use Rattle.std.specs.Fmt.{decimal}
 use Rattle.picture_model.specs.Figures.{greatest}
 

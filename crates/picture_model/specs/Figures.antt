@@ -1,12 +1,11 @@
 -- claim: the figures of a schedule, by user and by level.
-use Rattle.std.specs.Prelude.{ℕ, ◌+◌, ◌-◌, nat_eq, max, if◌then◌else◌, List, [], ◌∷◌, map, filter, sum, fold}
+use Rattle.std.specs.Prelude.{ℕ, ◌-◌, nat_eq, max, if◌then◌else◌, List, map, filter, sum, fold}
 use Rattle.ctss_types.specs.declared.history.Cause.{Cause}
 use Rattle.ctss_types.specs.declared.history.Cause.TheVariants as cause
 use Rattle.ctss_types.specs.declared.history.EventKind.TheVariants as kind
 use Rattle.ctss_types.specs.declared.history.Entry.{Entry}
 use Rattle.ctss_types.specs.declared.history.Entry.TheVariants.{Taken, Swap, Serve}
 use Rattle.picture_model.specs.declared.request.Visit.{Visit}
-use Rattle.picture_model.specs.Requests.{visits}
 
 -- what counts where two numbers are the same
 abbrev pub if_same : ℕ → ℕ → ℕ → ℕ

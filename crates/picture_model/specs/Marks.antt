@@ -5,7 +5,6 @@ use Rattle.ctss_types.specs.declared.history.EventKind.TheVariants as kind
 use Rattle.ctss_types.specs.declared.history.Entry.{Entry}
 use Rattle.ctss_types.specs.declared.history.Entry.TheVariants.{Taken, Swap, Rise, Serve}
 use Rattle.picture_model.specs.declared.request.Track.{Track}
-use Rattle.picture_model.specs.declared.request.Track.TheVariants.{Fresh}
 use Rattle.picture_model.specs.Requests.{waited_from, track_after}
 use Rattle.picture_model.specs.Folds.{cut_of}
 

@@ -1,9 +1,8 @@
-use Rattle.std.proofs.Common.{◌≡◌, ℕ, List, length, ap, ◌∙◌}
+use Rattle.std.proofs.Common.{◌≡◌, ℕ, List, ap, ◌∙◌}
 use Rattle.ctss_types.specs.declared.script.Account.{Account}
 use Rattle.ctss_types.specs.declared.script.Script.{Script}
 use Rattle.ctss_types.specs.declared.history.Record.{Record}
 use Rattle.ctss_types.specs.declared.history.Entry.{Entry}
-use Rattle.picture_model.specs.Folds.{places_in}
 use Rattle.picture_model.specs.Drawing.{scale_for, rows_drawn, drawing_with, drawing_of}
 use Rattle.text_writer.proofs.Added.{◌⨾◌, adds_is}
 use Rattle.schedule_drawing.proofs.drawing.add_drawing.Goals as goal

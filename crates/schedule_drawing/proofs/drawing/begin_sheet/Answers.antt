@@ -1,6 +1,6 @@
-use Rattle.std.proofs.Common.{◌+◌, ◌*◌, ◌/◌, ℕ, ap}
+use Rattle.std.proofs.Common.{◌+◌, ◌*◌, ℕ, ap}
 use Rattle.std.specs.Fmt.{decimal}
-use Rattle.picture_model.specs.Drawing.{attribute, sheet_begun}
+use Rattle.picture_model.specs.Drawing.{sheet_begun}
 use Rattle.text_writer.proofs.Added.{◌⨾◌, adds_is}
 use Rattle.schedule_drawing.proofs.Drawn.{attribute_is, ratio_is}
 use Rattle.schedule_drawing.proofs.drawing.begin_sheet.Goals as goal

@@ -1,4 +1,4 @@
-use Rattle.std.proofs.Common.{◌≡◌, ◌+◌, ◌-◌, ◌*◌, ◌/◌, ◌++◌, ℕ, [], suc, refl, ap, arith}
+use Rattle.std.proofs.Common.{◌≡◌, ◌+◌, ◌-◌, ◌*◌, ◌/◌, ◌++◌, ℕ, [], suc, ap, arith}
 use Rattle.picture_model.specs.Drawing.{ruler_mark, ruler_drawn}
 use Rattle.text_writer.proofs.Added.{◌⨾◌, adds_is, adds_none}
 use Rattle.schedule_drawing.proofs.Drawn.{one_more, none_left, ruler_next, ruler_none}

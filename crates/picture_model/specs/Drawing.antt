@@ -1,5 +1,5 @@
 -- claim: the picture of a record, drawn: who ran, the levels, and the figures, as one SVG text.
-use Rattle.std.specs.Prelude.{ℕ, zero, suc, ◌+◌, ◌-◌, ◌*◌, ◌/◌, ◌%◌, nat_eq, nat_lt, nat_le, max, if◌then◌else◌, List, [], ◌∷◌, ◌++◌, length, codes}
+use Rattle.std.specs.Prelude.{ℕ, zero, suc, ◌+◌, ◌-◌, ◌*◌, ◌/◌, ◌%◌, nat_eq, nat_lt, nat_le, ◌&&◌, max, if◌then◌else◌, List, [], ◌∷◌, ◌++◌, length, codes}
 use Rattle.std.specs.List.{flat_map}
 use Rattle.std.specs.Fmt.{decimal}
 use Rattle.bcd48.specs.Words.{characters_of}
@@ -18,20 +18,23 @@ use Rattle.picture_model.specs.declared.request.Track.{Track}
 use Rattle.picture_model.specs.declared.request.Track.TheVariants.{Fresh}
 use Rattle.picture_model.specs.Requests.{waited_from, track_after}
 use Rattle.picture_model.specs.FigureLines.{all_levels, figures_in, time_line}
-use Rattle.picture_model.specs.Folds.{cut_of, places_in, tick_at}
+use Rattle.picture_model.specs.Folds.{most_idle, cut_of, places_in, tick_at}
 
 -- an attribute and its number, as in x='12'
 unfoldable pub attribute : List ℕ → ℕ → List ℕ
 attribute name n = name ++ (decimal n ++ (39 ∷ []))
 
--- How a picture is laid out: a place is one unit wide, and all else is a multiple of this number, so that writing can be read however
--- long the run is.
+-- How a picture is laid out: all but places is a multiple of this number, so that writing can be read however long the run is.
 abbrev pub scale_for : (places : ℕ) → ℕ
 scale_for places = suc (places / 1200)
 
+-- how wide a place is: one unit, and more where the run is short
+abbrev pub zoom_for : (places : ℕ) → ℕ
+zoom_for places = max 1 (1000 / suc places)
+
 -- the left edge of a place
-abbrev pub across : (scale place : ℕ) → ℕ
-across scale place = 110 * scale + place
+abbrev pub across : (scale zoom place : ℕ) → ℕ
+across scale zoom place = 110 * scale + zoom * place
 
 -- the upper edges of a user's row and of a level's, and that of the figures; users count from 1
 abbrev pub user_top : (scale u : ℕ) → ℕ
@@ -46,8 +49,8 @@ figures_top scale users = (330 + 26 * users) * scale
 abbrev pub sheet_height : (scale users : ℕ) → ℕ
 sheet_height scale users = (640 + 40 * users) * scale
 
-abbrev pub sheet_width : (scale places : ℕ) → ℕ
-sheet_width scale places = 130 * scale + max places (900 * scale)
+abbrev pub sheet_width : (scale zoom places : ℕ) → ℕ
+sheet_width scale zoom places = 130 * scale + max (zoom * places) (960 * scale)
 
 -- where a rectangle lies
 unfoldable pub area : (x y width height : ℕ) → List ℕ
@@ -117,63 +120,66 @@ event_drawn scale x y kind.Hang e = words_at (codes "q") x (y + 7 * scale) (code
 event_drawn scale x y kind.Spent e = words_at (codes "q") x (y + 7 * scale) (codes "S")
 
 -- a service, at a place: its bar, and its label
-abbrev pub service_drawn : (scale place u level ran : ℕ) → Cause → Entry → List ℕ
-service_drawn scale place u level ran cause e =
-    bar (codes "l") level (across scale place) (user_top scale u + 8 * scale) ran (14 * scale) e
-    ++ bar_label scale (across scale place) (user_top scale u + 19 * scale) ran level (cause_letter cause)
+abbrev pub service_drawn : (scale zoom place u level ran : ℕ) → Cause → Entry → List ℕ
+service_drawn scale zoom place u level ran cause e =
+    bar (codes "l") level (across scale zoom place) (user_top scale u + 8 * scale) (zoom * ran) (14 * scale) e
+    ++ bar_label scale (across scale zoom place) (user_top scale u + 19 * scale) (zoom * ran) level (cause_letter cause)
 
 -- a load: its bar
-abbrev pub load_drawn : (swap scale place u dumped read : ℕ) → Entry → List ℕ
-load_drawn swap scale place u dumped read e =
-    bar (codes "load") 0 (across scale place) (user_top scale u + 8 * scale) (swap * (dumped + read)) (14 * scale) e
+abbrev pub load_drawn : (swap scale zoom place u dumped read : ℕ) → Entry → List ℕ
+load_drawn swap scale zoom place u dumped read e =
+    bar (codes "load") 0 (across scale zoom place) (user_top scale u + 8 * scale) (zoom * (swap * (dumped + read))) (14 * scale) e
 
 -- what came to a user, if it came in a session
-abbrev pub taken_drawn : (scale place u : ℕ) → EventKind → Entry → List ℕ
-taken_drawn scale place u kind e = if nat_eq u 0 then [] else event_drawn scale (across scale place) (user_top scale u) kind e
+abbrev pub taken_drawn : (scale zoom place u : ℕ) → EventKind → Entry → List ℕ
+taken_drawn scale zoom place u kind e =
+    if nat_eq u 0 then [] else event_drawn scale (across scale zoom place) (user_top scale u) kind e
 
 -- a rise: a sign
-abbrev pub rise_drawn : (scale place u : ℕ) → Entry → List ℕ
-rise_drawn scale place u e = tip (codes "rise") scale (across scale place) (user_top scale u + 2 * scale) (codes " ") e
+abbrev pub rise_drawn : (scale zoom place u : ℕ) → Entry → List ℕ
+rise_drawn scale zoom place u e = tip (codes "rise") scale (across scale zoom place) (user_top scale u + 2 * scale) (codes " ") e
 
 -- an entry in the rows of users, where so many ticks are cut out before
-abbrev pub user_drawn : (swap scale cut : ℕ) → Entry → List ℕ
-user_drawn swap scale cut (Serve tick u level ran cause) =
-    service_drawn scale (tick - cut) u level ran cause (Serve tick u level ran cause)
-user_drawn swap scale cut (Swap tick u dumped read fresh) =
-    load_drawn swap scale (tick - cut) u dumped read (Swap tick u dumped read fresh)
-user_drawn swap scale cut (Taken tick console kind u own) = taken_drawn scale (tick - cut) u kind (Taken tick console kind u own)
-user_drawn swap scale cut (Rise tick u level) = rise_drawn scale (tick - cut) u (Rise tick u level)
-user_drawn swap scale cut _ = []
+abbrev pub user_drawn : (swap scale zoom cut : ℕ) → Entry → List ℕ
+user_drawn swap scale zoom cut (Serve tick u level ran cause) =
+    service_drawn scale zoom (tick - cut) u level ran cause (Serve tick u level ran cause)
+user_drawn swap scale zoom cut (Swap tick u dumped read fresh) =
+    load_drawn swap scale zoom (tick - cut) u dumped read (Swap tick u dumped read fresh)
+user_drawn swap scale zoom cut (Taken tick console kind u own) =
+    taken_drawn scale zoom (tick - cut) u kind (Taken tick console kind u own)
+user_drawn swap scale zoom cut (Rise tick u level) = rise_drawn scale zoom (tick - cut) u (Rise tick u level)
+user_drawn swap scale zoom cut _ = []
 
 -- an entry in the rows of levels: a service, in the user's colour and with its number
 abbrev pub level_label : (scale x y width number : ℕ) → List ℕ
 level_label scale x y width number =
     if nat_le (16 * scale) width then words_at (codes "n") (x + width / 2) y (decimal number) else []
 
-abbrev pub level_service : (scale users place level ran u : ℕ) → Entry → List ℕ
-level_service scale users place level ran u e =
-    bar (codes "u") (u % 10) (across scale place) (level_top scale users level) ran (14 * scale) e
-    ++ level_label scale (across scale place) (level_top scale users level + 11 * scale) ran u
+abbrev pub level_service : (scale zoom users place level ran u : ℕ) → Entry → List ℕ
+level_service scale zoom users place level ran u e =
+    bar (codes "u") (u % 10) (across scale zoom place) (level_top scale users level) (zoom * ran) (14 * scale) e
+    ++ level_label scale (across scale zoom place) (level_top scale users level + 11 * scale) (zoom * ran) u
 
-abbrev pub level_drawn : (scale users cut : ℕ) → Entry → List ℕ
-level_drawn scale users cut (Serve tick u level ran cause) =
-    level_service scale users (tick - cut) level ran u (Serve tick u level ran cause)
-level_drawn scale users cut _ = []
+abbrev pub level_drawn : (scale zoom users cut : ℕ) → Entry → List ℕ
+level_drawn scale zoom users cut (Serve tick u level ran cause) =
+    level_service scale zoom users (tick - cut) level ran u (Serve tick u level ran cause)
+level_drawn scale zoom users cut _ = []
 
--- an idle time behind all rows, and how long it was, where there is room
-abbrev pub idle_label : (scale x from until : ℕ) → List ℕ
-idle_label scale x from until =
-    if nat_le scale 1 then words_at (codes "n cut") (x + 26) (94 * scale) (decimal (until - from)) else []
+-- An idle time lies behind all rows. How long it was is said where as many ticks of it are shown as may be, and there is room.
+abbrev pub idle_label : (scale zoom place ticks : ℕ) → List ℕ
+idle_label scale zoom place ticks =
+    if nat_le scale 1 && nat_le most_idle ticks
+    then words_at (codes "n cut") (across scale zoom place + zoom * 26) (94 * scale) (decimal ticks) else []
 
-abbrev pub idle_bar : (scale users cut from until : ℕ) → Entry → List ℕ
-idle_bar scale users cut from until e =
-    bar (codes "idle") 0 (across scale (from - cut)) (user_top scale 1) ((until - from) - cut_of e)
+abbrev pub idle_bar : (scale zoom users cut from until : ℕ) → Entry → List ℕ
+idle_bar scale zoom users cut from until e =
+    bar (codes "idle") 0 (across scale zoom (from - cut)) (user_top scale 1) (zoom * ((until - from) - cut_of e))
     (level_top scale users 9 - user_top scale 1) e
-    ++ idle_label scale (across scale (from - cut)) from until
+    ++ idle_label scale zoom (from - cut) (until - from)
 
-abbrev pub idle_drawn : (scale users cut : ℕ) → Entry → List ℕ
-idle_drawn scale users cut (Idle from until) = idle_bar scale users cut from until (Idle from until)
-idle_drawn scale users cut _ = []
+abbrev pub idle_drawn : (scale zoom users cut : ℕ) → Entry → List ℕ
+idle_drawn scale zoom users cut (Idle from until) = idle_bar scale zoom users cut from until (Idle from until)
+idle_drawn scale zoom users cut _ = []
 
 -- what is drawn of each entry, where so many ticks are cut out before the first
 abbrev pub drawn : (ℕ → Entry → List ℕ) → (cut : ℕ) → List Entry → List ℕ
@@ -181,45 +187,56 @@ drawn what cut [] = []
 drawn what cut (e ∷ es) = what cut e ++ drawn what (cut + cut_of e) es
 
 -- a user's time in a queue
-abbrev pub queue_drawn : (scale u cut waited tick : ℕ) → List ℕ
-queue_drawn scale u cut waited tick =
+abbrev pub queue_drawn : (scale zoom u cut waited tick : ℕ) → List ℕ
+queue_drawn scale zoom u cut waited tick =
     if nat_lt waited tick
-    then plain_box (codes "wait") (across scale (waited - cut)) (user_top scale u + 14 * scale) (tick - waited) (2 * scale) else []
+    then plain_box (codes "wait") (across scale zoom (waited - cut)) (user_top scale u + 14 * scale) (zoom * (tick - waited)) (2 * scale)
+    else []
 
-abbrev pub wait_drawn : (scale u cut : ℕ) → Track → Entry → List ℕ
-wait_drawn scale u cut t (Serve tick v level ran cause) =
-    if nat_eq v u then queue_drawn scale u cut (waited_from t tick) tick else []
-wait_drawn scale u cut t _ = []
+abbrev pub wait_drawn : (scale zoom u cut : ℕ) → Track → Entry → List ℕ
+wait_drawn scale zoom u cut t (Serve tick v level ran cause) =
+    if nat_eq v u then queue_drawn scale zoom u cut (waited_from t tick) tick else []
+wait_drawn scale zoom u cut t _ = []
 
-abbrev pub waits_drawn : (scale u cut : ℕ) → Track → List Entry → List ℕ
-waits_drawn scale u cut t [] = []
-waits_drawn scale u cut t (e ∷ es) = wait_drawn scale u cut t e ++ waits_drawn scale u (cut + cut_of e) (track_after u t e) es
+abbrev pub waits_drawn : (scale zoom u cut : ℕ) → Track → List Entry → List ℕ
+waits_drawn scale zoom u cut t [] = []
+waits_drawn scale zoom u cut t (e ∷ es) =
+    wait_drawn scale zoom u cut t e ++ waits_drawn scale zoom u (cut + cut_of e) (track_after u t e) es
 
 -- a user's name before its row, and its times in a queue
-abbrev pub user_row : (scale u : ℕ) → Account → List Entry → List ℕ
-user_row scale u a es =
+abbrev pub user_row : (scale zoom u : ℕ) → Account → List Entry → List ℕ
+user_row scale zoom u a es =
     words_at (codes "w") (4 * scale) (user_top scale u + 19 * scale) (decimal u ++ (codes " " ++ characters_of a.name))
-    ++ waits_drawn scale u 0 Fresh es
+    ++ waits_drawn scale zoom u 0 Fresh es
 
-abbrev pub user_rows : (scale u : ℕ) → List Account → List Entry → List ℕ
-user_rows scale u [] es = []
-user_rows scale u (a ∷ accounts) es = user_row scale u a es ++ user_rows scale (suc u) accounts es
+abbrev pub user_rows : (scale zoom u : ℕ) → List Account → List Entry → List ℕ
+user_rows scale zoom u [] es = []
+user_rows scale zoom u (a ∷ accounts) es = user_row scale zoom u a es ++ user_rows scale zoom (suc u) accounts es
 
 -- a level's name before its row
 abbrev pub level_name : (scale users level : ℕ) → List ℕ
 level_name scale users level =
     words_at (codes "w") (4 * scale) (level_top scale users level + 11 * scale) (codes "LEVEL " ++ decimal level)
 
--- a line across all rows and its tick, at each hundredth unit of scale, so many of them from one on
-abbrev pub ruler_mark : (scale users place : ℕ) → List Entry → List ℕ
-ruler_mark scale users place es =
-    plain_box (codes "grid") (across scale place) (76 * scale) scale (level_top scale users 9 - 76 * scale)
-    ++ words_at (codes "w") (across scale place) (72 * scale) (decimal (tick_at place es))
+-- a line across all rows and its tick, at a place
+abbrev pub ruler_mark : (scale zoom users place : ℕ) → List Entry → List ℕ
+ruler_mark scale zoom users place es =
+    plain_box (codes "grid") (across scale zoom place) (76 * scale) scale (level_top scale users 9 - 76 * scale)
+    ++ words_at (codes "w") (across scale zoom place) (72 * scale) (decimal (tick_at place es))
 
-abbrev pub ruler_drawn : (scale users mark count : ℕ) → List Entry → List ℕ
-ruler_drawn scale users mark zero es = []
-ruler_drawn scale users mark (suc n) es =
-    ruler_mark scale users (100 * scale * mark) es ++ ruler_drawn scale users (suc mark) n es
+-- so many places are between two such lines: as many as 100 units of scale have, and one at least
+abbrev pub places_between : (scale zoom : ℕ) → ℕ
+places_between scale zoom = max 1 (100 * scale / zoom)
+
+-- so many lines from one on
+abbrev pub ruler_drawn : (scale zoom users each mark count : ℕ) → List Entry → List ℕ
+ruler_drawn scale zoom users each mark zero es = []
+ruler_drawn scale zoom users each mark (suc n) es =
+    ruler_mark scale zoom users (each * mark) es ++ ruler_drawn scale zoom users each (suc mark) n es
+
+-- all of so many places
+abbrev pub ruler : (scale zoom users each places : ℕ) → List Entry → List ℕ
+ruler scale zoom users each places es = ruler_drawn scale zoom users each 0 (suc (places / each)) es
 
 -- colours: levels from light to dark, users, and all else
 unfoldable pub style : List ℕ
@@ -243,17 +260,18 @@ legend scale =
     words_at (codes "w") (110 * scale) (36 * scale) how_read ++ words_at (codes "w") (110 * scale) (50 * scale) how_read_further
 
 -- the first lines: on a screen a unit of scale is a pixel
-unfoldable pub sheet_begun : (scale users places : ℕ) → List ℕ
-sheet_begun scale users places =
+unfoldable pub sheet_begun : (scale zoom users places : ℕ) → List ℕ
+sheet_begun scale zoom users places =
     codes "<svg xmlns='http://www.w3.org/2000/svg' font-family='monospace'" ++ (attribute (codes " font-size='") (11 * scale)
-    ++ (codes " viewBox='0 0 " ++ (decimal (sheet_width scale places) ++ (codes " " ++ (decimal (sheet_height scale users)
-    ++ (codes "'" ++ (attribute (codes " width='") (sheet_width scale places / scale)
+    ++ (codes " viewBox='0 0 " ++ (decimal (sheet_width scale zoom places) ++ (codes " " ++ (decimal (sheet_height scale users)
+    ++ (codes "'" ++ (attribute (codes " width='") (sheet_width scale zoom places / scale)
     ++ (attribute (codes " height='") (640 + 40 * users) ++ line (codes ">")))))))))
 
 -- a sheet of white
-abbrev pub sheet : (scale users places : ℕ) → List ℕ
-sheet scale users places =
-    sheet_begun scale users places ++ (style ++ plain_box (codes "sheet") 0 0 (sheet_width scale places) (sheet_height scale users))
+abbrev pub sheet : (scale zoom users places : ℕ) → List ℕ
+sheet scale zoom users places =
+    sheet_begun scale zoom users places
+    ++ (style ++ plain_box (codes "sheet") 0 0 (sheet_width scale zoom places) (sheet_height scale users))
 
 -- the figures as lines of one text
 unfoldable pub figures_drawn : (scale users : ℕ) → Script → Record → List ℕ
@@ -263,29 +281,30 @@ figures_drawn scale users script rec =
     ++ line (codes "</text></svg>")))))
 
 -- the rows of users and what is in them, and those of levels
-abbrev pub rows_drawn : (swap scale users : ℕ) → List Account → List Entry → List ℕ
-rows_drawn swap scale users accounts es =
-    user_rows scale 1 accounts es
-    ++ (drawn (user_drawn swap scale) 0 es
+abbrev pub rows_drawn : (swap scale zoom users : ℕ) → List Account → List Entry → List ℕ
+rows_drawn swap scale zoom users accounts es =
+    user_rows scale zoom 1 accounts es
+    ++ (drawn (user_drawn swap scale zoom) 0 es
     ++ (flat_map (level_name scale users) all_levels
-    ++ drawn (level_drawn scale users) 0 es))
+    ++ drawn (level_drawn scale zoom users) 0 es))
 
 -- what lies behind the rows: a sheet, what the whole time went into, how the picture is read, idle times and the ruler
-abbrev pub back_drawn : (scale users places swap : ℕ) → Record → List ℕ
-back_drawn scale users places swap rec =
-    sheet scale users places
+abbrev pub back_drawn : (scale zoom users places swap : ℕ) → Record → List ℕ
+back_drawn scale zoom users places swap rec =
+    sheet scale zoom users places
     ++ (words_at (codes "b") (110 * scale) (20 * scale) (time_line swap rec)
     ++ (legend scale
-    ++ (drawn (idle_drawn scale users) 0 rec.entries
-    ++ ruler_drawn scale users 0 (suc (places / (100 * scale))) rec.entries)))
+    ++ (drawn (idle_drawn scale zoom users) 0 rec.entries
+    ++ ruler scale zoom users (places_between scale zoom) places rec.entries)))
 
 -- what is drawn, from back to front
-abbrev pub drawing_with : (scale users places : ℕ) → Script → Record → List ℕ
-drawing_with scale users places script rec =
-    back_drawn scale users places script.params.swap rec
-    ++ (rows_drawn script.params.swap scale users script.accounts rec.entries
+abbrev pub drawing_with : (scale zoom users places : ℕ) → Script → Record → List ℕ
+drawing_with scale zoom users places script rec =
+    back_drawn scale zoom users places script.params.swap rec
+    ++ (rows_drawn script.params.swap scale zoom users script.accounts rec.entries
     ++ (figures_drawn scale users script rec
     ++ line (codes "</svg>")))
 
 unfoldable pub drawing_of : Script → Record → List ℕ
-drawing_of script rec = drawing_with (scale_for (places_in rec)) (length script.accounts) (places_in rec) script rec
+drawing_of script rec =
+    drawing_with (scale_for (places_in rec)) (zoom_for (places_in rec)) (length script.accounts) (places_in rec) script rec

@@ -7,7 +7,7 @@ use Rattle.ctss_types.specs.declared.script.Account.{Account}
 use Rattle.picture_model.specs.declared.request.Track.{Track}
 use Rattle.picture_model.specs.Requests.{track_after}
 use Rattle.picture_model.specs.Folds.{cut_of}
-use Rattle.picture_model.specs.Drawing.{drawn, wait_drawn, waits_drawn, user_row, user_rows, ruler_mark, ruler_drawn, attribute, bar, bar_label, level_label, plain_box, text_begun, words_at}
+use Rattle.picture_model.specs.Drawing.{drawn, wait_drawn, waits_drawn, user_row, user_rows, ruler, ruler_mark, ruler_drawn, attribute, bar, bar_label, idle_label, level_label, plain_box, text_begun, words_at}
 
 -- an element of a list, and those behind it
 split : {X : Type 0} (xs : List X) (i : ℕ) (x : X) → i < length xs → x ≡ get_or xs i x → drop i xs ≡ x ∷ drop (i + 1) xs
@@ -33,42 +33,43 @@ drawn_next what cut es i e within is = ap (drawn what cut) (split es i e within 
 pub drawn_none : (what : ℕ → Entry → List ℕ) (cut : ℕ) (es : List Entry) (i : ℕ) → length es ≤ i → drawn what cut (drop i es) ≡ []
 drawn_none what cut es i behind = ap (drawn what cut) (drop_all i es behind)
 
-pub waits_next : (scale u cut : ℕ) (t : Track) (es : List Entry) (i : ℕ) (e : Entry) → i < length es → e ≡ get_or es i e
-    → waits_drawn scale u cut t (drop i es)
-    ≡ wait_drawn scale u cut t e ++ waits_drawn scale u (cut + cut_of e) (track_after u t e) (drop (i + 1) es)
-waits_next scale u cut t es i e within is = ap (waits_drawn scale u cut t) (split es i e within is)
+pub waits_next : (scale zoom u cut : ℕ) (t : Track) (es : List Entry) (i : ℕ) (e : Entry) → i < length es → e ≡ get_or es i e
+    → waits_drawn scale zoom u cut t (drop i es)
+    ≡ wait_drawn scale zoom u cut t e ++ waits_drawn scale zoom u (cut + cut_of e) (track_after u t e) (drop (i + 1) es)
+waits_next scale zoom u cut t es i e within is = ap (waits_drawn scale zoom u cut t) (split es i e within is)
 
-pub waits_none : (scale u cut : ℕ) (t : Track) (es : List Entry) (i : ℕ) → length es ≤ i → waits_drawn scale u cut t (drop i es) ≡ []
-waits_none scale u cut t es i behind = ap (waits_drawn scale u cut t) (drop_all i es behind)
+pub waits_none : (scale zoom u cut : ℕ) (t : Track) (es : List Entry) (i : ℕ) → length es ≤ i → waits_drawn scale zoom u cut t (drop i es) ≡ []
+waits_none scale zoom u cut t es i behind = ap (waits_drawn scale zoom u cut t) (drop_all i es behind)
 
 -- the rows of the users from one on
 
-pub users_next : (scale : ℕ) (accounts : List Account) (es : List Entry) (i : ℕ) (a : Account) → i < length accounts → a ≡ get_or accounts i a
-    → user_rows scale (i + 1) (drop i accounts) es ≡ user_row scale (i + 1) a es ++ user_rows scale (i + 1 + 1) (drop (i + 1) accounts) es
-users_next scale accounts es i a within is =
+pub users_next : (scale zoom : ℕ) (accounts : List Account) (es : List Entry) (i : ℕ) (a : Account) → i < length accounts → a ≡ get_or accounts i a
+    → user_rows scale zoom (i + 1) (drop i accounts) es ≡ user_row scale zoom (i + 1) a es ++ user_rows scale zoom (i + 1 + 1) (drop (i + 1) accounts) es
+users_next scale zoom accounts es i a within is =
     let next : suc (i + 1) ≡ i + 1 + 1 = omega arith in
-    ap (λ (l : List Account). user_rows scale (i + 1) l es) (split accounts i a within is)
-    ∙ ap (λ (k : ℕ). user_row scale (i + 1) a es ++ user_rows scale k (drop (i + 1) accounts) es) next
+    ap (λ (l : List Account). user_rows scale zoom (i + 1) l es) (split accounts i a within is)
+    ∙ ap (λ (k : ℕ). user_row scale zoom (i + 1) a es ++ user_rows scale zoom k (drop (i + 1) accounts) es) next
 
-pub users_none : (scale u : ℕ) (accounts : List Account) (es : List Entry) (i : ℕ) → length accounts ≤ i
-    → user_rows scale u (drop i accounts) es ≡ []
-users_none scale u accounts es i behind = ap (λ (l : List Account). user_rows scale u l es) (drop_all i accounts behind)
+pub users_none : (scale zoom u : ℕ) (accounts : List Account) (es : List Entry) (i : ℕ) → length accounts ≤ i
+    → user_rows scale zoom u (drop i accounts) es ≡ []
+users_none scale zoom u accounts es i behind = ap (λ (l : List Account). user_rows scale zoom u l es) (drop_all i accounts behind)
 
 -- the marks of the ruler from one on
 
-pub ruler_next : (scale users mark count : ℕ) (es : List Entry) → mark < count
-    → ruler_drawn scale users mark (count - mark) es
-    ≡ ruler_mark scale users (100 * scale * mark) es ++ ruler_drawn scale users (mark + 1) (count - (mark + 1)) es
-ruler_next scale users mark count es within =
+pub ruler_next : (scale zoom users each mark count : ℕ) (es : List Entry) → mark < count
+    → ruler_drawn scale zoom users each mark (count - mark) es
+    ≡ ruler_mark scale zoom users (each * mark) es ++ ruler_drawn scale zoom users each (mark + 1) (count - (mark + 1)) es
+ruler_next scale zoom users each mark count es within =
     let more : count - mark ≡ suc (count - (mark + 1)) = omega (arith, within) in
     let next : suc mark ≡ mark + 1 = omega arith in
-    ap (λ (n : ℕ). ruler_drawn scale users mark n es) more
-    ∙ ap (λ (k : ℕ). ruler_mark scale users (100 * scale * mark) es ++ ruler_drawn scale users k (count - (mark + 1)) es) next
+    ap (λ (n : ℕ). ruler_drawn scale zoom users each mark n es) more
+    ∙ ap (λ (k : ℕ). ruler_mark scale zoom users (each * mark) es ++ ruler_drawn scale zoom users each k (count - (mark + 1)) es) next
 
-pub ruler_none : (scale users mark count : ℕ) (es : List Entry) → count ≤ mark → ruler_drawn scale users mark (count - mark) es ≡ []
-ruler_none scale users mark count es behind =
+pub ruler_none : (scale zoom users each mark count : ℕ) (es : List Entry) → count ≤ mark
+    → ruler_drawn scale zoom users each mark (count - mark) es ≡ []
+ruler_none scale zoom users each mark count es behind =
     let none : count - mark ≡ 0 = omega (arith, behind) in
-    ap (λ (n : ℕ). ruler_drawn scale users mark n es) none
+    ap (λ (n : ℕ). ruler_drawn scale zoom users each mark n es) none
 
 -- equal numbers make equal shapes
 
@@ -93,11 +94,13 @@ pub number_is : (class : List ℕ) {x y n x2 y2 n2 : ℕ} → x ≡ x2 → y ≡
     → words_at class x y (decimal n) ≡ words_at class x2 y2 (decimal n2)
 number_is class p q r = rw (p, q, r) refl
 
-pub label_is : (scale w n : ℕ) {x y l x2 y2 l2 : ℕ} → x ≡ x2 → y ≡ y2 → l ≡ l2 → bar_label scale x y w n l ≡ bar_label scale x2 y2 w n l2
-label_is scale w n p q r = rw (p, q, r) refl
+pub label_is : (scale n : ℕ) {x y w l x2 y2 w2 l2 : ℕ} → x ≡ x2 → y ≡ y2 → w ≡ w2 → l ≡ l2
+    → bar_label scale x y w n l ≡ bar_label scale x2 y2 w2 n l2
+label_is scale n p q r s = rw (p, q, r, s) refl
 
-pub level_label_is : (scale w n : ℕ) {x y x2 y2 : ℕ} → x ≡ x2 → y ≡ y2 → level_label scale x y w n ≡ level_label scale x2 y2 w n
-level_label_is scale w n p q = rw (p, q) refl
+pub level_label_is : (scale n : ℕ) {x y w x2 y2 w2 : ℕ} → x ≡ x2 → y ≡ y2 → w ≡ w2
+    → level_label scale x y w n ≡ level_label scale x2 y2 w2 n
+level_label_is scale n p q r = rw (p, q, r) refl
 
 pub attribute_is : (name : List ℕ) {n m : ℕ} → n ≡ m → attribute name n ≡ attribute name m
 attribute_is name p = ap (attribute name) p
@@ -107,3 +110,11 @@ ratio_is p q = rw (p, q) refl
 
 pub words_are : (class text : List ℕ) {x y x2 y2 : ℕ} → x ≡ x2 → y ≡ y2 → words_at class x y text ≡ words_at class x2 y2 text
 words_are class text p q = rw (p, q) refl
+
+pub idle_label_is : (scale zoom : ℕ) {p t q u : ℕ} → p ≡ q → t ≡ u → idle_label scale zoom p t ≡ idle_label scale zoom q u
+idle_label_is scale zoom one two = rw (one, two) refl
+
+pub ruler_is : (scale zoom users places : ℕ) {each between : ℕ} {es fs : List Entry} → each ≡ between → es ≡ fs
+    → ruler scale zoom users each places es ≡ ruler scale zoom users between places fs
+ruler_is scale zoom users places {between = between} {es = es} one two =
+    ap (λ (n : ℕ). ruler scale zoom users n places es) one ∙ ap (λ (l : List Entry). ruler scale zoom users between places l) two

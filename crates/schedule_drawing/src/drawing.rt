@@ -8,7 +8,7 @@ use crate::layer::add_layer;
 use crate::level::{IdleTimes, LevelRows};
 use crate::ruler::{add_level_names, add_ruler};
 use crate::shape::{Area, Point, add_attribute, add_box, add_digits, add_words, begin_text};
-use crate::sheet::{Sheet, scale_for};
+use crate::sheet::{Sheet, scale_for, zoom_for};
 use crate::user::UserRows;
 use crate::wait::add_users;
 use ctss_io::Sink;
@@ -20,7 +20,7 @@ use text_writer::TextWriter;
 /// Adds the first lines of a picture of so many places.
 fn begin_sheet<K: Sink>(out: &mut TextWriter<'_, K>, sheet: Sheet, places: u64)
     requires { 1 ≤ sheet.scale }
-    ensures { Adds K.Sink (sheet_begun sheet.scale sheet.users places) out.old out.new }
+    ensures { Adds K.Sink (sheet_begun sheet.scale sheet.zoom sheet.users places) out.old out.new }
 {
     out.add(b"<svg xmlns='http://www.w3.org/2000/svg' font-family='monospace'");
     add_attribute(out, b" font-size='", sheet.units(11));
@@ -115,7 +115,7 @@ fn add_figure_lines<K: Sink>(
 /// Adds a sheet of white with the colours.
 fn add_sheet<K: Sink>(out: &mut TextWriter<'_, K>, sheet: Sheet, places: u64)
     requires { 1 ≤ sheet.scale }
-    ensures { Adds K.Sink (sheet_text sheet.scale sheet.users places) out.old out.new }
+    ensures { Adds K.Sink (sheet_text sheet.scale sheet.zoom sheet.users places) out.old out.new }
 {
     let all = Area {
         x: 0,
@@ -135,7 +135,7 @@ fn add_rows<K: Sink>(
     accounts: &[Account],
     entries: &[Entry],
 )
-    ensures { Adds K.Sink (rows_drawn sheet.swap sheet.scale sheet.users accounts.now entries.now) out.old out.new }
+    ensures { Adds K.Sink (rows_drawn sheet.swap sheet.scale sheet.zoom sheet.users accounts.now entries.now) out.old out.new }
 {
     add_users(out, sheet, accounts, entries);
     add_layer(out, &UserRows { sheet }, entries);
@@ -145,14 +145,21 @@ fn add_rows<K: Sink>(
 
 /// Adds what lies behind the rows, on a sheet for so many places.
 fn add_back<K: Sink>(out: &mut TextWriter<'_, K>, sheet: Sheet, places: u64, run: &Record)
-    requires { 1 ≤ sheet.scale }
-    ensures { Adds K.Sink (back_drawn sheet.scale sheet.users places sheet.swap run.now) out.old out.new }
+    requires scale { 1 ≤ sheet.scale }
+    requires zoom { 1 ≤ sheet.zoom }
+    ensures { Adds K.Sink (back_drawn sheet.scale sheet.zoom sheet.users places sheet.swap run.now) out.old out.new }
 {
     add_sheet(out, sheet, places);
     add_heading(out, sheet, run);
     add_legend(out, sheet);
     add_layer(out, &IdleTimes { sheet }, run.entries.as_slice());
-    add_ruler(out, sheet, places, run.entries.as_slice());
+    add_ruler(
+        out,
+        sheet,
+        sheet.places_between(),
+        places,
+        run.entries.as_slice(),
+    );
 }
 
 /// Adds the picture of a record.
@@ -162,6 +169,7 @@ pub fn add_drawing<K: Sink>(out: &mut TextWriter<'_, K>, script: &Script, run: &
     let places = places_in(run);
     let sheet = Sheet {
         scale: scale_for(places),
+        zoom: zoom_for(places),
         users: script.accounts.len() as u64,
         swap: script.params.swap,
     };

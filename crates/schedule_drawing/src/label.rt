@@ -33,10 +33,10 @@ fn label_class(number: u8) -> &'static [u8]
 
 /// Adds the letter, where there is room for it.
 #[tactic(auto, using(text_writer::proofs::Added::adds_none))]
-fn add_letter<K: Sink>(out: &mut TextWriter<'_, K>, sheet: Sheet, width: u64, letter: u8)
+fn add_letter<K: Sink>(out: &mut TextWriter<'_, K>, sheet: Sheet, width: u128, letter: u8)
     ensures { Adds K.Sink (label_letter sheet.scale width letter) out.old out.new }
 {
-    if u128::from(width) >= sheet.units(16) {
+    if width >= sheet.units(16) {
         out.add(&[letter]);
     }
 }
@@ -46,7 +46,7 @@ fn add_wide<K: Sink>(
     out: &mut TextWriter<'_, K>,
     sheet: Sheet,
     middle: Point,
-    width: u64,
+    width: u128,
     number: u8,
     letter: u8,
 )
@@ -60,13 +60,14 @@ fn add_wide<K: Sink>(
 }
 
 /// The middle of a bar that begins here and is so wide.
-fn middle_of(at: Point, width: u64) -> Point
-    requires { at.x ≤ 2 ^ 80 }
+fn middle_of(at: Point, width: u128) -> Point
+    requires left { at.x ≤ 2 ^ 80 }
+    requires width { width ≤ 2 ^ 90 }
     ensures x { result.x ≡ at.x + width / 2 }
     ensures y { result.y ≡ at.y }
 {
     Point {
-        x: at.x + u128::from(width / 2),
+        x: at.x + width / 2,
         y: at.y,
     }
 }
@@ -77,14 +78,15 @@ pub(crate) fn add_label<K: Sink>(
     out: &mut TextWriter<'_, K>,
     sheet: Sheet,
     at: Point,
-    width: u64,
+    width: u128,
     number: u8,
     letter: u8,
 )
-    requires { at.x ≤ 2 ^ 80 }
+    requires left { at.x ≤ 2 ^ 80 }
+    requires width { width ≤ 2 ^ 90 }
     ensures { Adds K.Sink (bar_label sheet.scale at.x at.y width number letter) out.old out.new }
 {
-    if u128::from(width) >= sheet.units(8) {
+    if width >= sheet.units(8) {
         add_wide(out, sheet, middle_of(at, width), width, number, letter);
     }
 }
@@ -95,13 +97,14 @@ pub(crate) fn add_level_label<K: Sink>(
     out: &mut TextWriter<'_, K>,
     sheet: Sheet,
     at: Point,
-    width: u64,
+    width: u128,
     number: u8,
 )
-    requires { at.x ≤ 2 ^ 80 }
+    requires left { at.x ≤ 2 ^ 80 }
+    requires width { width ≤ 2 ^ 90 }
     ensures { Adds K.Sink (level_label sheet.scale at.x at.y width number) out.old out.new }
 {
-    if u128::from(width) >= sheet.units(16) {
+    if width >= sheet.units(16) {
         add_number_at(out, b"n", middle_of(at, width), number);
     }
 }

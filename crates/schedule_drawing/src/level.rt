@@ -1,6 +1,6 @@
 //! The rows of levels, and idle times behind all rows.
-ghost use Rattle.std.specs.Prelude.{◌≡◌, ◌-◌};
-ghost use Rattle.picture_model.specs.Folds.{cut_of};
+ghost use Rattle.std.specs.Prelude.{◌≡◌, ◌-◌, ◌*◌, ◌&&◌, nat_le};
+ghost use Rattle.picture_model.specs.Folds.{cut_of, most_idle};
 ghost use Rattle.picture_model.specs.Drawing.{across, idle_bar, idle_drawn, idle_label, level_drawn, level_service, level_top, user_top};
 ghost use Rattle.text_writer.specs.Writing.{Adds};
 
@@ -29,13 +29,13 @@ fn add_service<K: Sink>(
     service: Service,
     entry: &Entry,
 )
-    ensures { Adds K.Sink (level_service sheet.scale sheet.users place service.level service.ran service.user entry.now)
+    ensures { Adds K.Sink (level_service sheet.scale sheet.zoom sheet.users place service.level service.ran service.user entry.now)
         out.old out.new }
 {
     let at = Area {
         x: sheet.across(place),
         y: sheet.level_top(service.level),
-        width: u128::from(service.ran),
+        width: sheet.wide(u128::from(service.ran)),
         height: sheet.units(14),
     };
     let label = Point {
@@ -43,13 +43,13 @@ fn add_service<K: Sink>(
         y: sheet.level_top(service.level) + sheet.units(11),
     };
     add_bar(out, b"u", service.user % 10, at, entry);
-    add_level_label(out, sheet, label, service.ran, service.user);
+    add_level_label(out, sheet, label, at.width, service.user);
 }
 
 /// Adds an entry to the rows of levels.
 #[tactic(auto, using(text_writer::proofs::Added::adds_none))]
 fn add_in_levels<K: Sink>(out: &mut TextWriter<'_, K>, sheet: Sheet, cut: u128, entry: &Entry)
-    ensures { Adds K.Sink (level_drawn sheet.scale sheet.users cut entry.now) out.old out.new }
+    ensures { Adds K.Sink (level_drawn sheet.scale sheet.zoom sheet.users cut entry.now) out.old out.new }
 {
     if let Entry::Serve {
         tick,
@@ -77,44 +77,44 @@ pub(crate) struct LevelRows {
 impl Layer for LevelRows {
     ghost use Rattle.picture_model.specs.Drawing.{level_drawn};
 
-    ghost text = { λ rows. level_drawn rows.sheet.scale rows.sheet.users };
+    ghost text = { λ rows. level_drawn rows.sheet.scale rows.sheet.zoom rows.sheet.users };
 
     fn add<K: Sink>(&self, out: &mut TextWriter<'_, K>, cut: u128, entry: &Entry) {
         add_in_levels(out, self.sheet, cut, entry);
     }
 }
 
-/// Adds how long an idle time was, where there is room.
-#[tactic(auto, using(text_writer::proofs::Added::adds_none))]
-fn add_idle_label<K: Sink>(
-    out: &mut TextWriter<'_, K>,
-    sheet: Sheet,
-    place: u64,
-    from: u64,
-    until: u64,
-)
-    ensures { Adds K.Sink (idle_label sheet.scale (across sheet.scale place) from until) out.old out.new }
+/// Whether it is said how long an idle time was: as much of it is shown as may be, and there is room.
+fn is_labelled(sheet: Sheet, ticks: u64) -> bool
+    ensures { result ≡ (nat_le sheet.scale 1 && nat_le most_idle ticks) }
 {
-    if sheet.scale <= 1 {
+    sheet.scale <= 1 && ticks >= 52
+}
+
+/// Adds how long an idle time was, where as much of it is shown as may be, and there is room.
+fn add_idle_label<K: Sink>(out: &mut TextWriter<'_, K>, sheet: Sheet, place: u64, ticks: u64)
+    ensures { Adds K.Sink (idle_label sheet.scale sheet.zoom place ticks) out.old out.new }
+{
+    if is_labelled(sheet, ticks) {
         let at = Point {
-            x: sheet.across(place) + 26,
+            x: sheet.across(place) + sheet.wide(26),
             y: sheet.units(94),
         };
-        add_number_at(out, b"n cut", at, until.saturating_sub(from));
+        add_number_at(out, b"n cut", at, ticks);
     }
 }
 
 /// Where an idle time lies behind all rows.
 fn idle_area(sheet: Sheet, cut: u128, from: u64, until: u64, entry: &Entry) -> Area
-    ensures x { result.x ≡ across sheet.scale (from - cut) }
+    ensures x { result.x ≡ across sheet.scale sheet.zoom (from - cut) }
     ensures y { result.y ≡ user_top sheet.scale 1 }
-    ensures width { result.width ≡ (until - from) - cut_of entry.now }
+    ensures width { result.width ≡ sheet.zoom * ((until - from) - cut_of entry.now) }
     ensures height { result.height ≡ level_top sheet.scale sheet.users 9 - user_top sheet.scale 1 }
 {
     Area {
         x: sheet.across(place_of(from, cut)),
         y: sheet.user_top(1),
-        width: u128::from(until.saturating_sub(from).saturating_sub(cut_of(entry))),
+        width: sheet.wide(u128::from(until.saturating_sub(from).saturating_sub(cut_of(entry)))),
         height: sheet.level_top(9).saturating_sub(sheet.user_top(1)),
     }
 }
@@ -128,7 +128,7 @@ fn add_idle<K: Sink>(
     until: u64,
     entry: &Entry,
 )
-    ensures { Adds K.Sink (idle_bar sheet.scale sheet.users cut from until entry.now) out.old out.new }
+    ensures { Adds K.Sink (idle_bar sheet.scale sheet.zoom sheet.users cut from until entry.now) out.old out.new }
 {
     add_bar(
         out,
@@ -137,13 +137,13 @@ fn add_idle<K: Sink>(
         idle_area(sheet, cut, from, until, entry),
         entry,
     );
-    add_idle_label(out, sheet, place_of(from, cut), from, until);
+    add_idle_label(out, sheet, place_of(from, cut), until.saturating_sub(from));
 }
 
 /// Adds an entry behind all rows, if it is an idle time.
 #[tactic(auto, using(text_writer::proofs::Added::adds_none))]
 fn add_behind<K: Sink>(out: &mut TextWriter<'_, K>, sheet: Sheet, cut: u128, entry: &Entry)
-    ensures { Adds K.Sink (idle_drawn sheet.scale sheet.users cut entry.now) out.old out.new }
+    ensures { Adds K.Sink (idle_drawn sheet.scale sheet.zoom sheet.users cut entry.now) out.old out.new }
 {
     if let Entry::Idle { from, until } = entry {
         add_idle(out, sheet, cut, *from, *until, entry);
@@ -159,7 +159,7 @@ pub(crate) struct IdleTimes {
 impl Layer for IdleTimes {
     ghost use Rattle.picture_model.specs.Drawing.{idle_drawn};
 
-    ghost text = { λ times. idle_drawn times.sheet.scale times.sheet.users };
+    ghost text = { λ times. idle_drawn times.sheet.scale times.sheet.zoom times.sheet.users };
 
     fn add<K: Sink>(&self, out: &mut TextWriter<'_, K>, cut: u128, entry: &Entry) {
         add_behind(out, self.sheet, cut, entry);

@@ -1,7 +1,7 @@
 //! The ruler, and names of levels.
 ghost use Rattle.std.specs.Prelude.{◌*◌, ◌/◌, ◌≤◌, suc};
 ghost use Rattle.std.specs.List.{flat_map};
-ghost use Rattle.picture_model.specs.Drawing.{level_name, ruler_drawn, ruler_mark};
+ghost use Rattle.picture_model.specs.Drawing.{level_name, ruler, ruler_mark};
 ghost use Rattle.text_writer.specs.Writing.{Adds};
 
 use crate::shape::{Area, Point, add_box, add_digits, add_number_at, begin_text};
@@ -13,7 +13,7 @@ use text_writer::TextWriter;
 
 /// Adds a line across all rows at a place, and the tick there.
 fn add_mark<K: Sink>(out: &mut TextWriter<'_, K>, sheet: Sheet, place: u64, entries: &[Entry])
-    ensures { Adds K.Sink (ruler_mark sheet.scale sheet.users place entries.now) out.old out.new }
+    ensures { Adds K.Sink (ruler_mark sheet.scale sheet.zoom sheet.users place entries.now) out.old out.new }
 {
     let line = Area {
         x: sheet.across(place),
@@ -52,18 +52,18 @@ pub(crate) fn add_level_names<K: Sink>(out: &mut TextWriter<'_, K>, sheet: Sheet
     }
 }
 
-/// Adds the ruler over so many places.
+/// Adds the ruler over so many places, with so many between two of its lines.
 pub(crate) fn add_ruler<K: Sink>(
     out: &mut TextWriter<'_, K>,
     sheet: Sheet,
+    each: u64,
     places: u64,
     entries: &[Entry],
 )
-    requires { 1 ≤ sheet.scale }
-    ensures { Adds K.Sink (ruler_drawn sheet.scale sheet.users 0 (suc (places / (100 * sheet.scale))) entries.now) out.old out.new }
+    requires { 1 ≤ each }
+    ensures { Adds K.Sink (ruler sheet.scale sheet.zoom sheet.users each places entries.now) out.old out.new }
 {
-    let each = 100 * sheet.scale;
-    for mark in 0..places / each + 1 {
-        add_mark(out, sheet, each * mark, entries);
+    for mark in 0..u128::from(places / each) + 1 {
+        add_mark(out, sheet, each * mark as u64, entries);
     }
 }

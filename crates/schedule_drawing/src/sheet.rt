@@ -1,14 +1,16 @@
-//! How a picture is laid out: a place is one unit wide, and all else a multiple of the scale.
+//! How a picture is laid out: a place is so many units wide as the zoom says, and all else is a multiple of the scale.
 ghost use Rattle.std.specs.Prelude.{◌≡◌, ◌≤◌, ◌+◌, ◌*◌, ◌/◌, ◌^◌, suc};
-ghost use Rattle.picture_model.specs.Drawing.{across, figures_top, level_top, scale_for, sheet_height, sheet_width, user_top};
+ghost use Rattle.picture_model.specs.Drawing.{across, figures_top, level_top, places_between, scale_for, sheet_height, sheet_width, user_top, zoom_for};
 
-/// The scale of a picture, how many users it has, and the ticks that a block takes.
+/// The scale and the zoom of a picture, how many users it has, and the ticks that a block takes.
 #[derive(Clone, Copy)]
 pub struct Sheet {
     pub scale: u64,
+    pub zoom: u64,
     pub users: u64,
     pub swap: u64,
     ghost small: { scale ≤ 2 ^ 54 },
+    ghost near: { zoom ≤ 1000 },
 }
 
 /// The scale of a picture of so many places.
@@ -18,6 +20,16 @@ pub(crate) fn scale_for(places: u64) -> u64
     ensures some { 1 ≤ result }
 {
     places / 1200 + 1
+}
+
+/// The zoom of a picture of so many places.
+pub(crate) fn zoom_for(places: u64) -> u64
+    ensures value { result ≡ zoom_for places }
+    ensures near { result ≤ 1000 }
+    ensures some { 1 ≤ result }
+{
+    let zoom = 1000 / (u128::from(places) + 1);
+    (zoom as u64).max(1)
 }
 
 impl Sheet {
@@ -31,10 +43,28 @@ impl Sheet {
 
     /// The left edge of a place.
     pub(crate) fn across(self, place: u64) -> u128
-        ensures value { result ≡ across self.scale place }
-        ensures small { result ≤ 2 ^ 70 }
+        ensures value { result ≡ across self.scale self.zoom place }
+        ensures small { result ≤ 2 ^ 75 }
     {
-        self.units(110) + u128::from(place)
+        self.units(110) + u128::from(self.zoom) * u128::from(place)
+    }
+
+    /// How wide so many ticks are.
+    pub(crate) fn wide(self, ticks: u128) -> u128
+        requires { ticks ≤ 2 ^ 80 }
+        ensures value { result ≡ self.zoom * ticks }
+        ensures small { result ≤ 2 ^ 90 }
+    {
+        u128::from(self.zoom) * ticks
+    }
+
+    /// How many places are between two lines of the ruler.
+    pub(crate) fn places_between(self) -> u64
+        requires { 1 ≤ self.zoom }
+        ensures value { result ≡ places_between self.scale self.zoom }
+        ensures some { 1 ≤ result }
+    {
+        (100 * self.scale / self.zoom).max(1)
     }
 
     /// The upper edge of a user's row.
@@ -70,8 +100,8 @@ impl Sheet {
 
     /// How wide a picture of so many places is.
     pub(crate) fn width(self, places: u64) -> u128
-        ensures value { result ≡ sheet_width self.scale places }
+        ensures value { result ≡ sheet_width self.scale self.zoom places }
     {
-        self.units(130) + u128::from(places).max(self.units(900))
+        self.units(130) + (u128::from(self.zoom) * u128::from(places)).max(self.units(960))
     }
 }

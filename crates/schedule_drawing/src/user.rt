@@ -75,17 +75,18 @@ fn add_event<K: Sink>(
     }
 }
 
-/// Where a bar lies in the row of a user, that is so wide and begins at a place.
-fn bar_area(sheet: Sheet, user: u8, place: u64, width: u128) -> Area
-    ensures x { result.x ≡ across sheet.scale place }
+/// Where a bar lies in the row of a user, that begins at a place and lasts so many ticks.
+fn bar_area(sheet: Sheet, user: u8, place: u64, ticks: u128) -> Area
+    requires { ticks ≤ 2 ^ 80 }
+    ensures x { result.x ≡ across sheet.scale sheet.zoom place }
     ensures y { result.y ≡ user_top sheet.scale user + 8 * sheet.scale }
-    ensures width { result.width ≡ width }
+    ensures width { result.width ≡ sheet.zoom * ticks }
     ensures height { result.height ≡ 14 * sheet.scale }
 {
     Area {
         x: sheet.across(place),
         y: sheet.user_top(u64::from(user)) + sheet.units(8),
-        width,
+        width: sheet.wide(ticks),
         height: sheet.units(14),
     }
 }
@@ -98,7 +99,7 @@ fn add_service<K: Sink>(
     service: Service,
     entry: &Entry,
 )
-    ensures { Adds K.Sink (service_drawn sheet.scale place service.user service.level service.ran service.cause entry.now)
+    ensures { Adds K.Sink (service_drawn sheet.scale sheet.zoom place service.user service.level service.ran service.cause entry.now)
         out.old out.new }
 {
     let at = bar_area(sheet, service.user, place, u128::from(service.ran));
@@ -111,7 +112,7 @@ fn add_service<K: Sink>(
         out,
         sheet,
         label,
-        service.ran,
+        sheet.wide(u128::from(service.ran)),
         service.level,
         cause_letter(service.cause),
     );
@@ -125,7 +126,7 @@ fn add_load<K: Sink>(
     load: Load,
     entry: &Entry,
 )
-    ensures { Adds K.Sink (load_drawn sheet.swap sheet.scale place load.user load.dumped load.read entry.now) out.old out.new }
+    ensures { Adds K.Sink (load_drawn sheet.swap sheet.scale sheet.zoom place load.user load.dumped load.read entry.now) out.old out.new }
 {
     let ticks = u128::from(sheet.swap) * (u128::from(load.dumped) + u128::from(load.read));
     add_bar(
@@ -147,7 +148,7 @@ fn add_taken<K: Sink>(
     kind: EventKind,
     entry: &Entry,
 )
-    ensures { Adds K.Sink (taken_drawn sheet.scale place user kind entry.now) out.old out.new }
+    ensures { Adds K.Sink (taken_drawn sheet.scale sheet.zoom place user kind entry.now) out.old out.new }
 {
     if user != 0 {
         let at = Point {
@@ -160,7 +161,7 @@ fn add_taken<K: Sink>(
 
 /// Adds a rise.
 fn add_rise<K: Sink>(out: &mut TextWriter<'_, K>, sheet: Sheet, place: u64, user: u8, entry: &Entry)
-    ensures { Adds K.Sink (rise_drawn sheet.scale place user entry.now) out.old out.new }
+    ensures { Adds K.Sink (rise_drawn sheet.scale sheet.zoom place user entry.now) out.old out.new }
 {
     let at = Point {
         x: sheet.across(place),
@@ -172,7 +173,7 @@ fn add_rise<K: Sink>(out: &mut TextWriter<'_, K>, sheet: Sheet, place: u64, user
 /// Adds an entry to the rows of users.
 #[tactic(auto, using(text_writer::proofs::Added::adds_none))]
 fn add_entry<K: Sink>(out: &mut TextWriter<'_, K>, sheet: Sheet, cut: u128, entry: &Entry)
-    ensures { Adds K.Sink (user_drawn sheet.swap sheet.scale cut entry.now) out.old out.new }
+    ensures { Adds K.Sink (user_drawn sheet.swap sheet.scale sheet.zoom cut entry.now) out.old out.new }
 {
     match entry {
         Entry::Serve {
@@ -224,7 +225,7 @@ pub(crate) struct UserRows {
 impl Layer for UserRows {
     ghost use Rattle.picture_model.specs.Drawing.{user_drawn};
 
-    ghost text = { λ rows. user_drawn rows.sheet.swap rows.sheet.scale };
+    ghost text = { λ rows. user_drawn rows.sheet.swap rows.sheet.scale rows.sheet.zoom };
 
     fn add<K: Sink>(&self, out: &mut TextWriter<'_, K>, cut: u128, entry: &Entry) {
         add_entry(out, self.sheet, cut, entry);

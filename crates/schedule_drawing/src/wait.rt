@@ -25,13 +25,13 @@ fn add_queue<K: Sink>(
     waited: u128,
     tick: u64,
 )
-    ensures { Adds K.Sink (queue_drawn sheet.scale user cut waited tick) out.old out.new }
+    ensures { Adds K.Sink (queue_drawn sheet.scale sheet.zoom user cut waited tick) out.old out.new }
 {
     if waited < u128::from(tick) {
         let at = Area {
             x: sheet.across(place_of(waited as u64, cut)),
             y: sheet.user_top(user) + sheet.units(14),
-            width: u128::from(tick) - waited,
+            width: sheet.wide(u128::from(tick) - waited),
             height: sheet.units(2),
         };
         add_box(out, b"wait", at);
@@ -48,7 +48,7 @@ fn add_wait<K: Sink>(
     track: Track,
     entry: &Entry,
 )
-    ensures { Adds K.Sink (wait_drawn sheet.scale user cut track entry.now) out.old out.new }
+    ensures { Adds K.Sink (wait_drawn sheet.scale sheet.zoom user cut track entry.now) out.old out.new }
 {
     match entry {
         Entry::Serve { tick, user: of, .. } if u64::from(*of) == user => {
@@ -61,7 +61,7 @@ fn add_wait<K: Sink>(
 
 /// Adds all of a user's times in a queue.
 fn add_waits<K: Sink>(out: &mut TextWriter<'_, K>, sheet: Sheet, user: u64, entries: &[Entry])
-    ensures { Adds K.Sink (waits_drawn sheet.scale user 0 Fresh entries.now) out.old out.new }
+    ensures { Adds K.Sink (waits_drawn sheet.scale sheet.zoom user 0 Fresh entries.now) out.old out.new }
 {
     let mut cut: u128 = 0;
     let mut track = Track::Fresh;
@@ -96,7 +96,7 @@ fn add_user<K: Sink>(
     account: &Account,
     entries: &[Entry],
 )
-    ensures { Adds K.Sink (user_row sheet.scale user account.now entries.now) out.old out.new }
+    ensures { Adds K.Sink (user_row sheet.scale sheet.zoom user account.now entries.now) out.old out.new }
 {
     add_name(out, sheet, user, account);
     add_waits(out, sheet, user, entries);
@@ -109,7 +109,7 @@ pub(crate) fn add_users<K: Sink>(
     accounts: &[Account],
     entries: &[Entry],
 )
-    ensures { Adds K.Sink (user_rows sheet.scale 1 accounts.now entries.now) out.old out.new }
+    ensures { Adds K.Sink (user_rows sheet.scale sheet.zoom 1 accounts.now entries.now) out.old out.new }
 {
     for (index, account) in accounts.iter().enumerate() {
         add_user(out, sheet, index as u64 + 1, account, entries);

@@ -1,7 +1,5 @@
-use Rattle.std.proofs.Common.{ℕ, ap}
-use Rattle.picture_model.specs.Drawing.{across, idle_label}
 use Rattle.text_writer.proofs.Added.{◌⨾◌, adds_is}
-use Rattle.schedule_drawing.proofs.Drawn.{bar_is}
+use Rattle.schedule_drawing.proofs.Drawn.{bar_is, idle_label_is}
 use Rattle.schedule_drawing.proofs.level.add_idle.Goals as goal
 
 pub returns : goal.returns
@@ -9,5 +7,5 @@ returns g c =
     adds_is (bar_is _ _ _ c.idle_area.ensures.x c.idle_area.ensures.y c.idle_area.ensures.width c.idle_area.ensures.height)
     c.add_bar.ensures
     ⨾ adds_is
-    (ap (λ (p : ℕ). idle_label c.args.sheet.scale (across c.args.sheet.scale p) c.args.from c.args.until) c.place_of.ensures)
+    (idle_label_is _ _ c.place_of.ensures c.saturating_sub.ensures)
     c.add_idle_label.ensures

@@ -1,5 +1,5 @@
-use Rattle.std.proofs.Common.{◌≡◌, ◌++◌, ◌-◌, ◌*◌, ◌/◌, ℕ, suc, List}
-use Rattle.picture_model.specs.Drawing.{ruler_drawn}
+use Rattle.std.proofs.Common.{◌≡◌, ◌++◌, ◌-◌, ◌/◌, ℕ, suc, List}
+use Rattle.picture_model.specs.Drawing.{ruler, ruler_drawn}
 use Rattle.text_writer.specs.Writing.{Adds}
 use Rattle.schedule_drawing.proofs.ruler.add_ruler.Given as goal
 
@@ -7,5 +7,5 @@ use Rattle.schedule_drawing.proofs.ruler.add_ruler.Given as goal
 abbrev pub invariant-loop-mark : goal.invariant-loop-mark
 invariant-loop-mark g l =
     (done : List ℕ) × Adds g.K.Sink done l.fn.out l.out
-    × (done ++ ruler_drawn l.sheet.scale l.sheet.users l.mark (suc (l.places / (100 * l.sheet.scale)) - l.mark) l.entries
-    ≡ ruler_drawn l.sheet.scale l.sheet.users 0 (suc (l.places / (100 * l.sheet.scale))) l.entries)
+    × (done ++ ruler_drawn l.sheet.scale l.sheet.zoom l.sheet.users l.each l.mark (suc (l.places / l.each) - l.mark) l.entries
+    ≡ ruler l.sheet.scale l.sheet.zoom l.sheet.users l.each l.places l.entries)

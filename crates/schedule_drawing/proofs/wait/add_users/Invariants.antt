@@ -7,4 +7,4 @@ use Rattle.schedule_drawing.proofs.wait.add_users.Given as goal
 abbrev pub invariant-loop-index : goal.invariant-loop-index
 invariant-loop-index g l =
     (done : List ℕ) × Adds g.K.Sink done l.fn.out l.out
-    × (done ++ user_rows l.sheet.scale (l.index + 1) (drop l.index l.accounts) l.entries ≡ user_rows l.sheet.scale 1 l.accounts l.entries)
+    × (done ++ user_rows l.sheet.scale l.sheet.zoom (l.index + 1) (drop l.index l.accounts) l.entries ≡ user_rows l.sheet.scale l.sheet.zoom 1 l.accounts l.entries)

@@ -8,6 +8,6 @@ use Rattle.schedule_drawing.proofs.wait.add_waits.Given as goal
 abbrev pub invariant-loop-entry : goal.invariant-loop-entry
 invariant-loop-entry g l =
     (done : List ℕ) × Adds g.K.Sink done l.fn.out l.out
-    × (done ++ waits_drawn l.sheet.scale l.user l.cut l.track (drop l.entry-index l.entries)
-    ≡ waits_drawn l.sheet.scale l.user 0 Fresh l.entries)
+    × (done ++ waits_drawn l.sheet.scale l.sheet.zoom l.user l.cut l.track (drop l.entry-index l.entries)
+    ≡ waits_drawn l.sheet.scale l.sheet.zoom l.user 0 Fresh l.entries)
     × (l.cut ≤ l.entry-index * 2 ^ 64)

@@ -307,4 +307,5 @@ drawing_with scale zoom users places script rec =
 
 unfoldable pub drawing_of : Script → Record → List ℕ
 drawing_of script rec =
-    drawing_with (scale_for (places_in rec)) (zoom_for (places_in rec)) (length script.accounts) (places_in rec) script rec
+    drawing_with (scale_for (places_in rec)) (zoom_for (places_in rec)) (length script.accounts) (places_in rec)
+    script rec

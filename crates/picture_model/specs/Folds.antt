@@ -43,7 +43,8 @@ places_in rec = rec.clock - all_cut rec.entries
 abbrev pub cut_before : ℕ → ℕ → List Entry → ℕ
 cut_before place cut [] = cut
 cut_before place cut (Idle from until ∷ es) =
-    if nat_le (until - (cut + cut_of (Idle from until))) place then cut_before place (cut + cut_of (Idle from until)) es else cut
+    if nat_le (until - (cut + cut_of (Idle from until))) place
+    then cut_before place (cut + cut_of (Idle from until)) es else cut
 cut_before place cut (_ ∷ es) = cut_before place cut es
 
 -- the tick at a place
@@ -66,4 +67,5 @@ place_spans swap cut (_ ∷ es) = place_spans swap cut es
 -- A tick takes one place, but for those that are cut out of idle times.
 abbrev pub PlacesJoin : Type 0
 PlacesJoin =
-    (script : Script) → JoinFrom 0 (place_spans script.params.swap 0 (record_of script).entries) (places_in (record_of script))
+    (script : Script) →
+    JoinFrom 0 (place_spans script.params.swap 0 (record_of script).entries) (places_in (record_of script))

@@ -29,7 +29,8 @@ wait_marks cut waited tick = if nat_lt waited tick then mark (waited - cut) (tic
 -- A user's marks at an entry: a point while it waits, / while it is brought in, and the number of the level that it is served at.
 abbrev pub served_marks : (swap u cut : ℕ) → Track → Entry → List Mark
 served_marks swap u cut t (Serve tick v level ran cause) =
-    if nat_eq v u then wait_marks cut (waited_from t tick) tick ++ (mark (tick - cut) ran (number_character level) ∷ []) else []
+    if nat_eq v u
+    then wait_marks cut (waited_from t tick) tick ++ (mark (tick - cut) ran (number_character level) ∷ []) else []
 served_marks swap u cut t (Swap tick v dumped read fresh) =
     if nat_eq v u then mark (tick - cut) (swap * (dumped + read)) 47 ∷ [] else []
 served_marks swap u cut t _ = []
@@ -37,7 +38,8 @@ served_marks swap u cut t _ = []
 -- the marks of a user from a place of the schedule on
 abbrev pub served_row : (swap u cut : ℕ) → Track → List Entry → List Mark
 served_row swap u cut t [] = []
-served_row swap u cut t (e ∷ es) = served_marks swap u cut t e ++ served_row swap u (cut + cut_of e) (track_after u t e) es
+served_row swap u cut t (e ∷ es) =
+    served_marks swap u cut t e ++ served_row swap u (cut + cut_of e) (track_after u t e) es
 
 -- the letter of what an event was taken as; 32, a blank, of a dial
 abbrev pub kind_letter : EventKind → ℕ
@@ -49,7 +51,8 @@ kind_letter kind.Spent = 83
 
 -- what comes to a user at an entry: V a line, Q a quit, H a hang-up, S a line too many, R that it rises
 abbrev pub event_marks : (u cut : ℕ) → Entry → List Mark
-event_marks u cut (Taken tick console kind v own) = if nat_eq v u then mark (tick - cut) 0 (kind_letter kind) ∷ [] else []
+event_marks u cut (Taken tick console kind v own) =
+    if nat_eq v u then mark (tick - cut) 0 (kind_letter kind) ∷ [] else []
 event_marks u cut (Rise tick v level) = if nat_eq v u then mark (tick - cut) 0 82 ∷ [] else []
 event_marks u cut _ = []
 
@@ -59,7 +62,8 @@ event_row u cut (e ∷ es) = event_marks u cut e ++ event_row u (cut + cut_of e)
 
 -- who is served at a level
 abbrev pub level_marks : (level cut : ℕ) → Entry → List Mark
-level_marks level cut (Serve tick u l ran cause) = if nat_eq l level then mark (tick - cut) ran (number_character u) ∷ [] else []
+level_marks level cut (Serve tick u l ran cause) =
+    if nat_eq l level then mark (tick - cut) ran (number_character u) ∷ [] else []
 level_marks level cut _ = []
 
 abbrev pub level_row : (level cut : ℕ) → List Entry → List Mark

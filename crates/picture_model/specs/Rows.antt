@@ -20,8 +20,10 @@ use Rattle.picture_model.specs.Drawing.{words_at}
 -- has anything to do for 1000 ticks, and user 1 types a line that is done at once.
 abbrev pub some_entries : List Entry
 some_entries =
-    Idle 0 10 ∷ Taken 10 1 kind.Line 1 0 ∷ Taken 10 1 kind.Line 1 0 ∷ Serve 10 2 1 2 cause.Wait ∷ Serve 12 1 1 1 cause.Stop
-    ∷ Taken 62 2 kind.Line 2 2 ∷ Serve 13 1 1 50 cause.Time ∷ Serve 63 2 0 7 cause.Wait ∷ Swap 70 1 1 1 0 ∷ Taken 82 1 kind.Line 1 52 ∷ Serve 80 1 2 10 cause.Stop
+    Idle 0 10 ∷ Taken 10 1 kind.Line 1 0 ∷ Taken 10 1 kind.Line 1 0 ∷ Serve 10 2 1 2 cause.Wait
+    ∷ Serve 12 1 1 1 cause.Stop
+    ∷ Taken 62 2 kind.Line 2 2 ∷ Serve 13 1 1 50 cause.Time ∷ Serve 63 2 0 7 cause.Wait
+    ∷ Swap 70 1 1 1 0 ∷ Taken 82 1 kind.Line 1 52 ∷ Serve 80 1 2 10 cause.Stop
     ∷ Serve 90 1 1 4 cause.Wait ∷ Idle 94 1094 ∷ Taken 1094 1 kind.Line 1 65 ∷ Serve 1094 1 1 6 cause.Stop ∷ []
 
 abbrev pub visit : (waited from until asked : ℕ) → Visit

@@ -241,12 +241,7 @@ fn answer_of(
 {
     let words = words_of(alloc, case)?;
     if case.is_picture {
-        return Ok(write_picture(
-            alloc,
-            &words,
-            &mut streams.input,
-            &mut streams.output,
-        ));
+        return Ok(write_picture(alloc, &words, &mut streams.input, &mut streams.output));
     }
     Ok(outcome_of(alloc, &words, streams, media, link))
 }

@@ -11,8 +11,8 @@ ghost use Rattle.run_picture.specs.Asked.{asked, text_in};
 ghost use Rattle.script_show.specs.Asked.{IsAnswer};
 ghost use Rattle.script_show.specs.Seen.{streams};
 
-use crate::form::form_named;
 pub use crate::form::Form;
+use crate::form::form_named;
 use ctss_io::{Sink, Source};
 pub use script_show::run;
 use script_show::{ArgList, Outcome, ShowProgram, show_asked};

@@ -135,7 +135,8 @@ fn add_rows<K: Sink>(
     accounts: &[Account],
     entries: &[Entry],
 )
-    ensures { Adds K.Sink (rows_drawn sheet.swap sheet.scale sheet.zoom sheet.users accounts.now entries.now) out.old out.new }
+    ensures { Adds K.Sink (rows_drawn sheet.swap sheet.scale sheet.zoom sheet.users
+        accounts.now entries.now) out.old out.new }
 {
     add_users(out, sheet, accounts, entries);
     add_layer(out, &UserRows { sheet }, entries);

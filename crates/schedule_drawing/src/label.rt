@@ -50,8 +50,8 @@ fn add_wide<K: Sink>(
     number: u8,
     letter: u8,
 )
-    ensures { Adds K.Sink (words_at (label_class number) middle.x middle.y (decimal number ++ label_letter sheet.scale width letter))
-        out.old out.new }
+    ensures { Adds K.Sink (words_at (label_class number) middle.x middle.y
+        (decimal number ++ label_letter sheet.scale width letter)) out.old out.new }
 {
     begin_text(out, label_class(number), middle);
     add_digits(out, number);

@@ -29,8 +29,8 @@ fn add_service<K: Sink>(
     service: Service,
     entry: &Entry,
 )
-    ensures { Adds K.Sink (level_service sheet.scale sheet.zoom sheet.users place service.level service.ran service.user entry.now)
-        out.old out.new }
+    ensures { Adds K.Sink (level_service sheet.scale sheet.zoom sheet.users place
+        service.level service.ran service.user entry.now) out.old out.new }
 {
     let at = Area {
         x: sheet.across(place),

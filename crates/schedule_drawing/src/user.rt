@@ -99,8 +99,8 @@ fn add_service<K: Sink>(
     service: Service,
     entry: &Entry,
 )
-    ensures { Adds K.Sink (service_drawn sheet.scale sheet.zoom place service.user service.level service.ran service.cause entry.now)
-        out.old out.new }
+    ensures { Adds K.Sink (service_drawn sheet.scale sheet.zoom place
+        service.user service.level service.ran service.cause entry.now) out.old out.new }
 {
     let at = bar_area(sheet, service.user, place, u128::from(service.ran));
     let label = Point {
@@ -126,7 +126,8 @@ fn add_load<K: Sink>(
     load: Load,
     entry: &Entry,
 )
-    ensures { Adds K.Sink (load_drawn sheet.swap sheet.scale sheet.zoom place load.user load.dumped load.read entry.now) out.old out.new }
+    ensures { Adds K.Sink (load_drawn sheet.swap sheet.scale sheet.zoom place
+        load.user load.dumped load.read entry.now) out.old out.new }
 {
     let ticks = u128::from(sheet.swap) * (u128::from(load.dumped) + u128::from(load.read));
     add_bar(

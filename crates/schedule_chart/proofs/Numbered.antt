@@ -5,7 +5,7 @@ use Rattle.ctss_types.specs.declared.script.Account.{Account}
 use Rattle.ctss_types.specs.declared.history.Entry.{Entry}
 use Rattle.picture_model.specs.Chart.{user_rows, all_user_rows, ruler_from, left_number}
 use Rattle.picture_model.specs.Folds.{tick_at}
-use Rattle.schedule_chart.proofs.Lists.{dropped}
+use Rattle.schedule_figures.proofs.Visits.{one_less}
 
 -- one user more, and those that are left
 pub user_more : (swap each columns : ℕ) (es : List Entry) (accounts : List Account) (i : ℕ) (a : Account) (done all : List ℕ)
@@ -16,7 +16,7 @@ user_more swap each columns es accounts i a done all within is was =
     let after : i + 1 + 1 ≡ suc (i + 1) = omega arith in
     ap (λ (k : ℕ). (done ++ user_rows swap each columns (i + 1) a es) ++ all_user_rows swap each columns k (drop (i + 1) accounts) es) after
     ∙ append_assoc done (user_rows swap each columns (i + 1) a es) (all_user_rows swap each columns (suc (i + 1)) (drop (i + 1) accounts) es)
-    ∙ ap (λ (l : List Account). done ++ all_user_rows swap each columns (i + 1) l es) (sym (dropped accounts i a within is))
+    ∙ ap (λ (l : List Account). done ++ all_user_rows swap each columns (i + 1) l es) (sym (one_less accounts i a within is))
     ∙ was
 
 -- no user is left

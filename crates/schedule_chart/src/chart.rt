@@ -4,13 +4,12 @@ ghost use Rattle.text_writer.specs.Writing.{Adds};
 
 use crate::columns::{Columns, columns_for};
 use crate::levels::add_levels;
-use crate::numbers::add_number;
 use crate::place::places_in;
 use crate::ruler::add_ruler;
 use crate::users::add_users;
 use ctss_io::Sink;
 use ctss_types::{Record, Script};
-use schedule_figures::add_time_line;
+use schedule_figures::{add_number, add_time_line};
 use text_writer::TextWriter;
 
 /// How the rows are read, behind the ticks of a column.

@@ -4,10 +4,10 @@ ghost use Rattle.picture_model.specs.Chart.{level_line};
 ghost use Rattle.text_writer.specs.Writing.{Adds};
 
 use crate::columns::Columns;
-use crate::numbers::add_number;
 use crate::rows::add_level_row;
 use ctss_io::Sink;
 use ctss_types::Entry;
+use schedule_figures::add_number;
 use text_writer::TextWriter;
 
 /// Adds the line of a level.

@@ -1,19 +1,14 @@
 -- What is drawn of entries and of users, one after another.
-use Rattle.std.proofs.Common.{◌≡◌, ℕ, suc, ◌+◌, ◌-◌, ◌*◌, ◌/◌, ◌<◌, ◌≤◌, List, [], ◌∷◌, ◌++◌, length, drop, get_or, refl, sym, ap, ◌∙◌, arith, append_assoc, append-nil, drop-cons}
+use Rattle.std.proofs.Common.{◌≡◌, ℕ, suc, ◌+◌, ◌-◌, ◌*◌, ◌/◌, ◌<◌, ◌≤◌, List, [], ◌++◌, length, drop, get_or, refl, sym, ap, ◌∙◌, arith, append_assoc, append-nil}
 use Rattle.std.specs.Fmt.{decimal}
 use Rattle.std.proofs.lemmas.List.{drop_all}
+use Rattle.schedule_figures.proofs.Visits.{one_less}
 use Rattle.ctss_types.specs.declared.history.Entry.{Entry}
 use Rattle.ctss_types.specs.declared.script.Account.{Account}
 use Rattle.picture_model.specs.declared.request.Track.{Track}
 use Rattle.picture_model.specs.Requests.{track_after}
 use Rattle.picture_model.specs.Folds.{cut_of}
 use Rattle.picture_model.specs.Drawing.{drawn, wait_drawn, waits_drawn, user_row, user_rows, ruler, ruler_mark, ruler_drawn, attribute, bar, bar_label, idle_label, level_label, plain_box, text_begun, words_at}
-
--- an element of a list, and those behind it
-split : {X : Type 0} (xs : List X) (i : ℕ) (x : X) → i < length xs → x ≡ get_or xs i x → drop i xs ≡ x ∷ drop (i + 1) xs
-split xs i x within is =
-    let next : suc i ≡ i + 1 = omega arith in
-    drop-cons xs i x within ∙ ap (λ (k : ℕ). get_or xs i x ∷ drop k xs) next ∙ ap (λ (y : _). y ∷ drop (i + 1) xs) (sym is)
 
 -- one more text, where the texts that are left begin with it
 pub one_more : (done text rest left all : List ℕ) → left ≡ text ++ rest → done ++ left ≡ all → (done ++ text) ++ rest ≡ all
@@ -28,7 +23,7 @@ none_left done left all is was = sym (append-nil done) ∙ ap (λ (l : List ℕ)
 
 pub drawn_next : (what : ℕ → Entry → List ℕ) (cut : ℕ) (es : List Entry) (i : ℕ) (e : Entry) → i < length es → e ≡ get_or es i e
     → drawn what cut (drop i es) ≡ what cut e ++ drawn what (cut + cut_of e) (drop (i + 1) es)
-drawn_next what cut es i e within is = ap (drawn what cut) (split es i e within is)
+drawn_next what cut es i e within is = ap (drawn what cut) (one_less es i e within is)
 
 pub drawn_none : (what : ℕ → Entry → List ℕ) (cut : ℕ) (es : List Entry) (i : ℕ) → length es ≤ i → drawn what cut (drop i es) ≡ []
 drawn_none what cut es i behind = ap (drawn what cut) (drop_all i es behind)
@@ -36,7 +31,7 @@ drawn_none what cut es i behind = ap (drawn what cut) (drop_all i es behind)
 pub waits_next : (scale zoom u cut : ℕ) (t : Track) (es : List Entry) (i : ℕ) (e : Entry) → i < length es → e ≡ get_or es i e
     → waits_drawn scale zoom u cut t (drop i es)
     ≡ wait_drawn scale zoom u cut t e ++ waits_drawn scale zoom u (cut + cut_of e) (track_after u t e) (drop (i + 1) es)
-waits_next scale zoom u cut t es i e within is = ap (waits_drawn scale zoom u cut t) (split es i e within is)
+waits_next scale zoom u cut t es i e within is = ap (waits_drawn scale zoom u cut t) (one_less es i e within is)
 
 pub waits_none : (scale zoom u cut : ℕ) (t : Track) (es : List Entry) (i : ℕ) → length es ≤ i → waits_drawn scale zoom u cut t (drop i es) ≡ []
 waits_none scale zoom u cut t es i behind = ap (waits_drawn scale zoom u cut t) (drop_all i es behind)
@@ -47,7 +42,7 @@ pub users_next : (scale zoom : ℕ) (accounts : List Account) (es : List Entry) 
     → user_rows scale zoom (i + 1) (drop i accounts) es ≡ user_row scale zoom (i + 1) a es ++ user_rows scale zoom (i + 1 + 1) (drop (i + 1) accounts) es
 users_next scale zoom accounts es i a within is =
     let next : suc (i + 1) ≡ i + 1 + 1 = omega arith in
-    ap (λ (l : List Account). user_rows scale zoom (i + 1) l es) (split accounts i a within is)
+    ap (λ (l : List Account). user_rows scale zoom (i + 1) l es) (one_less accounts i a within is)
     ∙ ap (λ (k : ℕ). user_row scale zoom (i + 1) a es ++ user_rows scale zoom k (drop (i + 1) accounts) es) next
 
 pub users_none : (scale zoom u : ℕ) (accounts : List Account) (es : List Entry) (i : ℕ) → length accounts ≤ i

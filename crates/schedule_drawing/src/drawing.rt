@@ -7,14 +7,14 @@ ghost use Rattle.text_writer.specs.Writing.{Adds};
 use crate::layer::add_layer;
 use crate::level::{IdleTimes, LevelRows};
 use crate::ruler::{add_level_names, add_ruler};
-use crate::shape::{Area, Point, add_attribute, add_box, add_digits, add_words, begin_text};
+use crate::shape::{Area, Point, add_attribute, add_box, add_words, begin_text};
 use crate::sheet::{Sheet, scale_for, zoom_for};
 use crate::user::UserRows;
 use crate::wait::add_users;
 use ctss_io::Sink;
 use ctss_types::{Account, Entry, Record, Script};
 use schedule_chart::places_in;
-use schedule_figures::{add_figures, add_time_line};
+use schedule_figures::{add_figures, add_number, add_time_line};
 use text_writer::TextWriter;
 
 /// Adds the first lines of a picture of so many places.
@@ -25,9 +25,9 @@ fn begin_sheet<K: Sink>(out: &mut TextWriter<'_, K>, sheet: Sheet, places: u64)
     out.add(b"<svg xmlns='http://www.w3.org/2000/svg' font-family='monospace'");
     add_attribute(out, b" font-size='", sheet.units(11));
     out.add(b" viewBox='0 0 ");
-    add_digits(out, sheet.width(places));
+    add_number(out, sheet.width(places));
     out.add(b" ");
-    add_digits(out, sheet.height());
+    add_number(out, sheet.height());
     out.add(b"'");
     add_attribute(
         out,

@@ -4,10 +4,11 @@ ghost use Rattle.std.specs.Fmt.{decimal};
 ghost use Rattle.picture_model.specs.Drawing.{bar_label, cause_letter, label_class, label_letter, level_label, words_at};
 ghost use Rattle.text_writer.specs.Writing.{Adds};
 
-use crate::shape::{Point, add_digits, add_number_at, begin_text};
+use crate::shape::{Point, add_number_at, begin_text};
 use crate::sheet::Sheet;
 use ctss_io::Sink;
 use ctss_types::Cause;
+use schedule_figures::add_number;
 use text_writer::TextWriter;
 
 /// The letter of why a service ended.
@@ -54,7 +55,7 @@ fn add_wide<K: Sink>(
         (decimal number ++ label_letter sheet.scale width letter)) out.old out.new }
 {
     begin_text(out, label_class(number), middle);
-    add_digits(out, number);
+    add_number(out, number);
     add_letter(out, sheet, width, letter);
     out.line(b"</text>");
 }

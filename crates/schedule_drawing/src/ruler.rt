@@ -4,11 +4,12 @@ ghost use Rattle.std.specs.List.{flat_map};
 ghost use Rattle.picture_model.specs.Drawing.{level_name, ruler, ruler_mark};
 ghost use Rattle.text_writer.specs.Writing.{Adds};
 
-use crate::shape::{Area, Point, add_box, add_digits, add_number_at, begin_text};
+use crate::shape::{Area, Point, add_box, add_number_at, begin_text};
 use crate::sheet::Sheet;
 use ctss_io::Sink;
 use ctss_types::Entry;
 use schedule_chart::tick_at;
+use schedule_figures::add_number;
 use text_writer::TextWriter;
 
 /// Adds a line across all rows at a place, and the tick there.
@@ -39,7 +40,7 @@ fn add_level_name<K: Sink>(out: &mut TextWriter<'_, K>, sheet: Sheet, level: u8)
     };
     begin_text(out, b"w", at);
     out.add(b"LEVEL ");
-    add_digits(out, level);
+    add_number(out, level);
     out.line(b"</text>");
 }
 

@@ -5,8 +5,9 @@ ghost use Rattle.text_writer.specs.Writing.{Adds};
 use crate::sheet::Sheet;
 use ctss_io::Sink;
 use ctss_types::Entry;
-use itoa::{Buffer, Integer};
+use itoa::Integer;
 use report_text::add_entry;
+use schedule_figures::add_number;
 use text_writer::TextWriter;
 
 /// Where a rectangle lies: its upper left corner, and how wide and how high it is.
@@ -25,20 +26,12 @@ pub struct Point {
     pub y: u128,
 }
 
-/// Adds a number.
-pub(crate) fn add_digits<K: Sink, I: Integer>(out: &mut TextWriter<'_, K>, n: I)
-    ensures { Adds K.Sink (I.text n) out.old out.new }
-{
-    let mut digits = Buffer::new();
-    out.add(digits.format(n).as_bytes());
-}
-
 /// Adds an attribute, whose name comes with all that stands before its number.
 pub(crate) fn add_attribute<K: Sink>(out: &mut TextWriter<'_, K>, name: &[u8], n: u128)
     ensures { Adds K.Sink (attribute name.now n) out.old out.new }
 {
     out.add(name);
-    add_digits(out, n);
+    add_number(out, n);
     out.add(b"'");
 }
 
@@ -75,7 +68,7 @@ pub(crate) fn add_bar<K: Sink>(
 {
     out.add(b"<rect class='");
     out.add(class);
-    add_digits(out, number);
+    add_number(out, number);
     out.add(b"'");
     add_area(out, at);
     add_titled(out, b"rect", entry);
@@ -123,7 +116,7 @@ pub(crate) fn add_number_at<K: Sink, I: Integer>(
     ensures { Adds K.Sink (words_at class.now at.x at.y (I.text n)) out.old out.new }
 {
     begin_text(out, class, at);
-    add_digits(out, n);
+    add_number(out, n);
     out.line(b"</text>");
 }
 
@@ -138,15 +131,15 @@ pub(crate) struct Sign {
 fn add_form<K: Sink>(out: &mut TextWriter<'_, K>, sheet: Sheet, at: Point, side: &[u8])
     ensures { Adds K.Sink (form sheet.scale at.x at.y side.now) out.old out.new }
 {
-    add_digits(out, at.x);
+    add_number(out, at.x);
     out.add(b" ");
-    add_digits(out, at.y);
+    add_number(out, at.y);
     out.add(b"l-");
-    add_digits(out, sheet.units(3));
+    add_number(out, sheet.units(3));
     out.add(side);
-    add_digits(out, sheet.units(6));
+    add_number(out, sheet.units(6));
     out.add(b"h");
-    add_digits(out, sheet.units(6));
+    add_number(out, sheet.units(6));
 }
 
 /// Adds a sign for an entry, with its tip at a point.

@@ -6,13 +6,13 @@ ghost use Rattle.picture_model.specs.declared.request.Track.TheVariants.{Fresh};
 ghost use Rattle.picture_model.specs.Drawing.{queue_drawn, user_row, user_rows, user_top, wait_drawn, waits_drawn, words_at};
 ghost use Rattle.text_writer.specs.Writing.{Adds};
 
-use crate::shape::{Area, Point, add_box, add_digits, begin_text};
+use crate::shape::{Area, Point, add_box, begin_text};
 use crate::sheet::Sheet;
 use ctss_io::Sink;
 use ctss_types::{Account, Entry};
 use picture_model::Track;
 use schedule_chart::{cut_of, place_of};
-use schedule_figures::add_characters;
+use schedule_figures::{add_characters, add_number};
 use text_writer::TextWriter;
 
 /// Adds a time in a queue, from one tick to another, if there is any.
@@ -82,7 +82,7 @@ fn add_name<K: Sink>(out: &mut TextWriter<'_, K>, sheet: Sheet, user: u64, accou
         y: sheet.user_top(user) + sheet.units(19),
     };
     begin_text(out, b"w", at);
-    add_digits(out, user);
+    add_number(out, user);
     out.add(b" ");
     add_characters(out, account.name);
     out.line(b"</text>");

@@ -14,7 +14,7 @@ use word36::Word;
 const MOST_PLACES: usize = 10;
 
 /// Adds so many blanks, at most a column's.
-fn add_blanks<K: Sink>(out: &mut TextWriter<'_, K>, count: usize)
+pub fn add_blanks<K: Sink>(out: &mut TextWriter<'_, K>, count: usize)
     requires { count ≤ 10 }
     ensures { Adds K.Sink (replicate count 32) out.old out.new }
 {
@@ -41,7 +41,7 @@ pub fn add_column<K: Sink, I: Integer>(out: &mut TextWriter<'_, K>, places: usiz
 }
 
 /// Adds a number, and no blank.
-pub(crate) fn add_number<K: Sink, I: Integer>(out: &mut TextWriter<'_, K>, n: I)
+pub fn add_number<K: Sink, I: Integer>(out: &mut TextWriter<'_, K>, n: I)
     ensures { Adds K.Sink (I.text n) out.old out.new }
 {
     let mut digits = Buffer::new();

@@ -5,4 +5,4 @@ use Rattle.schedule_drawing.proofs.ruler.add_level_name.Goals as goal
 pub returns : goal.returns
 returns g c =
     adds_is (begun_is _ c.units.ensures.value (plus_is c.level_top.ensures.value c.units-2.ensures.value)) c.begin_text.ensures
-    ⨾ (c.add.ensures ⨾ c.add_digits.ensures) ⨾ c.line.ensures
+    ⨾ (c.add.ensures ⨾ c.add_number.ensures) ⨾ c.line.ensures

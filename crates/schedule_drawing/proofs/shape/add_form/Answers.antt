@@ -7,7 +7,7 @@ use Rattle.schedule_drawing.proofs.shape.add_form.Goals as goal
 pub returns : goal.returns
 unfolding form
 returns g c =
-    c.add_digits.ensures ⨾ c.add.ensures ⨾ c.add_digits-2.ensures ⨾ c.add-2.ensures
-    ⨾ adds_is (ap decimal c.units.ensures.value) c.add_digits-3.ensures ⨾ c.add-3.ensures
-    ⨾ adds_is (ap decimal c.units-2.ensures.value) c.add_digits-4.ensures ⨾ c.add-4.ensures
-    ⨾ adds_is (ap decimal c.units-3.ensures.value) c.add_digits-5.ensures
+    c.add_number.ensures ⨾ c.add.ensures ⨾ c.add_number-2.ensures ⨾ c.add-2.ensures
+    ⨾ adds_is (ap decimal c.units.ensures.value) c.add_number-3.ensures ⨾ c.add-3.ensures
+    ⨾ adds_is (ap decimal c.units-2.ensures.value) c.add_number-4.ensures ⨾ c.add-4.ensures
+    ⨾ adds_is (ap decimal c.units-3.ensures.value) c.add_number-5.ensures

@@ -5,5 +5,5 @@ use Rattle.schedule_drawing.proofs.wait.add_name.Goals as goal
 pub returns : goal.returns
 returns g c =
     adds_is (begun_is _ c.units.ensures.value (plus_is c.user_top.ensures.value c.units-2.ensures.value)) c.begin_text.ensures
-    ⨾ (c.add_digits.ensures ⨾ c.add.ensures ⨾ c.add_characters.ensures)
+    ⨾ (c.add_number.ensures ⨾ c.add.ensures ⨾ c.add_characters.ensures)
     ⨾ c.line.ensures

@@ -1,8 +1,5 @@
 //! The forms of a picture.
 ghost use Rattle.std.specs.Prelude.{◌≡◌};
-ghost use Rattle.picture_model.specs.Chart.{chart_of};
-ghost use Rattle.picture_model.specs.Csv.{csv_of};
-ghost use Rattle.picture_model.specs.Drawing.{drawing_of};
 ghost use Rattle.picture_model.specs.FigureLines.{figures_of};
 ghost use Rattle.text_writer.specs.Writing.{Adds};
 ghost use Rattle.run_picture.specs.Asked.{form_named, text_in};

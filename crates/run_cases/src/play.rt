@@ -208,9 +208,10 @@ fn streams_of(alloc: Global, case: &Case, beside: Option<FailingCall>) -> Result
     Ok(Streams { input, output })
 }
 
-/// What comes of these words over streams, media and a link.
+/// What comes of these words over streams, media and a link; of words of `ctss_picture`, over the streams alone.
 fn outcome_of(
     alloc: Global,
+    is_picture: bool,
     words: &ArgList,
     streams: &mut Streams,
     media: &mut Media,
@@ -218,6 +219,9 @@ fn outcome_of(
 ) -> Outcome
     requires { AreWhole media.old }
 {
+    if is_picture {
+        return write_picture(alloc, words, &mut streams.input, &mut streams.output);
+    }
     run_ctss(
         alloc,
         words,
@@ -229,30 +233,21 @@ fn outcome_of(
     )
 }
 
-/// What comes of a case over streams, media and a link: the program's answer to its words, or that of `ctss_picture`.
-fn answer_of(
-    alloc: Global,
-    case: &Case,
-    streams: &mut Streams,
-    media: &mut Media,
-    link: &mut MemoryLink,
-) -> Result<Outcome>
-    requires { AreWhole media.old }
-{
-    let words = words_of(alloc, case)?;
-    if case.is_picture {
-        return Ok(write_picture(alloc, &words, &mut streams.input, &mut streams.output));
-    }
-    Ok(outcome_of(alloc, &words, streams, media, link))
-}
-
 /// Does a case, of which one call may fail beside those that it names, and answers the status.
 fn status_of(rt: &HostRuntime, case: &Case, beside: Option<FailingCall>) -> Result<u8> {
     let alloc = rt.alloc();
+    let words = words_of(alloc, case)?;
     let mut media = media_of(alloc, case, beside)?;
     let mut link = link_of(alloc, case)?;
     let mut streams = streams_of(alloc, case, beside)?;
-    let outcome = answer_of(alloc, case, &mut streams, &mut media, &mut link)?;
+    let outcome = outcome_of(
+        alloc,
+        case.is_picture,
+        &words,
+        &mut streams,
+        &mut media,
+        &mut link,
+    );
     tell(
         rt,
         case,

@@ -13,5 +13,5 @@ mod write;
 pub use answer::run_mode;
 pub use modes::{RunText, perform};
 pub use outcome::Outcome;
-pub use record::{ScriptRun, record_script, run_script};
+pub use record::{ScriptRun, give_all, record_script, run_script};
 pub use write::{end_unread, refuse_script, refuse_words};

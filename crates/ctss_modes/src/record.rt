@@ -27,7 +27,7 @@ use track_directories::TrackDirectories;
 use user_cores::Behind;
 
 /// Events are given to a supervisor, in their order.
-fn give_all(supervisor: &mut Supervisor, events: &[Timed]) -> Result<(), NoMemory>
+pub fn give_all(supervisor: &mut Supervisor, events: &[Timed]) -> Result<(), NoMemory>
     requires seats { All (λ (e : Timed). HasSeat e (run_with no_places supervisor.old)) events.now }
     ensures given { (places : Places)
         → OnOk result (run_with places supervisor.new ≡ with_all_events events.now (run_with places supervisor.old)) }

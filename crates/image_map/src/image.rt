@@ -39,7 +39,7 @@ pub fn no_sizes(alloc: Global, users: usize) -> Result<Vec<u8>, NoMemory>
 /// A user's image is a list of blocks of 256 words, as many as its size, which is at most its quota.
 /// Each block lies in core, at the place base + its number, where the user owns that; else in a record of
 /// the drum; and else it is plus zeros. Where the drum tells its records, clauses name the image by
-/// `image_in`. After a drum fault nothing but `failed`, `size`, `resident` and `back` may be asked.
+/// `image_in`. After a drum fault nothing but `failed`, `owners`, `size`, `resident` and `back` may be asked.
 #[derive(Drop)]
 pub struct Image<'a, D: Medium> {
     tables: Tables<'a, D>,
@@ -133,6 +133,13 @@ impl<'a, D: Medium> Image<'a, D> {
         ensures { result ≡ (state self.now).failed }
     {
         self.failed
+    }
+
+    /// Whose each place of core is, 0 for nobody's.
+    pub fn owners(&self) -> [u8; 128]
+        ensures { result ≡ (state self.now).layout.owners }
+    {
+        self.tables.owners.owners()
     }
 
     /// How many blocks a user has.

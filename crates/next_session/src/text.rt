@@ -10,7 +10,8 @@ use crate::kept::is_kept;
 use ctss_io::Sink;
 use ctss_types::{FileBody, FileList, Record, Script};
 use script_read::{add_end, add_owned_file, add_params, add_users};
-use script_show::RunText;
+use script_show::{Outcome, RunShow, RunText, run_script};
+use std::alloc::Global;
 use text_writer::TextWriter;
 
 /// Adds a file, if it is kept.
@@ -61,5 +62,15 @@ impl RunText for NextBase {
 
     fn add_to<K: Sink>(&self, script: &Script, run: &Record, out: &mut TextWriter<'_, K>) {
         add_next(out, script, run);
+    }
+}
+
+impl RunShow for NextBase {
+    ghost use Rattle.next_session.specs.Next.{next_text};
+
+    ghost bytes = { λ _. next_text };
+
+    fn show<K: Sink>(&self, alloc: Global, script: &Script, sink: &mut K) -> Outcome {
+        run_script(alloc, self, script, sink)
     }
 }

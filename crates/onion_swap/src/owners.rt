@@ -62,6 +62,13 @@ impl Owners {
         self.owners[place as usize]
     }
 
+    /// The owners of all places, 0 for none.
+    pub fn owners(&self) -> [u8; 128]
+        ensures { result ≡ self.now.owners }
+    {
+        self.owners
+    }
+
     /// The place of a user's block, where that is in core.
     pub fn place(&self, user: UserNo, block: u8) -> u8
         requires { base_of self.now.bases user + block < 128 }

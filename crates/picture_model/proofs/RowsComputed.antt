@@ -2,7 +2,7 @@
 use Rattle.std.proofs.Common.{refl}
 use Rattle.std.specs.Fmt.{digits}
 use Rattle.picture_model.specs.Drawing.{attribute, text_begun}
-use Rattle.picture_model.specs.Rows.{RowOfVisits, RowOfFigures, RowOfCells}
+use Rattle.picture_model.specs.Rows.{RowOfVisits, RowOfFigures, RowOfCells, RowOfCore}
 
 pub row_of_visits : RowOfVisits
 row_of_visits = record { seen = refl; waits = refl; responses = refl; turnarounds = refl }
@@ -34,4 +34,21 @@ row_of_cells = record {
   columns = refl;
   few = refl;
   words = refl;
+}
+
+pub row_of_core : RowOfCore
+unfolding digits attribute text_begun
+row_of_core = record {
+  first = refl;
+  inside = refl;
+  second = refl;
+  free = refl;
+  three = refl;
+  two = refl;
+  rest = refl;
+  loads = refl;
+  last = refl;
+  folded = refl;
+  narrow = refl;
+  wide = refl;
 }

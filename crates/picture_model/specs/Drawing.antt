@@ -1,4 +1,4 @@
--- claim: the picture of a record, drawn: who ran, the levels, and the figures, as one SVG text.
+-- claim: the parts of the picture of a record, drawn: who ran, the levels, and the figures, as SVG text.
 use Rattle.std.specs.Prelude.{ℕ, zero, suc, ◌+◌, ◌-◌, ◌*◌, ◌/◌, ◌%◌, nat_eq, nat_lt, nat_le, ◌&&◌, max, if◌then◌else◌, List, [], ◌∷◌, ◌++◌, length, codes}
 use Rattle.std.specs.List.{flat_map}
 use Rattle.std.specs.Fmt.{decimal}
@@ -36,18 +36,22 @@ zoom_for places = max 1 (1000 / suc places)
 abbrev pub across : (scale zoom place : ℕ) → ℕ
 across scale zoom place = 110 * scale + zoom * place
 
--- the upper edges of a user's row and of a level's, and that of the figures; users count from 1
+-- the upper edges of a user's row and of a level's, and below that of the figures; users count from 1
 abbrev pub user_top : (scale u : ℕ) → ℕ
 user_top scale u = (70 + 26 * u) * scale
 
 abbrev pub level_top : (scale users level : ℕ) → ℕ
 level_top scale users level = (140 + (26 * users + 18 * level)) * scale
 
+-- that of the rows of core, which are two units high each, with three rows of numbers below them
+abbrev pub core_top : (scale users : ℕ) → ℕ
+core_top scale users = (330 + 26 * users) * scale
+
 abbrev pub figures_top : (scale users : ℕ) → ℕ
-figures_top scale users = (330 + 26 * users) * scale
+figures_top scale users = (650 + 26 * users) * scale
 
 abbrev pub sheet_height : (scale users : ℕ) → ℕ
-sheet_height scale users = (640 + 40 * users) * scale
+sheet_height scale users = (960 + 40 * users) * scale
 
 abbrev pub sheet_width : (scale zoom places : ℕ) → ℕ
 sheet_width scale zoom places = 130 * scale + max (zoom * places) (960 * scale)
@@ -244,7 +248,7 @@ style =
     codes "<style>rect{stroke:#555;stroke-width:.5px;vector-effect:non-scaling-stroke}text{fill:#222}.b{font-weight:bold}.n{text-anchor:middle}.d{fill:#fff}"
     ++ (codes ".l0{fill:#ffffd9}.l1{fill:#edf8b1}.l2{fill:#c7e9b4}.l3{fill:#7fcdbb}.l4{fill:#41b6c4}.l5{fill:#1d91c0}.l6{fill:#225ea8}.l7{fill:#253494}.l8{fill:#081d58}"
     ++ (codes ".u0{fill:#bc80bd}.u1{fill:#8dd3c7}.u2{fill:#ffffb3}.u3{fill:#bebada}.u4{fill:#fb8072}.u5{fill:#80b1d3}.u6{fill:#fdb462}.u7{fill:#b3de69}.u8{fill:#fccde5}.u9{fill:#d9d9d9}"
-    ++ line (codes ".load0{fill:#000}.wait{fill:#777;stroke:none}.idle0{fill:#f2f2f2;stroke:none}.cut{fill:#777}.grid{fill:#ddd;stroke:none}.line{fill:#c00}.rise{fill:#060}.q{fill:#c00;font-weight:bold}.sheet{fill:#fff;stroke:none}</style>")))
+    ++ line (codes ".load0{fill:#000}.free0{fill:#f5f5f5;stroke:none}.wait{fill:#777;stroke:none}.idle0{fill:#f2f2f2;stroke:none}.cut{fill:#777}.grid{fill:#ddd;stroke:none}.line{fill:#c00}.rise{fill:#060}.q{fill:#c00;font-weight:bold}.sheet{fill:#fff;stroke:none}</style>")))
 
 -- how it is read
 abbrev pub how_read : List ℕ
@@ -265,7 +269,7 @@ sheet_begun scale zoom users places =
     codes "<svg xmlns='http://www.w3.org/2000/svg' font-family='monospace'" ++ (attribute (codes " font-size='") (11 * scale)
     ++ (codes " viewBox='0 0 " ++ (decimal (sheet_width scale zoom places) ++ (codes " " ++ (decimal (sheet_height scale users)
     ++ (codes "'" ++ (attribute (codes " width='") (sheet_width scale zoom places / scale)
-    ++ (attribute (codes " height='") (640 + 40 * users) ++ line (codes ">")))))))))
+    ++ (attribute (codes " height='") (960 + 40 * users) ++ line (codes ">")))))))))
 
 -- a sheet of white
 abbrev pub sheet : (scale zoom users places : ℕ) → List ℕ
@@ -296,16 +300,3 @@ back_drawn scale zoom users places swap rec =
     ++ (legend scale
     ++ (drawn (idle_drawn scale zoom users) 0 rec.entries
     ++ ruler scale zoom users (places_between scale zoom) places rec.entries)))
-
--- what is drawn, from back to front
-abbrev pub drawing_with : (scale zoom users places : ℕ) → Script → Record → List ℕ
-drawing_with scale zoom users places script rec =
-    back_drawn scale zoom users places script.params.swap rec
-    ++ (rows_drawn script.params.swap scale zoom users script.accounts rec.entries
-    ++ (figures_drawn scale users script rec
-    ++ line (codes "</svg>")))
-
-unfoldable pub drawing_of : Script → Record → List ℕ
-drawing_of script rec =
-    drawing_with (scale_for (places_in rec)) (zoom_for (places_in rec)) (length script.accounts) (places_in rec)
-    script rec

@@ -7,4 +7,8 @@ pub mod Folds
 pub mod Marks
 pub mod Chart
 pub mod Drawing
+pub mod Cores
+pub mod CorePanel
+pub mod Picture
+pub mod CoreLines
 pub mod Rows

@@ -1,5 +1,5 @@
 -- claim: worked rows: two users' visits, figures and marks, and places behind an idle time.
-use Rattle.std.specs.Prelude.{◌≡◌, ℕ, true, false, List, [], ◌∷◌, map, codes}
+use Rattle.std.specs.Prelude.{◌≡◌, ℕ, true, false, List, [], ◌∷◌, map, get_or, codes}
 use Rattle.ctss_types.specs.declared.history.Cause.TheVariants as cause
 use Rattle.ctss_types.specs.declared.history.EventKind.TheVariants as kind
 use Rattle.ctss_types.specs.declared.history.Entry.{Entry}
@@ -14,6 +14,7 @@ use Rattle.picture_model.specs.Folds.{all_cut, tick_at}
 use Rattle.picture_model.specs.Marks.{cells, served_row, event_row, level_row}
 use Rattle.picture_model.specs.Chart.{places_each, column_count}
 use Rattle.picture_model.specs.Drawing.{words_at}
+use Rattle.picture_model.specs.CorePanel.{begins_at, stretch_from, next_load, moved_label}
 
 -- User 1 types two lines at tick 10, is served for the first from 12 to 13, and at once for the second, which runs out of time, is brought
 -- in again and done at 90; in between user 2 types a line at 62 and is served for it, and user 1 types another line at 82. It is served for that from 90 on. Then nobody
@@ -65,3 +66,22 @@ pub record RowOfCells : Type 0 where
   pub columns : column_count 6000 ≡ 110
   pub few : column_count 53 ≡ 3
   pub words : words_at (codes "n") 5 12 (codes "3") ≡ line (codes "<text class='n' x='5' y='12'>3</text>")
+
+-- users 1 and 2 own three places and two; the others are nobody's
+abbrev pub some_owner : ℕ → ℕ
+some_owner place = get_or (1 ∷ 1 ∷ 1 ∷ 2 ∷ 2 ∷ []) place 0
+
+-- Behind the first entries a load comes at tick 70, and then none any more. The first shows numbers if it is wide enough.
+pub record RowOfCore : Type 0 where
+  pub first : begins_at some_owner 0 ≡ true
+  pub inside : begins_at some_owner 2 ≡ false
+  pub second : begins_at some_owner 3 ≡ true
+  pub free : begins_at some_owner 5 ≡ true
+  pub three : stretch_from some_owner 1 0 128 ≡ 3
+  pub two : stretch_from some_owner 2 3 125 ≡ 2
+  pub rest : stretch_from some_owner 0 5 123 ≡ 123
+  pub loads : next_load 152 0 some_entries ≡ 70
+  pub last : next_load 152 0 (Serve 90 1 1 4 cause.Wait ∷ Idle 94 1094 ∷ []) ≡ 152
+  pub folded : next_load 152 0 (Idle 94 1094 ∷ Swap 1094 1 0 0 1 ∷ []) ≡ 146
+  pub narrow : moved_label 1 1 1 70 93 1 5 ≡ []
+  pub wide : moved_label 1 1 1 70 94 1 5 ≡ line (codes "<text class='w' x='180' y='624'>5</text>")

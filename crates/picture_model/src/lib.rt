@@ -1,14 +1,14 @@
 //! The picture of a run: who ran, at which level, what each user waited for, and the figures.
 //!
 //! The definitions stand in `specs/`: `Requests` (what a user asks and waits for), `Figures` with `Columns` and `FigureLines`, `Csv`,
-//! `Folds` (where a tick stands in a picture), `Marks` and `Chart` (the picture in characters), `Drawing` (the drawn one), `Rows`
-//! (worked rows). The functions here do nothing: each carries a law or a row.
+//! `Folds` (where a tick stands in a picture), `Marks` and `Chart` (the picture in characters), `Picture` (the drawn one)
+//! with `Drawing`, `Cores` and `CorePanel`, `Rows` (worked rows). The functions here do nothing: each carries a law or a row.
 #![tactic(auto)]
 
 mod request;
 
 ghost use Rattle.picture_model.specs.Folds.{PlacesJoin};
-ghost use Rattle.picture_model.specs.Rows.{RowOfCells, RowOfFigures, RowOfVisits};
+ghost use Rattle.picture_model.specs.Rows.{RowOfCells, RowOfCore, RowOfFigures, RowOfVisits};
 
 pub use request::{Track, Visit};
 
@@ -34,4 +34,10 @@ pub fn row_of_figures()
 #[tactic(auto, using(crate::proofs::RowsComputed::row_of_cells))]
 pub fn row_of_cells()
     ensures { RowOfCells }
+{}
+
+/// Stretches of core, and where the next load stands.
+#[tactic(auto, using(crate::proofs::RowsComputed::row_of_core))]
+pub fn row_of_core()
+    ensures { RowOfCore }
 {}

@@ -1,16 +1,12 @@
 //! The forms of a picture.
 ghost use Rattle.std.specs.Prelude.{◌≡◌};
-ghost use Rattle.picture_model.specs.FigureLines.{figures_of};
-ghost use Rattle.text_writer.specs.Writing.{Adds};
 ghost use Rattle.run_picture.specs.Asked.{form_named, text_in};
 
+use crate::text::{FigureLines, Spans, show_chart, show_drawing};
 use ctss_io::Sink;
-use ctss_types::{Record, Script};
-use schedule_chart::add_chart;
-use schedule_drawing::add_drawing;
-use schedule_figures::{add_csv, add_figures};
-use script_show::RunText;
-use text_writer::TextWriter;
+use ctss_types::Script;
+use script_show::{Outcome, RunShow, run_script};
+use std::alloc::Global;
 
 /// How a run is shown.
 #[derive(Clone, Copy, Debug, PartialEq, Eq)]
@@ -38,31 +34,17 @@ pub(crate) fn form_named(word: &str) -> Option<Form>
     }
 }
 
-/// Adds the figures, a line each.
-fn add_lines<K: Sink>(out: &mut TextWriter<'_, K>, script: &Script, run: &Record)
-    ensures { Adds K.Sink (figures_of script.now run.now) out.old out.new }
-{
-    add_figures(out, b"", b"\n", script, run);
-}
-
-/// Adds a run in a form.
-fn add_form<K: Sink>(out: &mut TextWriter<'_, K>, form: Form, script: &Script, run: &Record)
-    ensures { Adds K.Sink (text_in form script.now run.now) out.old out.new }
-{
-    match form {
-        Form::Svg => add_drawing(out, script, run),
-        Form::Text => add_chart(out, script, run),
-        Form::Figures => add_lines(out, script, run),
-        Form::Csv => add_csv(out, script, run),
-    }
-}
-
-impl RunText for Form {
+impl RunShow for Form {
     ghost use Rattle.run_picture.specs.Asked.{text_in};
 
     ghost bytes = { λ form. text_in form };
 
-    fn add_to<K: Sink>(&self, script: &Script, run: &Record, out: &mut TextWriter<'_, K>) {
-        add_form(out, *self, script, run);
+    fn show<K: Sink>(&self, alloc: Global, script: &Script, sink: &mut K) -> Outcome {
+        match self {
+            Form::Svg => show_drawing(alloc, script, sink),
+            Form::Text => show_chart(alloc, script, sink),
+            Form::Figures => run_script(alloc, &FigureLines, script, sink),
+            Form::Csv => run_script(alloc, &Spans, script, sink),
+        }
     }
 }

@@ -4,6 +4,7 @@
 #![tactic(auto)]
 
 mod form;
+mod text;
 
 ghost use Rattle.std.specs.Prelude.{◌≡◌};
 ghost use Rattle.std.specs.Option.{option_map};

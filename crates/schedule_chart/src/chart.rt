@@ -1,8 +1,12 @@
 //! The whole picture.
+ghost use Rattle.std.specs.Prelude.{map};
 ghost use Rattle.picture_model.specs.Chart.{chart_head, chart_with, chart_of};
+ghost use Rattle.picture_model.specs.Cores.{owner_in};
+ghost use Rattle.picture_model.specs.CoreLines.{chart_over};
 ghost use Rattle.text_writer.specs.Writing.{Adds};
 
 use crate::columns::{Columns, columns_for};
+use crate::core_lines::add_core_lines;
 use crate::levels::add_levels;
 use crate::place::places_in;
 use crate::ruler::add_ruler;
@@ -19,6 +23,10 @@ const HOW_READ: &[u8] =
 /// The line behind it.
 const HOW_READ_FURTHER: &[u8] =
     b"THAT LEVEL. ABOVE: V A LINE, Q A QUIT, H A HANG-UP, S A LINE TOO MANY, R A RISE. BELOW: WHO WAS SERVED (A IS USER 10).";
+
+/// What stands over the lines of core.
+const CORE_HEAD: &[u8] =
+    b"      TICK  USER  DUMPED    READ CLEARED  PLACES OF CORE BEHIND THE LOAD, AND WHOSE THEY ARE";
 
 /// Adds how the picture is read.
 fn add_head<K: Sink>(out: &mut TextWriter<'_, K>, each: u64)
@@ -49,9 +57,24 @@ fn add_in_columns<K: Sink>(
     add_levels(out, columns, entries, &[0, 1, 2, 3, 4, 5, 6, 7, 8]);
 }
 
-/// Adds the picture of a record: who ran, and at which level.
-pub fn add_chart<K: Sink>(out: &mut TextWriter<'_, K>, script: &Script, run: &Record)
+/// Adds the rows of a run: who ran, and at which level.
+fn add_rows_of_run<K: Sink>(out: &mut TextWriter<'_, K>, script: &Script, run: &Record)
     ensures { Adds K.Sink (chart_of script.now run.now) out.old out.new }
 {
     add_in_columns(out, columns_for(places_in(run)), script, run);
+}
+
+/// Adds the picture of a record: who ran and at which level, and core behind each load, of which these maps say whose
+/// each place is.
+pub fn add_chart<K: Sink>(
+    out: &mut TextWriter<'_, K>,
+    script: &Script,
+    run: &Record,
+    maps: &[[u8; 128]],
+)
+    ensures { Adds K.Sink (chart_over (map owner_in maps.now) script.now run.now) out.old out.new }
+{
+    add_rows_of_run(out, script, run);
+    out.line(CORE_HEAD);
+    add_core_lines(out, maps, run.entries.as_slice());
 }

@@ -1,11 +1,13 @@
-//! The picture of a run in characters: who ran and at which level, in lines of 120 columns.
+//! The picture of a run in characters: who ran and at which level, in lines of 120 columns, and core behind each load.
 #![tactic(auto)]
 
 mod chart;
 mod columns;
+mod core_lines;
 mod levels;
 mod marks;
 mod numbers;
+mod owners;
 mod paint;
 mod place;
 mod row;
@@ -14,4 +16,5 @@ mod ruler;
 mod users;
 
 pub use chart::add_chart;
+pub use owners::{begins_at, maps_after, owner_at, stretch_from};
 pub use place::{cut_of, place_of, places_in, tick_at};

@@ -1,5 +1,5 @@
 -- What is drawn of entries and of users, one after another.
-use Rattle.std.proofs.Common.{◌≡◌, ℕ, suc, ◌+◌, ◌-◌, ◌*◌, ◌/◌, ◌<◌, ◌≤◌, List, [], ◌++◌, length, drop, get_or, refl, sym, ap, ◌∙◌, arith, append_assoc, append-nil}
+use Rattle.std.proofs.Common.{◌≡◌, ℕ, suc, ◌+◌, ◌-◌, ◌*◌, ◌/◌, ◌<◌, ◌≤◌, List, [], ◌++◌, length, drop, get_or, refl, ap, ◌∙◌, arith}
 use Rattle.std.specs.Fmt.{decimal}
 use Rattle.std.proofs.lemmas.List.{drop_all}
 use Rattle.schedule_figures.proofs.Visits.{one_less}
@@ -9,15 +9,6 @@ use Rattle.picture_model.specs.declared.request.Track.{Track}
 use Rattle.picture_model.specs.Requests.{track_after}
 use Rattle.picture_model.specs.Folds.{cut_of}
 use Rattle.picture_model.specs.Drawing.{drawn, wait_drawn, waits_drawn, user_row, user_rows, ruler, ruler_mark, ruler_drawn, attribute, bar, bar_label, idle_label, level_label, plain_box, text_begun, words_at}
-
--- one more text, where the texts that are left begin with it
-pub one_more : (done text rest left all : List ℕ) → left ≡ text ++ rest → done ++ left ≡ all → (done ++ text) ++ rest ≡ all
-one_more done text rest left all is was =
-    append_assoc done text rest ∙ ap (λ (l : List ℕ). done ++ l) (sym is) ∙ was
-
--- no text is left
-pub none_left : (done left all : List ℕ) → left ≡ [] → done ++ left ≡ all → done ≡ all
-none_left done left all is was = sym (append-nil done) ∙ ap (λ (l : List ℕ). done ++ l) (sym is) ∙ was
 
 -- what is drawn of the entries from one on
 

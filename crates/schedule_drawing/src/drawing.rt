@@ -1,9 +1,12 @@
 //! The picture as a whole.
-ghost use Rattle.std.specs.Prelude.{◌*◌, ◌≤◌, codes};
-ghost use Rattle.picture_model.specs.Drawing.{back_drawn, drawing_of, figures_drawn, legend, rows_drawn, sheet as sheet_text, sheet_begun, style, words_at};
+ghost use Rattle.std.specs.Prelude.{◌*◌, ◌≤◌, codes, map};
+ghost use Rattle.picture_model.specs.Cores.{owner_in};
+ghost use Rattle.picture_model.specs.Drawing.{back_drawn, figures_drawn, legend, rows_drawn, sheet as sheet_text, sheet_begun, style, words_at};
 ghost use Rattle.picture_model.specs.FigureLines.{time_line};
+ghost use Rattle.picture_model.specs.Picture.{drawing_over};
 ghost use Rattle.text_writer.specs.Writing.{Adds};
 
+use crate::core_rows::add_cores;
 use crate::layer::add_layer;
 use crate::level::{IdleTimes, LevelRows};
 use crate::ruler::{add_level_names, add_ruler};
@@ -34,7 +37,7 @@ fn begin_sheet<K: Sink>(out: &mut TextWriter<'_, K>, sheet: Sheet, places: u64)
         b" width='",
         sheet.width(places) / u128::from(sheet.scale),
     );
-    add_attribute(out, b" height='", 640 + 40 * u128::from(sheet.users));
+    add_attribute(out, b" height='", 960 + 40 * u128::from(sheet.users));
     out.line(b">");
 }
 
@@ -52,7 +55,7 @@ fn add_style<K: Sink>(out: &mut TextWriter<'_, K>)
         b".u0{fill:#bc80bd}.u1{fill:#8dd3c7}.u2{fill:#ffffb3}.u3{fill:#bebada}.u4{fill:#fb8072}.u5{fill:#80b1d3}.u6{fill:#fdb462}.u7{fill:#b3de69}.u8{fill:#fccde5}.u9{fill:#d9d9d9}",
     );
     out.line(
-        b".load0{fill:#000}.wait{fill:#777;stroke:none}.idle0{fill:#f2f2f2;stroke:none}.cut{fill:#777}.grid{fill:#ddd;stroke:none}.line{fill:#c00}.rise{fill:#060}.q{fill:#c00;font-weight:bold}.sheet{fill:#fff;stroke:none}</style>",
+        b".load0{fill:#000}.free0{fill:#f5f5f5;stroke:none}.wait{fill:#777;stroke:none}.idle0{fill:#f2f2f2;stroke:none}.cut{fill:#777}.grid{fill:#ddd;stroke:none}.line{fill:#c00}.rise{fill:#060}.q{fill:#c00;font-weight:bold}.sheet{fill:#fff;stroke:none}</style>",
     );
 }
 
@@ -84,7 +87,8 @@ fn add_legend<K: Sink>(out: &mut TextWriter<'_, K>, sheet: Sheet)
 
 /// Adds what the whole time went into, as the picture's title.
 fn add_heading<K: Sink>(out: &mut TextWriter<'_, K>, sheet: Sheet, run: &Record)
-    ensures { Adds K.Sink (words_at (codes "b") (110 * sheet.scale) (20 * sheet.scale) (time_line sheet.swap run.now)) out.old out.new }
+    ensures { Adds K.Sink (words_at (codes "b") (110 * sheet.scale) (20 * sheet.scale)
+        (time_line sheet.swap run.now)) out.old out.new }
 {
     let at = Point {
         x: sheet.units(110),
@@ -163,9 +167,14 @@ fn add_back<K: Sink>(out: &mut TextWriter<'_, K>, sheet: Sheet, places: u64, run
     );
 }
 
-/// Adds the picture of a record.
-pub fn add_drawing<K: Sink>(out: &mut TextWriter<'_, K>, script: &Script, run: &Record)
-    ensures { Adds K.Sink (drawing_of script.now run.now) out.old out.new }
+/// Adds the picture of a record, with these owners of the places of core behind each load.
+pub fn add_drawing<K: Sink>(
+    out: &mut TextWriter<'_, K>,
+    script: &Script,
+    run: &Record,
+    maps: &[[u8; 128]],
+)
+    ensures { Adds K.Sink (drawing_over (map owner_in maps.now) script.now run.now) out.old out.new }
 {
     let places = places_in(run);
     let sheet = Sheet {
@@ -181,6 +190,7 @@ pub fn add_drawing<K: Sink>(out: &mut TextWriter<'_, K>, script: &Script, run: &
         script.accounts.as_slice(),
         run.entries.as_slice(),
     );
+    add_cores(out, sheet, places, maps, run.entries.as_slice());
     add_figure_lines(out, sheet, script, run);
     out.line(b"</svg>");
 }

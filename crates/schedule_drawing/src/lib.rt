@@ -1,6 +1,7 @@
-//! The picture of a run, drawn: who ran, the levels, and the figures, as one SVG text.
+//! The picture of a run, drawn: who ran, the levels, core, and the figures, as one SVG text.
 #![tactic(auto)]
 
+mod core_rows;
 mod drawing;
 mod label;
 mod layer;
@@ -8,6 +9,7 @@ mod level;
 mod ruler;
 mod shape;
 mod sheet;
+mod stretch;
 mod user;
 mod wait;
 

@@ -1,6 +1,7 @@
 //! How a picture is laid out: a place is so many units wide as the zoom says, and all else is a multiple of the scale.
 ghost use Rattle.std.specs.Prelude.{◌≡◌, ◌≤◌, ◌+◌, ◌*◌, ◌/◌, ◌^◌, suc};
-ghost use Rattle.picture_model.specs.Drawing.{across, figures_top, level_top, places_between, scale_for, sheet_height, sheet_width, user_top, zoom_for};
+ghost use Rattle.picture_model.specs.CorePanel.{place_top};
+ghost use Rattle.picture_model.specs.Drawing.{across, core_top, figures_top, level_top, places_between, scale_for, sheet_height, sheet_width, user_top, zoom_for};
 
 /// The scale and the zoom of a picture, how many users it has, and the ticks that a block takes.
 #[derive(Clone, Copy)]
@@ -83,11 +84,42 @@ impl Sheet {
         (140 + (26 * u128::from(self.users) + 18 * u128::from(level))) * u128::from(self.scale)
     }
 
+    /// The scale, so many times.
+    pub(crate) fn times(self, n: u8) -> u128
+        ensures value { result ≡ self.scale * n }
+        ensures small { result ≤ 2 ^ 62 }
+    {
+        u128::from(self.scale) * u128::from(n)
+    }
+
+    /// The upper edge of the rows of core.
+    fn core_top(self) -> u128
+        ensures value { result ≡ core_top self.scale self.users }
+        ensures small { result ≤ 2 ^ 123 }
+    {
+        (330 + 26 * u128::from(self.users)) * u128::from(self.scale)
+    }
+
+    /// The upper edge of a place of core.
+    pub(crate) fn place_top(self, place: u8) -> u128
+        ensures value { result ≡ place_top self.scale self.users place }
+        ensures small { result ≤ 2 ^ 124 }
+    {
+        self.core_top() + 2 * self.times(place)
+    }
+
+    /// Where the numbers of a row below core stand.
+    pub(crate) fn moved_top(self, row: u8) -> u128
+        ensures { result ≡ place_top self.scale self.users 128 + 12 * (self.scale * row) }
+    {
+        self.place_top(128) + 12 * self.times(row)
+    }
+
     /// The upper edge of the figures.
     pub(crate) fn figures_top(self) -> u128
         ensures { result ≡ figures_top self.scale self.users }
     {
-        (330 + 26 * u128::from(self.users)) * u128::from(self.scale)
+        (650 + 26 * u128::from(self.users)) * u128::from(self.scale)
     }
 
     /// How high the picture is.
@@ -95,7 +127,7 @@ impl Sheet {
         ensures value { result ≡ sheet_height self.scale self.users }
         ensures small { result ≤ 2 ^ 124 }
     {
-        (640 + 40 * u128::from(self.users)) * u128::from(self.scale)
+        (960 + 40 * u128::from(self.users)) * u128::from(self.scale)
     }
 
     /// How wide a picture of so many places is.

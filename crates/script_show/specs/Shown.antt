@@ -40,6 +40,18 @@ pub record IsShown (text : TextOfRun) (old new : StreamsSeen) (result : Outcome)
   pub card : result.card ≡ 0
   pub cause : result.cause ≡ 0
 
+-- A lawful script was run and the text of its one record written; the output failed, and holds a part of the text only; or memory
+-- lacked, and nothing was written.
+pub record ShowsRun (shown : TextOfRun) (script : Script) (old new : OutputSeen) (result : Outcome) : Type 0 where
+  pub status : IsOneOf result.status (0 ∷ 4 ∷ 8 ∷ [])
+  pub run : IsOneOf result.status (0 ∷ 4 ∷ []) → result.run ≡ record_of script
+  pub numbers : (result.card ≡ 0) × (result.cause ≡ 0)
+  pub text : result.status ≡ 0 → new.held ≡ after old.held (shown script (record_of script))
+  pub part : result.status ≡ 4 → GrewByProperPrefix old.held (shown script (record_of script)) new.held
+  pub cause : result.status ≡ 4 → Rose old.faults new.faults
+  pub memory : result.status ≡ 8 → result ≡ bare 8 0 0
+  pub silent : result.status ≡ 8 → new.held ≡ old.held
+
 -- the script that came in is refused, and so it was written
 pub record IsRefusedScript (old new : StreamsSeen) (result : Outcome) : Type 0 where
   pub bytes : List ℕ

@@ -3,13 +3,13 @@ ghost use Rattle.std.specs.Option.{option_map};
 ghost use Rattle.script_show.specs.Asked.{IsAnswer};
 ghost use Rattle.script_show.specs.Seen.{streams};
 
-use crate::show::show_script;
+use crate::show::{RunShow, show_script};
 use ctss_io::{Sink, Source};
-use ctss_modes::{Outcome, RunText, refuse_words};
+use ctss_modes::{Outcome, refuse_words};
 use std::alloc::Global;
 
 /// Writes the text that is asked for, of the script that comes in; where none is, the words are refused, and nothing is read.
-pub fn show_asked<T: RunText + Copy, S: Source, K: Sink>(
+pub fn show_asked<T: RunShow + Copy, S: Source, K: Sink>(
     alloc: Global,
     asked: Option<T>,
     input: &mut S,

@@ -1,5 +1,5 @@
 //! Programs that show the run of a script: the script comes in on a source, is run over a drum and a disk in memory, and a text
-//! of its record goes out on a sink. What text that is, the program says (`RunText`).
+//! of its record goes out on a sink. What text that is, and what else it takes to write it, the program says (`RunShow`).
 #![tactic(auto)]
 
 mod asked;
@@ -10,5 +10,6 @@ mod show;
 pub use asked::show_asked;
 pub use command_line::ArgList;
 pub use ctss_modes::{Outcome, RunText};
+pub use media::run_script;
 pub use program::{ShowProgram, run};
-pub use show::show_script;
+pub use show::{RunShow, show_script};

@@ -1,14 +1,13 @@
-use Rattle.std.proofs.Common.{ℕ, ap, ◌∙◌}
-use Rattle.picture_model.specs.Chart.{places_each, column_count, chart_with, chart_of}
-use Rattle.picture_model.specs.Folds.{places_in}
-use Rattle.text_writer.proofs.Added.{adds_is}
+use Rattle.std.proofs.Common.{List, ap, map}
+use Rattle.ctss_types.specs.declared.history.Entry.{Entry}
+use Rattle.picture_model.specs.Cores.{owner_in}
+use Rattle.picture_model.specs.CoreLines.{core_lines, chart_over}
+use Rattle.text_writer.proofs.Added.{◌⨾◌, adds_is}
 use Rattle.schedule_chart.proofs.chart.add_chart.Goals as goal
 
 pub returns : goal.returns
-unfolding chart_of
+unfolding chart_over
 returns g c =
-    adds_is
-    (ap (λ (each : ℕ). chart_with each c.columns_for.result.count c.args.script.now c.args.run.now) (c.columns_for.ensures.each ∙ ap places_each c.places_in.ensures)
-    ∙ ap (λ (count : ℕ). chart_with (places_each (places_in c.args.run.now)) count c.args.script.now c.args.run.now)
-    (c.columns_for.ensures.count ∙ ap column_count c.places_in.ensures))
-    c.add_in_columns.ensures
+    c.add_rows_of_run.ensures
+    ⨾ c.line.ensures
+    ⨾ adds_is (ap (λ (l : List Entry). core_lines (map owner_in c.args.maps.now) l) c.as_slice.ensures) c.add_core_lines.ensures

@@ -13,5 +13,5 @@ returns g c =
     ⨾ c.add-3.ensures ⨾ adds_is (ap decimal c.height.ensures.value) c.add_number-2.ensures
     ⨾ c.add-4.ensures
     ⨾ adds_is (attribute_is _ (ratio_is c.width-2.ensures.value c.from.ensures)) c.add_attribute-2.ensures
-    ⨾ adds_is (attribute_is _ (ap (λ (n : ℕ). 640 + 40 * n) c.from-2.ensures)) c.add_attribute-3.ensures
+    ⨾ adds_is (attribute_is _ (ap (λ (n : ℕ). 960 + 40 * n) c.from-2.ensures)) c.add_attribute-3.ensures
     ⨾ c.line.ensures

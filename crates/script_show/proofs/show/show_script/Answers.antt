@@ -15,12 +15,12 @@ use Rattle.script_show.specs.Seen.{streams}
 use Rattle.script_show.proofs.Shows.{shows_unread, shows_refused, shows_run}
 use Rattle.script_show.proofs.show.show_script.Goals as goal
 
-pub run_script-requires : goal.run_script-requires
-run_script-requires g c = record { lawful = scripts_are_lawful _ _ c.in-Ok-read_script.ensures }
+pub show-requires : goal.show-requires
+show-requires g c = scripts_are_lawful _ _ c.in-Ok-read_script.ensures
 
 pub returns-in-Err : goal.returns-in-Err
 returns-in-Err g c =
-    shows_unread (g.T.RunText.bytes c.args.text.now) (streams g.S.Source g.K.Sink c.args.input.now c.args.output.now)
+    shows_unread (g.T.RunShow.bytes c.args.text.now) (streams g.S.Source g.K.Sink c.args.input.now c.args.output.now)
     (streams g.S.Source g.K.Sink c.read_bytes.new.source c.end_unread.new.sink) c.end_unread.result
     (ends_unread c.in-Err.end (input_seen g.S.Source c.args.input.now) (input_seen g.S.Source c.read_bytes.new.source)
     (output_seen g.K.Sink c.args.output.now) (output_seen g.K.Sink c.end_unread.new.sink) c.end_unread.result
@@ -29,9 +29,9 @@ returns-in-Err g c =
 pub returns-in-Ok-read_script : goal.returns-in-Ok-read_script
 returns-in-Ok-read_script g c =
     let read : script_of c.in-Ok.bytes.items ≡ Ok c.in-Ok-read_script.script = ap script_of (sym c.deref.ensures.value) ∙ c.in-Ok-read_script.ensures in
-    let run = c.run_script.ensures in
-    shows_run (g.T.RunText.bytes c.args.text.now) (streams g.S.Source g.K.Sink c.args.input.now c.args.output.now)
-    (streams g.S.Source g.K.Sink c.read_bytes.new.source c.run_script.new.sink) c.run_script.result c.in-Ok.bytes.items c.in-Ok-read_script.script c.in-Ok.ensures.bytes c.in-Ok.ensures.end read
+    let run = c.show.ensures in
+    shows_run (g.T.RunShow.bytes c.args.text.now) (streams g.S.Source g.K.Sink c.args.input.now c.args.output.now)
+    (streams g.S.Source g.K.Sink c.read_bytes.new.source c.show.new.sink) c.show.result c.in-Ok.bytes.items c.in-Ok-read_script.script c.in-Ok.ensures.bytes c.in-Ok.ensures.end read
     (scripts_are_lawful _ _ read)
     run.status run.run run.numbers run.text run.part run.cause run.memory run.silent
 
@@ -39,7 +39,7 @@ pub returns-in-Err-Refused : goal.returns-in-Err-Refused
 returns-in-Err-Refused g c =
     let read : script_of c.deref.result.now ≡ Err c.in-Err-Refused.refusal = subst (λ (f : ScriptFault). Reads (Err f) (script_of c.deref.result.now)) c.in-Err-Refused.field-0-is c.in-Err-Refused.ensures in
     let said = c.refuse_script.ensures in
-    shows_refused (g.T.RunText.bytes c.args.text.now) (streams g.S.Source g.K.Sink c.args.input.now c.args.output.now)
+    shows_refused (g.T.RunShow.bytes c.args.text.now) (streams g.S.Source g.K.Sink c.args.input.now c.args.output.now)
     (streams g.S.Source g.K.Sink c.read_bytes.new.source c.refuse_script.new.sink) c.refuse_script.result c.in-Ok.bytes.items c.in-Err-Refused.refusal c.number.result c.in-Ok.ensures.bytes c.in-Ok.ensures.end
     (ap script_of (sym c.deref.ensures.value) ∙ read)
     (c.number.ensures ∙ ap (λ (r : ScriptRefusal). cause_number r.cause) c.in-Err-Refused.refusal-is)

@@ -1,0 +1,13 @@
+use Rattle.std.proofs.Common.{◌≡◌, ◌++◌, ◌-◌, ℕ, List, map}
+use Rattle.picture_model.specs.Cores.{owner_in}
+use Rattle.picture_model.specs.CorePanel.{first_owners}
+use Rattle.picture_model.specs.CoreLines.{places_text}
+use Rattle.text_writer.specs.Writing.{Adds}
+use Rattle.schedule_chart.proofs.core_lines.add_places.Given as goal
+
+-- the places so far were added, and with those that are left they are all
+abbrev pub invariant-loop-place : goal.invariant-loop-place
+invariant-loop-place g l =
+    (done : List ℕ) × Adds g.K.Sink done l.fn.out l.out
+    × (done ++ places_text (first_owners (map owner_in l.maps)) l.place (128 - l.place)
+    ≡ places_text (first_owners (map owner_in l.maps)) 0 128)

@@ -1,0 +1,103 @@
+//! The lines of core: for each load what it moved, and whose each place is behind it.
+ghost use Rattle.std.specs.Prelude.{◌<◌, map};
+ghost use Rattle.picture_model.specs.Cores.{owner_in};
+ghost use Rattle.picture_model.specs.CorePanel.{first_owners};
+ghost use Rattle.picture_model.specs.CoreLines.{core_line, core_lines, load_line, place_text, places_text, stretch_text};
+ghost use Rattle.text_writer.specs.Writing.{Adds};
+
+use crate::owners::{begins_at, maps_after, owner_at, stretch_from};
+use ctss_io::Sink;
+use ctss_types::Entry;
+use schedule_figures::{add_column, add_number};
+use text_writer::TextWriter;
+
+/// A load: when it began, whose it was, and how many blocks were dumped, read and cleared for it.
+#[derive(Clone, Copy)]
+struct Load {
+    tick: u64,
+    user: u8,
+    dumped: u8,
+    read: u8,
+    fresh: u8,
+}
+
+/// Adds a stretch of so many places, from one on, and whose they are.
+fn add_stretch<K: Sink>(out: &mut TextWriter<'_, K>, user: u8, place: u8, count: u8)
+    ensures { Adds K.Sink (stretch_text user place count) out.old out.new }
+{
+    out.add(b"  ");
+    add_number(out, place);
+    out.add(b"-");
+    add_number(out, u16::from(place) + u16::from(count.saturating_sub(1)));
+    out.add(b" ");
+    add_number(out, user);
+}
+
+/// Adds the stretch that begins at a place, if one does that is somebody's.
+#[tactic(auto, using(text_writer::proofs::Added::adds_none))]
+fn add_place<K: Sink>(out: &mut TextWriter<'_, K>, maps: &[[u8; 128]], place: u8)
+    requires { place < 128 }
+    ensures { Adds K.Sink (place_text (first_owners (map owner_in maps.now)) place) out.old out.new }
+{
+    let user = owner_at(maps, place);
+    if begins_at(maps, place) && user != 0 {
+        add_stretch(out, user, place, stretch_from(maps, user, place));
+    }
+}
+
+/// Adds all places of core behind the first of these loads.
+fn add_places<K: Sink>(out: &mut TextWriter<'_, K>, maps: &[[u8; 128]])
+    ensures { Adds K.Sink (places_text (first_owners (map owner_in maps.now)) 0 128) out.old out.new }
+{
+    for place in 0..128 {
+        add_place(out, maps, place);
+    }
+}
+
+/// Adds the line of the first of these loads.
+fn add_load<K: Sink>(out: &mut TextWriter<'_, K>, load: Load, maps: &[[u8; 128]])
+    ensures { Adds K.Sink (load_line load.tick load.user load.dumped load.read load.fresh
+        (first_owners (map owner_in maps.now))) out.old out.new }
+{
+    add_column(out, 10, load.tick);
+    add_column(out, 6, load.user);
+    add_column(out, 8, load.dumped);
+    add_column(out, 8, load.read);
+    add_column(out, 8, load.fresh);
+    add_places(out, maps);
+    out.end_line();
+}
+
+/// Adds the line of an entry, if it is a load.
+fn add_core_line<K: Sink>(out: &mut TextWriter<'_, K>, maps: &[[u8; 128]], entry: &Entry)
+    ensures { Adds K.Sink (core_line (first_owners (map owner_in maps.now)) entry.now) out.old out.new }
+{
+    if let Entry::Swap {
+        tick,
+        user,
+        dumped,
+        read,
+        fresh,
+    } = entry
+    {
+        let load = Load {
+            tick: *tick,
+            user: *user,
+            dumped: *dumped,
+            read: *read,
+            fresh: *fresh,
+        };
+        add_load(out, load, maps);
+    }
+}
+
+/// Adds the lines of all loads.
+pub fn add_core_lines<K: Sink>(out: &mut TextWriter<'_, K>, maps: &[[u8; 128]], entries: &[Entry])
+    ensures { Adds K.Sink (core_lines (map owner_in maps.now) entries.now) out.old out.new }
+{
+    let mut maps = maps;
+    for entry in entries {
+        add_core_line(out, maps, entry);
+        maps = maps_after(entry, maps);
+    }
+}

@@ -2,7 +2,7 @@
 //!
 //! The definitions stand in `specs/`: `Requests` (what a user asks and waits for), `Figures` with `Columns` and `FigureLines`, `Csv`,
 //! `Folds` (where a tick stands in a picture), `Marks` and `Chart` (the picture in characters), `Picture` (the drawn one)
-//! with `Drawing`, `Cores` and `CorePanel`, `Rows` (worked rows). The functions here do nothing: each carries a law or a row.
+//! with `Drawing`, `Cores` with `CorePanel` and `CoreLines` (whose core it was), `Rows` (worked rows). The functions here do nothing: each carries a law or a row.
 #![tactic(auto)]
 
 mod request;

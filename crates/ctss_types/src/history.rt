@@ -2,7 +2,7 @@
 ghost use Rattle.std.specs.Prelude.{◌≡◌};
 ghost use Rattle.ctss_types.specs.Entries.{cause_text, kind_text};
 
-use crate::{CommonOp, FileList, FileLists, LineText, Reply, Sequence};
+use crate::{Apart, CommonOp, FileList, FileLists, LineText, Reply, Sequence};
 use std::fmt;
 
 /// One thing on a user's transcript.
@@ -95,7 +95,8 @@ impl EventKind {
 }
 
 /// An entry of the schedule. Ticks are those at which a thing began; `user` and `own` (own steps) are 0 where the
-/// console had no session; `ran` counts ticks; `level` is the one that a user is served at, or that it has risen to.
+/// console had no session; `ran` counts ticks; `level` is the one that a user is served at, or that it has risen to. The operation
+/// on common files, which is large and rare, lies apart, so that each entry takes 48 bytes.
 #[derive(Clone, Debug, PartialEq, Eq, Drop)]
 pub enum Entry {
     Taken {
@@ -144,7 +145,7 @@ pub enum Entry {
     },
     Common {
         user: u8,
-        op: CommonOp,
+        op: Apart<CommonOp>,
         reply: Reply,
     },
 }

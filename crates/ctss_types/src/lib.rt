@@ -1,9 +1,11 @@
 //! The types that the definitions and the code share: numbers, lines, names, scripts, records.
 //!
 //! In contracts a user or console number, a word and a file's names are numbers, a line is the list of its characters,
-//! and a `Sequence` is the list of its items; every other type is the record or the enum that stands here.
+//! a `Sequence` is the list of its items, what lies `Apart` is the value, and every other type is the record or the enum
+//! that stands here.
 #![tactic(auto)]
 
+mod apart;
 mod fault;
 mod file;
 mod history;
@@ -15,6 +17,7 @@ mod sequence;
 mod session;
 mod words;
 
+pub use apart::Apart;
 pub use fault::{RunFault, StepFault};
 pub use faults::NoMemory;
 pub use file::{CommonOp, FileBody, FileList, FileLists, OwnedFile, OwnedFiles, Refusal, Reply};

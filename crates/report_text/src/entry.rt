@@ -136,7 +136,7 @@ pub fn add_entry<K: Sink>(out: &mut TextWriter<'_, K>, entry: &Entry)
             out,
             b"SHARED",
             &[u64::from(*user)],
-            op_word(op),
+            op_word(op.get()),
             &[u64::from(reply_number(reply))],
         ),
     }

@@ -2,6 +2,8 @@
 //! and minus zero, and with the overflow that an operation sets.
 #![tactic(auto)]
 
+pub mod shift;
+
 ghost use Rattle.std.specs.Prelude.{◌≡◌, ◌+◌, ◌*◌, ◌/◌, ◌%◌, ◌^◌, ◌<◌, ◌≤◌, not, true, false};
 ghost use Rattle.word36.specs.Bits.{is_minus, magnitude_of};
 ghost use Rattle.arith36.specs.Arith.{sum_of, logical_sum, product_of, rounded, rounded_product, round_overflows, divided, side_of, compared, compared_logical};

@@ -3,3 +3,4 @@ pub mod Parsed
 pub mod Rows
 pub mod Steps
 pub mod WordsRead
+mod Saying

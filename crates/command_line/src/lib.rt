@@ -6,6 +6,7 @@
 
 mod command;
 mod named;
+pub mod outcome;
 mod program;
 mod words;
 

@@ -1,3 +1,4 @@
 pub mod Bank
 pub mod Lent
 pub mod Parts
+pub mod Window

@@ -6,6 +6,7 @@ ghost use Rattle.std.specs.Borrow.{sem};
 ghost use Rattle.core_bank.specs.Bank.{AreWords, block_at, blank, with_block, LendsWindow, LendsWords};
 
 mod memory;
+pub mod reloc_protect;
 
 use faults::NoMemory;
 use memory::Memory;

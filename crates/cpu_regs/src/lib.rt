@@ -2,6 +2,7 @@
 #![tactic(auto)]
 
 mod index;
+pub mod plain;
 mod port;
 mod regs;
 

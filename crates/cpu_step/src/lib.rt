@@ -70,7 +70,7 @@ fn do_prefixed<M: MemoryPort>(regs: &mut Regs, core: &mut M, word: Word) -> Step
     let Some(i) = decode_prefixed(word) else {
         return Stepped::Illegal;
     };
-    as_step(ops_index::apply(regs, core, &i, i.address))
+    as_step(operations::index::apply(regs, core, &i, i.address))
 }
 
 /// Does the instruction that a word without a prefix is. Its row of the table is looked up once. What isn't a
@@ -198,7 +198,7 @@ fn go_prefixed<M: MemoryPort>(regs: &mut Regs, core: &mut M, word: Word) -> bool
     let Some(i) = decode_prefixed(word) else {
         return false;
     };
-    match ops_index::count(regs, core, &i, i.address) {
+    match operations::index::count(regs, core, &i, i.address) {
         OpEnd::Went => true,
         OpEnd::Halt | OpEnd::Outside(_) => false,
     }
@@ -244,18 +244,18 @@ fn go_at<M: MemoryPort>(regs: &mut Regs, core: &mut M, known: &Row, word: Word, 
     ensures ic { regs.new.ic < 2 ^ 15 }
 {
     match known.0 {
-        Op::Cla => ops_fixed::load_or_store(regs, core, &instr_coded(known, word), y),
-        Op::Sto => ops_fixed::load_or_store(regs, core, &instr_coded(known, word), y),
-        Op::Ldq => ops_fixed::load_or_store(regs, core, &instr_coded(known, word), y),
-        Op::Add => ops_fixed::sum(regs, core, &instr_coded(known, word), y),
-        Op::Sub => ops_fixed::sum(regs, core, &instr_coded(known, word), y),
-        Op::Cal => ops_logic::load_or_store(regs, core, &instr_coded(known, word), y),
-        Op::Slw => ops_logic::load_or_store(regs, core, &instr_coded(known, word), y),
-        Op::Ana => ops_logic::combine(regs, core, &instr_coded(known, word), y),
-        Op::Ora => ops_logic::combine(regs, core, &instr_coded(known, word), y),
-        Op::Tra => ops_index::transfer(regs, core, &instr_coded(known, word), y),
-        Op::Tze => ops_index::transfer(regs, core, &instr_coded(known, word), y),
-        Op::Tnz => ops_index::transfer(regs, core, &instr_coded(known, word), y),
+        Op::Cla => operations::fixed::load_or_store(regs, core, &instr_coded(known, word), y),
+        Op::Sto => operations::fixed::load_or_store(regs, core, &instr_coded(known, word), y),
+        Op::Ldq => operations::fixed::load_or_store(regs, core, &instr_coded(known, word), y),
+        Op::Add => operations::fixed::sum(regs, core, &instr_coded(known, word), y),
+        Op::Sub => operations::fixed::sum(regs, core, &instr_coded(known, word), y),
+        Op::Cal => operations::logic::load_or_store(regs, core, &instr_coded(known, word), y),
+        Op::Slw => operations::logic::load_or_store(regs, core, &instr_coded(known, word), y),
+        Op::Ana => operations::logic::combine(regs, core, &instr_coded(known, word), y),
+        Op::Ora => operations::logic::combine(regs, core, &instr_coded(known, word), y),
+        Op::Tra => operations::index::transfer(regs, core, &instr_coded(known, word), y),
+        Op::Tze => operations::index::transfer(regs, core, &instr_coded(known, word), y),
+        Op::Tnz => operations::index::transfer(regs, core, &instr_coded(known, word), y),
         _ => go_fixed(regs, core, known, word, y),
     }
 }
@@ -274,32 +274,33 @@ fn go_fixed<M: MemoryPort>(regs: &mut Regs, core: &mut M, known: &Row, word: Wor
     ensures ic { regs.new.ic < 2 ^ 15 }
 {
     match known.0 {
-        Op::Cls | Op::Stz | Op::Stq => ops_fixed::load_or_store(
+        Op::Cls | Op::Stz | Op::Stq => operations::fixed::load_or_store(
             regs,
             core,
             &instr_coded(known, word),
             y,
         ),
-        Op::Slq | Op::Sta | Op::Std | Op::Stt | Op::Stl | Op::Stp => ops_fixed::store_part(
+        Op::Slq | Op::Sta | Op::Std | Op::Stt | Op::Stl | Op::Stp => operations::fixed::store_part(
             regs,
             core,
             &instr_coded(known, word),
             y,
         ),
-        Op::Adm | Op::Sbm => ops_fixed::sum(regs, core, &instr_coded(known, word), y),
-        Op::Mpy | Op::Mpr | Op::Dvp => ops_fixed::product(regs, core, &instr_coded(known, word), y),
-        Op::Cas | Op::Zet | Op::Nzt | Op::Lbt | Op::Pbt | Op::Dct => ops_fixed::test(
+        Op::Adm | Op::Sbm => operations::fixed::sum(regs, core, &instr_coded(known, word), y),
+        Op::Mpy | Op::Mpr | Op::Dvp => operations::fixed::product(
             regs,
             core,
             &instr_coded(known, word),
             y,
         ),
-        Op::Xca | Op::Clm | Op::Chs | Op::Ssp | Op::Ssm | Op::Com | Op::Rnd => ops_fixed::change(
+        Op::Cas | Op::Zet | Op::Nzt | Op::Lbt | Op::Pbt | Op::Dct => operations::fixed::test(
             regs,
             core,
             &instr_coded(known, word),
             y,
         ),
+        Op::Xca | Op::Clm | Op::Chs | Op::Ssp | Op::Ssm | Op::Com | Op::Rnd =>
+            operations::fixed::change(regs, core, &instr_coded(known, word), y),
         _ => go_logic(regs, core, known, word, y),
     }
 }
@@ -318,29 +319,30 @@ fn go_logic<M: MemoryPort>(regs: &mut Regs, core: &mut M, known: &Row, word: Wor
     ensures ic { regs.new.ic < 2 ^ 15 }
 {
     match known.0 {
-        Op::Ldi | Op::Sti => ops_logic::load_or_store(regs, core, &instr_coded(known, word), y),
-        Op::Acl | Op::Era | Op::Ans | Op::Ors | Op::Las => ops_logic::combine(
+        Op::Ldi | Op::Sti => operations::logic::load_or_store(
+            regs,
+            core,
+            &instr_coded(known, word),
+            y,
+        ),
+        Op::Acl | Op::Era | Op::Ans | Op::Ors | Op::Las => operations::logic::combine(
             regs,
             core,
             &instr_coded(known, word),
             y,
         ),
         Op::Xcl | Op::Als | Op::Ars | Op::Lls | Op::Lrs | Op::Lgl | Op::Lgr | Op::Rql =>
-            ops_logic::shift(regs, core, &instr_coded(known, word), y),
-        Op::Pai | Op::Pia | Op::Oai | Op::Iia | Op::Ria | Op::Tio | Op::Tif => ops_logic::indicate(
-            regs,
-            core,
-            &instr_coded(known, word),
-            y,
-        ),
-        Op::Osi | Op::Iis | Op::Ris | Op::Ont | Op::Oft => ops_logic::indicate_by_word(
+            operations::logic::shift(regs, core, &instr_coded(known, word), y),
+        Op::Pai | Op::Pia | Op::Oai | Op::Iia | Op::Ria | Op::Tio | Op::Tif =>
+            operations::logic::indicate(regs, core, &instr_coded(known, word), y),
+        Op::Osi | Op::Iis | Op::Ris | Op::Ont | Op::Oft => operations::logic::indicate_by_word(
             regs,
             core,
             &instr_coded(known, word),
             y,
         ),
         Op::Sir | Op::Sil | Op::Rir | Op::Ril | Op::Rnt | Op::Lnt | Op::Rft | Op::Lft =>
-            ops_logic::indicate_by_half(regs, core, &instr_coded(known, word), y),
+            operations::logic::indicate_by_half(regs, core, &instr_coded(known, word), y),
         _ => go_index(regs, core, known, word, y),
     }
 }
@@ -368,16 +370,12 @@ fn go_index<M: MemoryPort>(regs: &mut Regs, core: &mut M, known: &Row, word: Wor
         | Op::Pax
         | Op::Pdx
         | Op::Pac
-        | Op::Pdc => ops_index::load_index(regs, core, &instr_coded(known, word), y),
+        | Op::Pdc => operations::index::load_index(regs, core, &instr_coded(known, word), y),
         Op::Sxa | Op::Sxd | Op::Sca | Op::Scd | Op::Pxa | Op::Pxd | Op::Pca | Op::Pcd =>
-            ops_index::store_index(regs, core, &instr_coded(known, word), y),
-        Op::Tpl | Op::Tmi | Op::Tov | Op::Tno | Op::Tqp | Op::Tlq | Op::Tsx => ops_index::transfer(
-            regs,
-            core,
-            &instr_coded(known, word),
-            y,
-        ),
-        Op::Nop => ops_index::pass(regs, core, &instr_coded(known, word), y),
+            operations::index::store_index(regs, core, &instr_coded(known, word), y),
+        Op::Tpl | Op::Tmi | Op::Tov | Op::Tno | Op::Tqp | Op::Tlq | Op::Tsx =>
+            operations::index::transfer(regs, core, &instr_coded(known, word), y),
+        Op::Nop => operations::index::pass(regs, core, &instr_coded(known, word), y),
         _ => OpEnd::Halt,
     }
 }
@@ -478,9 +476,9 @@ fn perform_at<M: MemoryPort>(
     ensures ic { regs.new.ic < 2 ^ 15 }
 {
     match kind {
-        Kind::Fixed => as_step(ops_fixed::apply(regs, core, i, y)),
-        Kind::Logic => as_step(ops_logic::apply(regs, core, i, y)),
-        Kind::Index => as_step(ops_index::apply(regs, core, i, y)),
+        Kind::Fixed => as_step(operations::fixed::apply(regs, core, i, y)),
+        Kind::Logic => as_step(operations::logic::apply(regs, core, i, y)),
+        Kind::Index => as_step(operations::index::apply(regs, core, i, y)),
         Kind::Tia => match core.load(y) {
             Ok(word) => Stepped::Entry(word),
             Err(_) => Stepped::Outside(y),

@@ -9,8 +9,8 @@ use Rattle.ctss_modes.specs.Outcomes.{bare, IsOneOf}
 use Rattle.ctss_modes.specs.Top.{statuses_asked}
 use Rattle.ctss_modes.specs.Answer.{Answers}
 use Rattle.ctss_modes.specs.Devices.{OutputSeen}
-use Rattle.outcome_text.specs.Explained.{explained}
-use Rattle.outcome_text.specs.Said.{Says}
+use Rattle.command_line.specs.Explained.{explained}
+use Rattle.command_line.specs.Said.{Says}
 use Rattle.ctss_modes.proofs.Answering.{no_memory as none_done}
 use Rattle.ctss_main.specs.Program.{HandedSeen, with_media, blank, IsAnswered}
 

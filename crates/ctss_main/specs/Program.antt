@@ -8,8 +8,8 @@ use Rattle.ctss_modes.specs.declared.outcome.Outcome.{Outcome}
 use Rattle.ctss_modes.specs.Outcomes.{IsOneOf}
 use Rattle.ctss_modes.specs.Devices.{InputSeen, input_seen, OutputSeen, output_seen, DevicesSeen, devices}
 use Rattle.ctss_modes.specs.Answer.{Answers}
-use Rattle.outcome_text.specs.Explained.{explained}
-use Rattle.outcome_text.specs.Said.{Says}
+use Rattle.command_line.specs.Explained.{explained}
+use Rattle.command_line.specs.Said.{Says}
 
 -- what is seen of what the program is handed
 pub record HandedSeen : Type 0 where

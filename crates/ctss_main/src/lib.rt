@@ -4,10 +4,10 @@
 
 mod program;
 
+use command_line::outcome::explain;
 use command_line::program_words;
 use console_link::MioLink;
 use ctss_io::{StdSink, StdSource};
-use outcome_text::explain;
 pub use program::run_program;
 use std::io;
 

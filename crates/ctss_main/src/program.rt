@@ -1,11 +1,11 @@
 //! The top call over a drum and a disk in memory.
 ghost use Rattle.ctss_main.specs.Program.{IsAnswered, handed};
 
+use command_line::outcome::explain;
 use console_link::Link;
 use ctss_io::{Sink, Source};
 use ctss_top::{ArgList, run_ctss};
 use medium::PlainMedium;
-use outcome_text::explain;
 use std::alloc::Global;
 
 /// What the words ask for, done over a drum of 3840 records of 256 words and a disk of 10000 of 432. Answers the status; 8 too where

@@ -7,3 +7,4 @@ pub mod Allowed
 pub mod Complete
 pub mod Answering
 pub mod Unread
+pub mod Faults

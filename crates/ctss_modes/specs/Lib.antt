@@ -6,3 +6,4 @@ pub mod Asm
 pub mod Top
 pub mod Answer
 pub mod Unread
+pub mod Faults

@@ -16,9 +16,9 @@ ghost use Rattle.ctss_modes.specs.Top.{IsSilent};
 ghost use Rattle.ctss_modes.specs.Asm.{assembled_from, IsDeckOf, AreFaultsOf, DeckIsWritten, CardsAreRefused, InputIsTooLong};
 ghost use Rattle.ctss_modes.specs.Asm.{IsCutOfCards, CardsAreCutOff, statuses_by, statuses_for_cards};
 
+use crate::assembly_text::{DeckText, FaultsText};
 use crate::outcome::Outcome;
 use crate::write::end_unread;
-use assembly_text::{DeckText, FaultsText};
 use ctss_io::{Sink, Source, read_bytes};
 use fap_assemble::{AsmFault, CardFault, Deck, assemble};
 use fap_read::cards_of_text;

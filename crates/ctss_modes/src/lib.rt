@@ -4,6 +4,7 @@
 
 mod answer;
 mod asm;
+pub mod assembly_text;
 mod live;
 mod modes;
 mod outcome;

@@ -12,17 +12,19 @@ ghost use Rattle.time_sharing.specs.Rows.{out_all, some_line};
 ghost use Rattle.user_model.specs.Session.{quit_text};
 ghost use Rattle.user_model.specs.Texts.{time_text, ready_text, stop_text, logged_in_text, logged_out_text};
 
+pub mod line_buffer;
 mod notes;
+pub mod session_text;
 
+use crate::line_buffer::Lines;
+pub use crate::line_buffer::Put;
 use crate::notes::{
     note, note_command, note_end, note_lines, note_read, note_ready, note_stop, note_taken,
 };
+use crate::session_text::{logged_in_text, logged_out_text, ready_text};
 use ctss_types::{Item, Items, LineText, NoMemory, Sequence};
-use line_buffer::Lines;
-pub use line_buffer::Put;
 use program_model::ProgramState;
 use runcom::CommandLines;
-use session_text::{logged_in_text, logged_out_text, ready_text};
 use std::alloc::Global;
 use std::marker::Model;
 use word36::Word;

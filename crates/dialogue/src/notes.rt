@@ -6,8 +6,8 @@ ghost use Rattle.time_sharing.specs.Machine.{In, Out};
 ghost use Rattle.time_sharing.specs.Rows.{out_all};
 ghost use Rattle.user_model.specs.Texts.{time_text, ready_text, stop_text};
 
+use crate::session_text::{ready_text, stop_text, time_text};
 use ctss_types::{Item, LineText};
-use session_text::{ready_text, stop_text, time_text};
 
 /// An item more.
 pub(crate) fn note(items: &mut Vec<Item>, item: Item)

@@ -4,8 +4,8 @@ ghost use Rattle.core_bank.specs.Bank.{AreWords};
 ghost use Rattle.image_map.specs.Windows.{window};
 
 use core_bank::Bank;
+use core_bank::reloc_protect::Registers;
 use cpu_regs::{MemoryPort, Outside};
-use reloc_protect::Registers;
 use word36::Word;
 
 /// The words of so many blocks of a bank from a place on, as a program loads and stores them: through the

@@ -8,7 +8,7 @@ use Rattle.user_model.specs.Inner.{blocks_of}
 use Rattle.plan_model.specs.Levels.{chosen, user_of, level_in}
 use Rattle.plan_model.specs.Loads.{dumps, reads, clears}
 use Rattle.plan_model.specs.Plan.{must_load}
-use Rattle.schedule_model.specs.Sums.{dumped_in, read_in}
+use Rattle.time_sharing.specs.Sums.{dumped_in, read_in}
 use Rattle.system_model.specs.Run.{Run, AfterSteps, next, otherwise, attended, rising, by_rising, by_due, due_of}
 use Rattle.system_model.specs.Record.{start_of, record_of}
 use Rattle.system_model.specs.Cases.{user_at, brought}

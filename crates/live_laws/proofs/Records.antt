@@ -2,7 +2,7 @@
 use Rattle.std.proofs.Common.{◌≡◌, ℕ, List, [], ◌++◌, Option, Some, None, refl, sym, ap, ◌∙◌, arith}
 use Rattle.medium.specs.Medium.{CallList}
 use Rattle.time_sharing.specs.System.{Entry, Service}
-use Rattle.schedule_model.specs.Sums.{dumped_in, read_in}
+use Rattle.time_sharing.specs.Sums.{dumped_in, read_in}
 use Rattle.user_model.specs.Inner.{Stored}
 use Rattle.system_model.specs.Run.{Run, ended}
 use Rattle.system_model.specs.Cases.{closed, end_notes, idle_notes}

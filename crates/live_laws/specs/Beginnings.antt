@@ -5,7 +5,7 @@ use Rattle.ctss_types.specs.declared.history.Record.{Record}
 use Rattle.system_model.specs.Run.{Run, AfterSteps, with_all_events}
 use Rattle.system_model.specs.Record.{start_of, record_of}
 use Rattle.system_model.specs.Sound.{Sound}
-use Rattle.schedule_model.specs.Sums.{dumped_in, read_in}
+use Rattle.time_sharing.specs.Sums.{dumped_in, read_in}
 use Rattle.supervisor.specs.Counts.{calls_to_load}
 use Rattle.supervisor.specs.Seen.{record_so_far}
 use Rattle.supervisor.specs.Steps.{LoadIsNext}

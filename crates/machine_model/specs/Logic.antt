@@ -2,7 +2,7 @@
 use Rattle.std.specs.Prelude.{ℕ, ◌*◌, ◌%◌, ◌^◌, List, bit_and, bit_or, bit_xor}
 use Rattle.word36.specs.Bits.{logical_of}
 use Rattle.arith36.specs.Arith.{logical_sum, compared_logical}
-use Rattle.shift36.specs.Shift.{acc_left, acc_right, long_left, long_right, logical_left, logical_right, turned}
+use Rattle.arith36.specs.Shift.{acc_left, acc_right, long_left, long_right, logical_left, logical_right, turned}
 use Rattle.cpu_regs.specs.declared.regs.Regs.{Regs}
 use Rattle.cpu_regs.specs.Registers.{skip, skip_if, jump_if}
 use Rattle.opcode_table.specs.declared.op.Op.{Op}

@@ -7,7 +7,7 @@ use Rattle.arith36.specs.declared.Sum.{Sum}
 use Rattle.arith36.specs.declared.Pair.{Pair}
 use Rattle.arith36.specs.declared.Side.{Side}
 use Rattle.arith36.specs.declared.Side.TheVariants.{Greater, Equal, Less}
-use Rattle.shift36.specs.declared.Shifted.{Shifted}
+use Rattle.arith36.specs.declared.shift.Shifted.{Shifted}
 use Rattle.opcode_table.specs.declared.op.Instr.{Instr}
 
 -- the next registers and core, or why there are none: a supervisor entry with its word, a word that is no instruction,

@@ -1,5 +1,5 @@
+use cpu_regs::plain::PlainCore;
 use cpu_regs::{MemoryPort, Outside};
-use plain_core::PlainCore;
 use std::process::Abort;
 use std::test::Fail;
 use word36::Word;

@@ -1,5 +1,5 @@
 use crate::rows::holds;
-use reloc_protect::{Outside, Registers};
+use core_bank::reloc_protect::{Outside, Registers};
 
 // The first block and the blocks of a program, an address, and where that lies in core.
 static ADDRESSES: [(u8, u8, u16, Result<u16, Outside>); 16] = [

@@ -1,7 +1,7 @@
 use crate::rows::holds;
 use crate::signed::{Signed, acc_of, word_of};
 use arith36::Sum;
-use shift36::{Shifted, als, ars, lgl, lgr, lls, lrs, rql};
+use arith36::shift::{Shifted, als, ars, lgl, lgr, lls, lrs, rql};
 use std::process::Abort;
 use word36::{Acc, Word};
 

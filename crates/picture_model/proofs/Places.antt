@@ -3,8 +3,8 @@ use Rattle.std.proofs.Common.{◌≡◌, ℕ, ◌+◌, ◌-◌, ◌*◌, ◌≤�
 use Rattle.ctss_types.specs.declared.history.Entry.{Entry}
 use Rattle.ctss_types.specs.declared.history.Entry.TheVariants.{Taken, Login, Refused, Idle, Swap, Rise, Serve, Clock, Common}
 use Rattle.system_model.specs.Record.{record_of}
-use Rattle.tick_laws.specs.Spans.{Span, spans, JoinFrom}
-use Rattle.tick_laws.proofs.Loaded.{ticks_join}
+use Rattle.record_laws.specs.Spans.{Span, spans, JoinFrom}
+use Rattle.record_laws.proofs.Loaded.{ticks_join}
 use Rattle.picture_model.specs.Folds.{all_cut, place_spans, PlacesJoin}
 
 -- the same spans between equal ends

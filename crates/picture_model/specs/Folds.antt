@@ -5,7 +5,7 @@ use Rattle.ctss_types.specs.declared.history.Record.{Record}
 use Rattle.ctss_types.specs.declared.history.Entry.{Entry}
 use Rattle.ctss_types.specs.declared.history.Entry.TheVariants.{Idle, Swap, Serve}
 use Rattle.system_model.specs.Record.{record_of}
-use Rattle.tick_laws.specs.Spans.{Span, JoinFrom}
+use Rattle.record_laws.specs.Spans.{Span, JoinFrom}
 
 -- how many ticks of one idle time are shown, at most
 abbrev pub most_idle : ℕ

@@ -1,7 +1,7 @@
 -- proof: the sums that the code has, over a schedule.
 use Rattle.std.specs.Prelude.{◌≡◌, ◌≤◌, ℕ, List}
 use Rattle.ctss_types.specs.declared.history.Entry.{Entry}
-use Rattle.schedule_model.specs.Sums.{serves_in, swaps_in, dumped_in, read_in, steps_in}
+use Rattle.time_sharing.specs.Sums.{serves_in, swaps_in, dumped_in, read_in, steps_in}
 use Rattle.report_text.specs.declared.schedule.Sums.{Sums}
 
 abbrev pub TheEntries : Type 0

@@ -12,7 +12,7 @@ use ctss_io::Sink;
 use ctss_types::{FileBody, FileName, LineText};
 use itoa::Buffer;
 use text_writer::TextWriter;
-use word_cards::add_word_cards;
+use text_writer::cards::add_word_cards;
 use word36::Word;
 
 /// The six characters of a word, the blanks behind a name included.

@@ -1,5 +1,5 @@
 ghost use Rattle.std.specs.Prelude.{◌≡◌, ◌+◌, ◌^◌, ◌∷◌, ℕ};
-ghost use Rattle.schedule_model.specs.Sums.{steps_of};
+ghost use Rattle.time_sharing.specs.Sums.{steps_of};
 ghost use Rattle.report_text.specs.Sums.{AreSums, AreBelow, TheEntries};
 
 use ctss_types::{Cause, Entry};

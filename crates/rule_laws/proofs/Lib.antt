@@ -13,3 +13,4 @@ pub mod EndCards
 pub mod AssemblyLaws
 pub mod SavedLaws
 pub mod RowsComputed
+mod Operations

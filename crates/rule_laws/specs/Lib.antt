@@ -5,3 +5,4 @@ pub mod Cards
 pub mod Assembly
 pub mod SavedPrograms
 pub mod Rows
+pub mod Operations

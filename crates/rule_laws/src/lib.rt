@@ -6,6 +6,8 @@
 //! or a row.
 #![tactic(auto)]
 
+pub mod machine;
+
 ghost use Rattle.rule_laws.specs.Levels.{LevelFits};
 ghost use Rattle.rule_laws.specs.Words.{CodeIsBack};
 ghost use Rattle.rule_laws.specs.Decks.{DeckIsLaid, SegmentsAreStored};

@@ -1,1 +1,3 @@
 mod Drawn
+mod Loads
+mod Runs

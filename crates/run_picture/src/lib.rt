@@ -3,6 +3,7 @@
 //! The definitions stand in picture_model, and what the program answers in `specs/Asked`.
 #![tactic(auto)]
 
+pub mod core_maps;
 mod form;
 mod text;
 

@@ -7,7 +7,7 @@ ghost use Rattle.text_writer.specs.Writing.{Adds};
 ghost use Rattle.ctss_modes.specs.Devices.{output_seen};
 ghost use Rattle.script_show.specs.Shown.{ShowsRun};
 
-use core_maps::core_maps;
+use crate::core_maps::core_maps;
 use ctss_io::Sink;
 use ctss_types::{Record, Script};
 use schedule_chart::add_chart;

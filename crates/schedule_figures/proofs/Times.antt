@@ -3,7 +3,7 @@ use Rattle.std.proofs.Common.{◌≡◌, ℕ, ◌+◌, ◌-◌, ◌*◌, List, [
 use Rattle.std.proofs.lemmas.List.{map-append, take_more}
 use Rattle.ctss_types.specs.declared.history.Entry.{Entry}
 use Rattle.ctss_types.specs.declared.history.Entry.TheVariants.{Taken, Login, Refused, Idle, Swap, Rise, Serve, Clock, Common}
-use Rattle.tick_laws.specs.Spans.{served_in, swapping_in, idle_in}
+use Rattle.record_laws.specs.Spans.{served_in, swapping_in, idle_in}
 use Rattle.picture_model.specs.Figures.{total}
 use Rattle.schedule_figures.proofs.Tallies.{sum_first, sum_more}
 use Rattle.schedule_figures.specs.Time.{served_of, moved_of, idle_of}

@@ -7,8 +7,8 @@ ghost use Rattle.text_writer.specs.Writing.{Adds};
 
 use ctss_io::Sink;
 use ctss_types::{Account, Event, FileBody, OwnedFile, Params, Script, Timed};
+use text_writer::cards::add_word_cards;
 use text_writer::{Text, TextWriter};
-use word_cards::add_word_cards;
 use word36::Word;
 
 /// Adds the age of the PARAM card, which 0 leaves out.

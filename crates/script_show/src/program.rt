@@ -1,13 +1,13 @@
 //! Such a program, but for its `main`.
 ghost use Rattle.std.specs.Prelude.{if◌then◌else◌, nat_eq};
-ghost use Rattle.outcome_text.specs.Explained.{explained};
-ghost use Rattle.outcome_text.specs.Said.{Says};
+ghost use Rattle.command_line.specs.Explained.{explained};
+ghost use Rattle.command_line.specs.Said.{Says};
 ghost use Rattle.text_model.specs.Parts.{line};
 
+use command_line::outcome::{explain, say_line};
 use command_line::{ArgList, program_words};
 use ctss_io::{Sink, Source, StdSink, StdSource};
 use ctss_modes::Outcome;
-use outcome_text::{explain, say_line};
 use std::alloc::Global;
 use std::io;
 

@@ -3,9 +3,9 @@ ghost use Rattle.std.specs.Prelude.{◌≡◌, ◌*◌, ◌<◌, ◌≤◌, ◌^
 ghost use Rattle.step_cases.specs.Fields.{ReadsBelow, AreRegisters, acc_of};
 ghost use Rattle.step_cases.specs.Texts.{IsEndText};
 
+use cpu_regs::plain::PlainCore;
 use cpu_regs::{MemoryPort, Regs};
 use cpu_step::Stepped;
-use plain_core::PlainCore;
 use std::alloc::{AllocError, Global};
 use std::fmt::Write;
 use thiserror::Error;

@@ -15,8 +15,8 @@ ghost use Rattle.machine_model.specs.Runs.{many};
 
 use case::{Case, read_case, result_text};
 use cpu_regs::Regs;
+use cpu_regs::plain::PlainCore;
 use cpu_step::{Stepped, step};
-use plain_core::PlainCore;
 use std::io::{self, BufRead, BufReader, BufWriter, Write};
 
 /// Does so many steps, and gives how the last one ended.

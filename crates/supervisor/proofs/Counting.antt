@@ -6,7 +6,7 @@ use Rattle.image_map.specs.Loads.{with_calls, cut, count_writes, count_reads}
 use Rattle.image_map.proofs.Calls.{with_calls-append}
 use Rattle.user_cores.specs.Swaps.{IsMade, IsCutOff}
 use Rattle.system_model.specs.Run.{Run}
-use Rattle.schedule_model.specs.Sums.{dumped_in, read_in}
+use Rattle.time_sharing.specs.Sums.{dumped_in, read_in}
 use Rattle.system_model.proofs.SwapLaws.{Moves}
 use Rattle.supervisor.specs.Counts.{IsCounted, IsCountedToLoad}
 

@@ -7,7 +7,7 @@ use Rattle.plan_model.specs.Loads.{dumps, reads}
 use Rattle.user_model.specs.Inner.{blocks_of}
 use Rattle.system_model.specs.Run.{Run}
 use Rattle.system_model.specs.Cases.{user_at}
-use Rattle.schedule_model.specs.Sums.{dumped_in, read_in}
+use Rattle.time_sharing.specs.Sums.{dumped_in, read_in}
 
 -- Between two moments the drum was called just as the loads say that the schedule gained: a write for each block that was
 -- dumped, a read for each that was read, where the drum tells its calls.

@@ -17,7 +17,9 @@ ghost use Rattle.supervisor.specs.Steps.{IsLeft, Lasts};
 ghost use Rattle.supervisor.specs.Whole.{whole, run_of, Holds, HasBlocks, StepsBy, IsSame, StepsOn, AreTied, AreCounted, AreCountedBy, LoadIsCut, AbsentIsCut, ServedIsCut, NextIsCut, NeverCut, Steps};
 
 use crate::state::State;
-use ctss_types::{Apart, CommonOp, Ending, Entry, NoMemory, RunFault, Service, StepFault, Timed, UserNo};
+use ctss_types::{
+    Apart, CommonOp, Ending, Entry, NoMemory, RunFault, Service, StepFault, Timed, UserNo,
+};
 use level_queues::Chosen;
 use user_cores::{Backing, Made, settle};
 use user_session::Turn;
@@ -92,7 +94,12 @@ impl State {
 
     /// A step of the user that is served, whose blocks are in core, makes its operation on the common files and goes on with
     /// the reply.
-    fn make_shared<C: Backing>(&mut self, cores: &mut C, v: Service, op: Apart<CommonOp>) -> Result<(), RunFault>
+    fn make_shared<C: Backing>(
+        &mut self,
+        cores: &mut C,
+        v: Service,
+        op: Apart<CommonOp>,
+    ) -> Result<(), RunFault>
         requires usable { C.Usable cores.old }
         requires held { Holds (whole self.old (C.state cores.old)) }
         requires user { IsUser v.user (run_of (whole self.old (C.state cores.old))) }

@@ -7,7 +7,7 @@ use Rattle.system_model.specs.Run.{Run, taken, rise, rising, rise_of, raised}
 use Rattle.system_model.specs.Cases.{user_at, idle_notes, stop_notes, heard, line_taken, quit_taken, hang_taken, spent_taken, cut_taken, login_taken, dial_taken, idled, broken_off, waited}
 use Rattle.system_model.specs.Joined.{counted, moved}
 use Rattle.system_model.specs.Sound.{Sound, HasSeat}
-use Rattle.schedule_model.specs.Sums.{dumped_in, read_in}
+use Rattle.time_sharing.specs.Sums.{dumped_in, read_in}
 use Rattle.system_model.proofs.EventLaws.{by_event}
 
 -- the moves of two parts of a schedule add up

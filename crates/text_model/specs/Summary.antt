@@ -3,7 +3,7 @@ use Rattle.std.specs.Prelude.{ℕ, List, ◌++◌, codes, length, sum, map}
 use Rattle.ctss_types.specs.declared.script.Script.{Script}
 use Rattle.ctss_types.specs.declared.history.Record.{Record}
 use Rattle.ctss_types.specs.declared.history.Item.{Item}
-use Rattle.schedule_model.specs.Sums.{serves_in, swaps_in, dumped_in, read_in, steps_in}
+use Rattle.time_sharing.specs.Sums.{serves_in, swaps_in, dumped_in, read_in, steps_in}
 use Rattle.text_model.specs.Parts.{line, number}
 
 -- all items of all transcripts

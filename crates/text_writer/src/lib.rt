@@ -1,6 +1,7 @@
 //! Texts on their way to a sink, piece by piece, in the parts that lines are made of.
 #![tactic(auto)]
 
+pub mod cards;
 mod digits;
 mod parts;
 mod piece;

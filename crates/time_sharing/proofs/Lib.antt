@@ -15,3 +15,4 @@ pub mod Given
 pub mod Late
 pub mod Lockstep
 pub mod TextsLaws
+pub mod RowsComputed

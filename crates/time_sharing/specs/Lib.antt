@@ -9,3 +9,5 @@ pub mod Record
 pub mod Claims
 pub mod Commons
 pub mod Texts
+pub mod Sums
+pub mod SumsRows

@@ -1,6 +1,8 @@
 //! Users of a time-sharing machine, each isolated from the others, over any private machine.
 #![tactic(auto)]
 
+pub mod sums;
+
 ghost use Rattle.time_sharing.specs.Claims.{AllIsolated, RowsIsolated, AllRunsEnd, CommonsAreOne, RunsInParts, FeedsDecide, EachMomentIsAlone, LateEventsWait, WatchingIsStill};
 
 /// Each user is isolated, whatever the types of states, plans and files are.

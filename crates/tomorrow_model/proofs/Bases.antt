@@ -16,9 +16,9 @@ use Rattle.text_model.specs.Drafts.{quota_of}
 use Rattle.text_model.specs.Lawful.{is_name_character, IsName, IsLawfulFile, IsLawfulEvent, IsLawful}
 use Rattle.text_model.specs.Reading.{names_differ, IsInRange}
 use Rattle.system_model.specs.Record.{record_of}
-use Rattle.file_laws.specs.Rules.{KeepsRules}
-use Rattle.file_laws.proofs.Changes.{fewer_keep}
-use Rattle.file_laws.proofs.Directories.{directories_keep_rules}
+use Rattle.record_laws.specs.Rules.{KeepsRules}
+use Rattle.record_laws.proofs.Changes.{fewer_keep}
+use Rattle.record_laws.proofs.Directories.{directories_keep_rules}
 use Rattle.tomorrow_model.specs.Tomorrow.{is_card_name, is_kept, files_kept, next_base}
 use Rattle.tomorrow_model.specs.Laws.{HoldsWords, NextBasesAreLawful}
 use Rattle.tomorrow_model.proofs.Kept.{files_of_kept, each_of_kept, all_of_kept}

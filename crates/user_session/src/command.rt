@@ -22,9 +22,9 @@ use cmd_program::{PrepareFault, prepare};
 use command_table::command_of;
 use cpu_regs::{MemoryPort, Regs};
 use ctss_types::{CommonOp, Ending, FileName, LineText, NoMemory, StepFault, name_word};
+use dialogue::session_text::load_text;
 use file_map::FilePort;
 use program_model::{Deck, Fill, LoadFault, ProgramState};
-use session_text::load_text;
 use user_model::Command;
 use word36::Word;
 

@@ -20,10 +20,10 @@ use crate::{Step, Turn};
 use cmd_program::{register_lines, word_line};
 use cpu_regs::MemoryPort;
 use ctss_types::{Ending, LineText, NoMemory};
+use dialogue::session_text::ready_text;
 use fap_debug::{Debug, parse};
 use file_map::FilePort;
 use program_model::{DebugLine, ProgramState};
-use session_text::ready_text;
 use word36::Word;
 
 /// What the debugger does that lets the program go.

@@ -23,9 +23,9 @@ use crate::session::Session;
 use crate::{Step, Turn};
 use cpu_regs::{MemoryPort, Regs};
 use ctss_types::{CommonOp, Ending, NoMemory, StepFault};
+use dialogue::session_text::ready_text;
 use file_map::FilePort;
 use program_model::{Call, EntryFault, ProgramState};
-use session_text::ready_text;
 use tia_entry::{
     answer, is_get_memory, is_get_time, is_line_count, line_in, read_call, store_line,
 };

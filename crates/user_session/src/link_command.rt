@@ -16,9 +16,9 @@ use cmd_program::{LinkFilesFault, link_files};
 use command_table::word_name;
 use cpu_regs::MemoryPort;
 use ctss_types::{LineText, NoMemory, Sequence, StepFault, WordList, first_word};
+use dialogue::session_text::link_text;
 use file_map::FilePort;
 use link_model::LinkRefusal;
-use session_text::link_text;
 use std::alloc::Global;
 use word36::Word;
 

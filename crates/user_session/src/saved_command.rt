@@ -16,9 +16,9 @@ use cmd_program::{PrepareFault, prepare_saved, register_lines, saved_words, word
 use command_table::is_dormant;
 use cpu_regs::MemoryPort;
 use ctss_types::{Ending, FileName, LineText, NoMemory, StepFault, name_word};
+use dialogue::session_text::load_text;
 use file_map::FilePort;
 use program_model::{Fill, LoadFault, ProgramState};
-use session_text::load_text;
 use word36::Word;
 
 /// The file that a program of this name is saved in.

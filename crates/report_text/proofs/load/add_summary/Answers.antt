@@ -1,6 +1,6 @@
 use Rattle.std.specs.Prelude.{codes}
 use Rattle.std.proofs.Common.{ap, ◌∙◌}
-use Rattle.schedule_model.specs.Sums.{serves_in, swaps_in, dumped_in, read_in, steps_in}
+use Rattle.time_sharing.specs.Sums.{serves_in, swaps_in, dumped_in, read_in, steps_in}
 use Rattle.text_model.specs.Summary.{items_in, counted, summary_of}
 use Rattle.text_writer.proofs.Added.{◌⨾◌, adds_is}
 use Rattle.report_text.proofs.load.add_summary.Goals as goal

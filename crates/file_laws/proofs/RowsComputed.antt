@@ -1,6 +1,0 @@
--- The row of specs/Rows, by computing.
-use Rattle.std.proofs.Common.{refl}
-use Rattle.file_laws.specs.Rows.{RowOfRules}
-
-pub row_of_rules : RowOfRules
-row_of_rules = record { differ = refl; tracks = refl; repeated = refl }

@@ -1,0 +1,8 @@
+pub mod Spans
+pub mod Worlds
+pub mod Laws
+pub mod Rows
+pub mod Others
+pub mod Rules
+pub mod FilesLaws
+pub mod FilesRows

@@ -1,0 +1,9 @@
+//! Whose each place of core was behind each load of a script's run: the run is done once for its schedule, and once more to
+//! look at its core behind each load.
+//!
+//! The definitions are those of picture_model `Cores`.
+mod maps;
+mod ticks;
+mod watch;
+
+pub use maps::core_maps;

@@ -1,6 +1,0 @@
--- The worked rows by computing.
-use Rattle.std.proofs.Common.{refl}
-use Rattle.schedule_model.specs.Rows.{RowOfSums}
-
-pub row_of_sums : RowOfSums
-row_of_sums = record { swaps = refl; dumped = refl; read = refl; serves = refl; steps = refl }

@@ -1,5 +1,0 @@
-pub mod Sums
-pub mod Cover
-pub mod Loaded
-pub mod RowsComputed
-mod OthersComputed

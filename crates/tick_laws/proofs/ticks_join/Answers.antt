@@ -1,5 +1,0 @@
-use Rattle.tick_laws.proofs.Loaded as laws
-use Rattle.tick_laws.proofs.ticks_join.Goals as goal
-
-pub returns : goal.returns
-returns c = laws.ticks_join

@@ -1,5 +1,0 @@
-pub mod Spans
-pub mod Worlds
-pub mod Laws
-pub mod Rows
-pub mod Others

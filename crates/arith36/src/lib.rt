@@ -1,4 +1,4 @@
-//! Arithmetic of the accumulator, as the machine's reference manual has it: exact in sign and magnitude, with plus
+//! Arithmetic and shifts of the accumulator, as the machine's reference manual has it: exact in sign and magnitude, with plus
 //! and minus zero, and with the overflow that an operation sets.
 #![tactic(auto)]
 

@@ -1,4 +1,5 @@
-//! The words of a core: 32768 words of 36 bits, in 128 blocks of 256.
+//! The words of a core: 32768 words of 36 bits, in 128 blocks of 256; and the relocation and protection registers through
+//! which a program reaches its blocks of it (`reloc_protect`).
 #![tactic(auto)]
 
 ghost use Rattle.std.specs.Prelude.{◌≡◌, ◌≢◌, ◌<◌, ◌≤◌, ◌+◌, ◌*◌, ◌^◌, ℕ, length, replicate, slice_index, slice_range, slice_set, IfOk};

@@ -1,4 +1,5 @@
-//! The registers of a program, and the port through which it reaches its core.
+//! The registers of a program, the port through which it reaches its core, and a core of its own for tests and cases
+//! (`plain`).
 #![tactic(auto)]
 
 mod index;

@@ -1,5 +1,7 @@
 //! What a user and the system say to each other: the transcript, and the lines that were typed ahead and are not read yet.
 //!
+//! The lines that were typed ahead are kept by `line_buffer`, those that a session writes of its own are made by `session_text`.
+//!
 //! What is written needs room: `reserve` takes it, and the calls that write ask for it, so that they can't fail.
 #![tactic(auto)]
 

@@ -1,4 +1,5 @@
-//! What each instruction does, by groups: arithmetic, logic, and index registers with transfers.
+//! What each instruction does, by groups: loads, stores and fixed-point arithmetic (`fixed`); logic, shifts and sense
+//! indicators (`logic`); index registers, transfers and stops (`index`).
 #![tactic(auto)]
 
 pub mod fixed;

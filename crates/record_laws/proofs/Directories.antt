@@ -23,7 +23,7 @@ use Rattle.system_model.specs.Round.{round}
 use Rattle.system_model.specs.Record.{record_of, first_of_user}
 use Rattle.system_model.proofs.AloneLaws.{users_are_alone, commons_are_one}
 use Rattle.record_laws.specs.Rules.{KeepsRules}
-use Rattle.record_laws.specs.FilesLaws.{DirectoriesKeepRules}
+use Rattle.record_laws.specs.DirectoryLaws.{DirectoriesKeepRules}
 use Rattle.record_laws.proofs.Changes.{Gives, none_keeps, written_keeps, put_keeps, deleted_keeps}
 use Rattle.record_laws.proofs.Steps.{KeepsFiles, any_step_keeps, cut_keeps}
 use Rattle.record_laws.proofs.Machines.{EachKeeps, alone_keeps}

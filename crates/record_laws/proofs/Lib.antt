@@ -8,4 +8,4 @@ pub mod Changes
 pub mod Steps
 pub mod Machines
 pub mod Directories
-pub mod FilesRowsComputed
+pub mod DirectoryRowsComputed

@@ -4,5 +4,5 @@ pub mod Laws
 pub mod Rows
 pub mod Others
 pub mod Rules
-pub mod FilesLaws
-pub mod FilesRows
+pub mod DirectoryLaws
+pub mod DirectoryRows

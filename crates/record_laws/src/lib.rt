@@ -1,12 +1,12 @@
-//! What the entries of a record cover of its time: services, loads and idle times join end to end, and so add up to its
-//! clock.
+//! Laws of every record. What its entries cover of its time: services, loads and idle times join end to end, and so add up
+//! to its clock. What its directories keep to (`file_rules`): modes, names that differ, and the quota of tracks.
 //!
 //! The definitions stand in `specs/`: `Spans` (what entries cover, and how long), `Worlds` (what the law of every world
 //! asks of one), `Laws` (both laws), `Rows` (a worked row), `Others` (another: two
 //! scripts that differ in one user alone). The functions here do nothing: each carries a law or a row.
 #![tactic(auto)]
 
-pub mod files;
+pub mod file_rules;
 
 ghost use Rattle.record_laws.specs.Laws.{AllTicksJoin, TicksJoin};
 ghost use Rattle.record_laws.specs.Others.{RowOfOthers};

@@ -2,8 +2,8 @@
 //!
 //! The words of these laws stand in `specs/`: `Levels` (the level that fits), `Words` (the words of instructions),
 //! `Decks` (segments laid end to end, and what they leave in a core), `Cards` (places and symbols), `Assembly` (the
-//! assembler's decks as the loader reads them), `SavedPrograms` (saved and resumed), `Rows` (worked rows). The functions here do nothing: each carries a law
-//! or a row.
+//! assembler's decks as the loader reads them), `SavedPrograms` (saved and resumed), `Operations` (the machine by its
+//! operations, without the decoder), `Rows` (worked rows). The functions here do nothing: each carries a law or a row.
 #![tactic(auto)]
 
 pub mod machine;

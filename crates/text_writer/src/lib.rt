@@ -1,4 +1,5 @@
-//! Texts on their way to a sink, piece by piece, in the parts that lines are made of.
+//! Texts on their way to a sink, piece by piece, in the parts that lines are made of; and words of the machine
+//! as cards.
 #![tactic(auto)]
 
 pub mod cards;

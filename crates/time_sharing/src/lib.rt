@@ -1,4 +1,4 @@
-//! Users of a time-sharing machine, each isolated from the others, over any private machine.
+//! Users of a time-sharing machine, each isolated from the others, over any private machine; and sums over its schedule.
 #![tactic(auto)]
 
 pub mod sums;

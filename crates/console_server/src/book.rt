@@ -25,8 +25,10 @@ impl<C: LiveCore> Book<C> {
     ) -> Result<(), NoMemory>
         requires ready { (C.seen self.old.core).is_ended ≡ false }
         requires sound { C.Sound self.old.core }
-        ensures ok { OnOk result (IsGiven C.Goes (timed tick console event ∷ []) self.old.core self.new.core self.old.events.items self.new.events.items) }
-        ensures err { OnErr result (IsGiven C.Goes [] self.old.core self.new.core self.old.events.items self.new.events.items) }
+        ensures ok { OnOk result (IsGiven C.Goes (timed tick console event ∷ []) self.old.core self.new.core
+            self.old.events.items self.new.events.items) }
+        ensures err { OnErr result (IsGiven C.Goes [] self.old.core self.new.core self.old.events.items
+            self.new.events.items) }
         ensures ready { (C.seen self.new.core).is_ended ≡ false }
         ensures same { C.seen self.new.core ≡ C.seen self.old.core }
         ensures sound { C.Sound self.new.core }
@@ -59,9 +61,12 @@ impl<C: LiveCore> Book<C> {
     ) -> Result<(), NoMemory>
         requires ready { (C.seen self.old.core).is_ended ≡ false }
         requires sound { C.Sound self.old.core }
-        ensures ok { (piece : List ℕ) → wire.old ≡ half_of piece → OnOk result (IsGiven C.Goes (all_timed tick console (items_at piece byte)) self.old.core self.new.core self.old.events.items self.new.events.items) }
+        ensures ok { (piece : List ℕ) → wire.old ≡ half_of piece
+            → OnOk result (IsGiven C.Goes (all_timed tick console (items_at piece byte)) self.old.core self.new.core
+            self.old.events.items self.new.events.items) }
         ensures half { (piece : List ℕ) → wire.old ≡ half_of piece → wire.new ≡ half_of (piece_after piece byte) }
-        ensures err { OnErr result (IsGiven C.Goes [] self.old.core self.new.core self.old.events.items self.new.events.items) }
+        ensures err { OnErr result (IsGiven C.Goes [] self.old.core self.new.core self.old.events.items
+            self.new.events.items) }
         ensures ready { (C.seen self.new.core).is_ended ≡ false }
         ensures same { C.seen self.new.core ≡ C.seen self.old.core }
         ensures sound { C.Sound self.new.core }
@@ -84,9 +89,14 @@ impl<C: LiveCore> Book<C> {
     ) -> Result<(), NoMemory>
         requires ready { (C.seen self.old.core).is_ended ≡ false }
         requires sound { C.Sound self.old.core }
-        ensures ok { (piece : List ℕ) → wire.old ≡ half_of piece → OnOk result (IsGiven C.Goes (all_timed tick console (items_from piece bytes.now)) self.old.core self.new.core self.old.events.items self.new.events.items) }
-        ensures half { (piece : List ℕ) → wire.old ≡ half_of piece → OnOk result (wire.new ≡ half_of (piece_from piece bytes.now)) }
-        ensures err { (piece : List ℕ) → wire.old ≡ half_of piece → OnErr result (IsGivenPart C.Goes (all_timed tick console (items_from piece bytes.now)) self.old.core self.new.core self.old.events.items self.new.events.items) }
+        ensures ok { (piece : List ℕ) → wire.old ≡ half_of piece
+            → OnOk result (IsGiven C.Goes (all_timed tick console (items_from piece bytes.now)) self.old.core
+            self.new.core self.old.events.items self.new.events.items) }
+        ensures half { (piece : List ℕ) → wire.old ≡ half_of piece
+            → OnOk result (wire.new ≡ half_of (piece_from piece bytes.now)) }
+        ensures err { (piece : List ℕ) → wire.old ≡ half_of piece
+            → OnErr result (IsGivenPart C.Goes (all_timed tick console (items_from piece bytes.now)) self.old.core
+            self.new.core self.old.events.items self.new.events.items) }
         ensures ready { (C.seen self.new.core).is_ended ≡ false }
         ensures same { C.seen self.new.core ≡ C.seen self.old.core }
         ensures sound { C.Sound self.new.core }

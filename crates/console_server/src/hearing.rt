@@ -22,8 +22,12 @@ pub(crate) fn hear<C: LiveCore, L: Link>(
     requires here { SeatIsOpen (L.seen link.old).is_open seat.old }
     requires ready { (C.seen book.old.core).is_ended ≡ false }
     requires sound { C.Sound book.old.core }
-    ensures ok { (talk : Option Talk) → Stands seat.old talk → OnOk result (SeatIsHeard C.Goes tick console talk (L.seen link.old) (L.seen link.new) book.old.core book.new.core book.old.events.items book.new.events.items seat.new) }
-    ensures err { (talk : Option Talk) → Stands seat.old talk → OnErr result (SeatIsHeardPart C.Goes tick console talk (L.seen link.old) (L.seen link.new) book.old.core book.new.core book.old.events.items book.new.events.items) }
+    ensures ok { (talk : Option Talk) → Stands seat.old talk
+        → OnOk result (SeatIsHeard C.Goes tick console talk (L.seen link.old) (L.seen link.new) book.old.core
+        book.new.core book.old.events.items book.new.events.items seat.new) }
+    ensures err { (talk : Option Talk) → Stands seat.old talk
+        → OnErr result (SeatIsHeardPart C.Goes tick console talk (L.seen link.old) (L.seen link.new) book.old.core
+        book.new.core book.old.events.items book.new.events.items) }
     ensures left { SeatIsOpen (L.seen link.new).is_open seat.new }
     ensures others { (k : ℕ) → IsNotOf seat.old k → (L.seen link.new).is_open k ≡ (L.seen link.old).is_open k }
     ensures keeps { KeepsSeat seat.old seat.new }
@@ -64,7 +68,9 @@ pub(crate) fn hear_all<C: LiveCore, L: Link>(
     requires seated { AreSeated (L.seen link.old).is_open seats.old.items }
     requires ready { (C.seen book.old.core).is_ended ≡ false }
     requires sound { C.Sound book.old.core }
-    ensures ok { (desk : List (Option Talk)) → StandAll seats.old.items desk → OnOk result (SeatsAreHeard C.Goes tick (length desk) desk (L.seen link.old) (L.seen link.new) book.old.core book.new.core book.old.events.items book.new.events.items seats.new.items) }
+    ensures ok { (desk : List (Option Talk)) → StandAll seats.old.items desk
+        → OnOk result (SeatsAreHeard C.Goes tick (length desk) desk (L.seen link.old) (L.seen link.new) book.old.core
+        book.new.core book.old.events.items book.new.events.items seats.new.items) }
     ensures err { (desk : List (Option Talk)) → StandAll seats.old.items desk
         → OnErr result (AreHeardPart C.Goes tick desk (L.seen link.old) (L.seen link.new)
         book.old.core book.new.core book.old.events.items book.new.events.items) }

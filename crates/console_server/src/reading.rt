@@ -37,8 +37,12 @@ pub(crate) fn drain<C: LiveCore, L: Link>(
     requires here { (L.seen link.old).is_open id ≡ true }
     requires ready { (C.seen book.old.core).is_ended ≡ false }
     requires sound { C.Sound book.old.core }
-    ensures ok { (piece : List ℕ) → wire.old ≡ half_of piece → IfOk result (λ over. Drained C.Goes tick console id piece over (L.seen link.old) (L.seen link.new) book.old.core book.new.core book.old.events.items book.new.events.items wire.new) }
-    ensures err { (piece : List ℕ) → wire.old ≡ half_of piece → OnErr result (DrainedPart C.Goes tick console id piece (L.seen link.old) (L.seen link.new) book.old.core book.new.core book.old.events.items book.new.events.items) }
+    ensures ok { (piece : List ℕ) → wire.old ≡ half_of piece
+        → IfOk result (λ over. Drained C.Goes tick console id piece over (L.seen link.old) (L.seen link.new)
+        book.old.core book.new.core book.old.events.items book.new.events.items wire.new) }
+    ensures err { (piece : List ℕ) → wire.old ≡ half_of piece
+        → OnErr result (DrainedPart C.Goes tick console id piece (L.seen link.old) (L.seen link.new) book.old.core
+        book.new.core book.old.events.items book.new.events.items) }
     ensures same { (k : ℕ) → (L.seen link.new).is_open k ≡ (L.seen link.old).is_open k }
     ensures listener { (L.seen link.new).faults ≡ (L.seen link.old).faults }
     ensures ready { (C.seen book.new.core).is_ended ≡ false }

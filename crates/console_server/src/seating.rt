@@ -48,10 +48,15 @@ pub(crate) fn seat<C: LiveCore, L: Link>(
     requires seated { AreSeated (L.seen link.old).is_open seats.old.items }
     requires ready { (C.seen book.old.core).is_ended ≡ false }
     requires sound { C.Sound book.old.core }
-    ensures ok { (desk : List (Option Talk)) → StandAll seats.old.items desk → OnOk result (IsGiven C.Goes (dial tick (free_from 1 desk)) book.old.core book.new.core book.old.events.items book.new.events.items) }
-    ensures err { OnErr result (IsGiven C.Goes [] book.old.core book.new.core book.old.events.items book.new.events.items) }
-    ensures link { (desk : List (Option Talk)) → StandAll seats.old.items desk → DidAll (calls_of_new (free_from 1 desk) id) (L.seen link.old) (L.seen link.new) }
-    ensures stands { (desk : List (Option Talk)) → StandAll seats.old.items desk → StandAll seats.new.items (seats_with (C.seen book.old.core).texts id desk) }
+    ensures ok { (desk : List (Option Talk)) → StandAll seats.old.items desk
+        → OnOk result (IsGiven C.Goes (dial tick (free_from 1 desk)) book.old.core book.new.core book.old.events.items
+        book.new.events.items) }
+    ensures err { OnErr result (IsGiven C.Goes [] book.old.core book.new.core book.old.events.items
+        book.new.events.items) }
+    ensures link { (desk : List (Option Talk)) → StandAll seats.old.items desk
+        → DidAll (calls_of_new (free_from 1 desk) id) (L.seen link.old) (L.seen link.new) }
+    ensures stands { (desk : List (Option Talk)) → StandAll seats.old.items desk
+        → StandAll seats.new.items (seats_with (C.seen book.old.core).texts id desk) }
     ensures seated { AreSeated (L.seen link.new).is_open seats.new.items }
     ensures listener { (L.seen link.new).faults ≡ (L.seen link.old).faults }
     ensures many { length seats.new.items ≡ length seats.old.items }
@@ -83,7 +88,9 @@ pub(crate) fn accept_all<C: LiveCore, L: Link>(
     requires seated { AreSeated (L.seen link.old).is_open seats.old.items }
     requires ready { (C.seen book.old.core).is_ended ≡ false }
     requires sound { C.Sound book.old.core }
-    ensures ok { (desk : List (Option Talk)) → StandAll seats.old.items desk → OnOk result (AreAccepted C.Goes tick (C.seen book.old.core).texts desk (L.seen link.old) (L.seen link.new) book.old.core book.new.core book.old.events.items book.new.events.items seats.new.items) }
+    ensures ok { (desk : List (Option Talk)) → StandAll seats.old.items desk
+        → OnOk result (AreAccepted C.Goes tick (C.seen book.old.core).texts desk (L.seen link.old) (L.seen link.new)
+        book.old.core book.new.core book.old.events.items book.new.events.items seats.new.items) }
     ensures err { (desk : List (Option Talk)) → StandAll seats.old.items desk
         → IfErr result (λ fault. AcceptsAreCut C.Goes tick (C.seen book.old.core).texts desk fault
         (L.seen link.old) (L.seen link.new)

@@ -27,8 +27,10 @@ fn hang<C: LiveCore>(
 ) -> Result<(), NoMemory>
     requires ready { (C.seen book.old.core).is_ended ≡ false }
     requires sound { C.Sound book.old.core }
-    ensures ok { OnOk result (IsGiven C.Goes (hangs tick console (is_lost ∷ [])) book.old.core book.new.core book.old.events.items book.new.events.items) }
-    ensures err { OnErr result (IsGiven C.Goes [] book.old.core book.new.core book.old.events.items book.new.events.items) }
+    ensures ok { OnOk result (IsGiven C.Goes (hangs tick console (is_lost ∷ [])) book.old.core book.new.core
+        book.old.events.items book.new.events.items) }
+    ensures err { OnErr result (IsGiven C.Goes [] book.old.core book.new.core book.old.events.items
+        book.new.events.items) }
     ensures ready { (C.seen book.new.core).is_ended ≡ false }
     ensures same { C.seen book.new.core ≡ C.seen book.old.core }
     ensures sound { C.Sound book.new.core }
@@ -44,7 +46,8 @@ fn hang_all<C: LiveCore>(book: &mut Book<C>, failed: &[bool], tick: u64) -> Resu
     requires many { length failed.now ≤ 32 }
     requires ready { (C.seen book.old.core).is_ended ≡ false }
     requires sound { C.Sound book.old.core }
-    ensures ok { OnOk result (IsGiven C.Goes (hangs tick 1 failed.now) book.old.core book.new.core book.old.events.items book.new.events.items) }
+    ensures ok { OnOk result (IsGiven C.Goes (hangs tick 1 failed.now) book.old.core book.new.core
+        book.old.events.items book.new.events.items) }
     ensures err { OnErr result (IsGivenPart C.Goes (hangs tick 1 failed.now)
         book.old.core book.new.core book.old.events.items book.new.events.items) }
     ensures ready { (C.seen book.new.core).is_ended ≡ false }
@@ -74,11 +77,14 @@ pub(crate) fn do_turn<C: LiveCore, L: Link>(
     requires seated { AreSeated (L.seen link.old).is_open seats.old.items }
     requires ready { (C.seen book.old.core).is_ended ≡ false }
     requires sound { C.Sound book.old.core }
-    ensures done { (desk : Desk) → StandAll seats.old.items desk.seats → desk.failed ≡ failed.old.items → OnOk result (IsDone C.Goes C.seen number desk (L.seen link.old) (L.seen link.new) book.old.core book.new.core book.old.events.items book.new.events.items seats.new.items failed.new.items) }
+    ensures done { (desk : Desk) → StandAll seats.old.items desk.seats → desk.failed ≡ failed.old.items
+        → OnOk result (IsDone C.Goes C.seen number desk (L.seen link.old) (L.seen link.new) book.old.core
+        book.new.core book.old.events.items book.new.events.items seats.new.items failed.new.items) }
     ensures cut { (desk : Desk) → StandAll seats.old.items desk.seats → desk.failed ≡ failed.old.items
         → IfErr result (λ fault. IsCut C.Goes C.seen number desk fault (L.seen link.old) (L.seen link.new)
         book.old.core book.new.core book.old.events.items book.new.events.items) }
-    ensures cause { IfErr result (λ fault. IsCause fault (L.seen link.old) (L.seen link.new) (C.seen book.old.core) (C.seen book.new.core)) }
+    ensures cause { IfErr result (λ fault. IsCause fault (L.seen link.old) (L.seen link.new) (C.seen book.old.core)
+        (C.seen book.new.core)) }
     ensures listener { (L.seen link.old).faults ≤ (L.seen link.new).faults }
     ensures went { OnOk result (WentTo None (C.seen book.old.core) (C.seen book.new.core)) }
     ensures ready { OnOk result ((C.seen book.new.core).is_ended ≡ false) }

@@ -20,7 +20,8 @@ pub(crate) struct Sent {
 pub(crate) fn send<L: Link>(link: &mut L, id: u32, text: &[u8]) -> Sent
     requires here { (L.seen link.old).is_open id ≡ true }
     requires most { length text.now ≤ 4096 }
-    ensures sent { (rest : List ℕ) → text.now ≡ take 4096 rest → IsSent id rest result.lost result.count (L.seen link.old) (L.seen link.new) }
+    ensures sent { (rest : List ℕ) → text.now ≡ take 4096 rest → IsSent id rest result.lost result.count
+        (L.seen link.old) (L.seen link.new) }
     ensures within { result.count ≤ length text.now }
     ensures same { (k : ℕ) → (L.seen link.new).is_open k ≡ (L.seen link.old).is_open k }
     ensures listener { (L.seen link.new).faults ≡ (L.seen link.old).faults }
@@ -46,7 +47,9 @@ pub(crate) fn tell<C: LiveCore, L: Link>(
     console: ConsoleNo,
 ) -> bool
     requires here { SeatIsOpen (L.seen link.old).is_open seat.old }
-    ensures told { (talk : Option Talk) → Stands seat.old talk → SeatIsTold (get_or (C.seen core.now).texts (console - 1) []) talk result (L.seen link.old) (L.seen link.new) seat.new }
+    ensures told { (talk : Option Talk) → Stands seat.old talk
+        → SeatIsTold (get_or (C.seen core.now).texts (console - 1) []) talk result (L.seen link.old) (L.seen link.new)
+        seat.new }
     ensures left { SeatIsOpen (L.seen link.new).is_open seat.new }
     ensures others { (k : ℕ) → IsNotOf seat.old k → (L.seen link.new).is_open k ≡ (L.seen link.old).is_open k }
     ensures keeps { KeepsSeat seat.old seat.new }
@@ -77,7 +80,9 @@ pub(crate) fn tell_all<C: LiveCore, L: Link>(
     requires many { length seats.old.items ≤ 32 }
     requires flags { length failed.old.items ≡ length seats.old.items }
     requires seated { AreSeated (L.seen link.old).is_open seats.old.items }
-    ensures told { (desk : List (Option Talk)) → StandAll seats.old.items desk → SeatsAreTold (C.seen core.now).texts (length desk) desk (L.seen link.old) (L.seen link.new) seats.new.items failed.new.items }
+    ensures told { (desk : List (Option Talk)) → StandAll seats.old.items desk
+        → SeatsAreTold (C.seen core.now).texts (length desk) desk (L.seen link.old) (L.seen link.new) seats.new.items
+        failed.new.items }
     ensures seated { AreSeated (L.seen link.new).is_open seats.new.items }
     ensures listener { (L.seen link.new).faults ≡ (L.seen link.old).faults }
     ensures many { length seats.new.items ≡ length seats.old.items }

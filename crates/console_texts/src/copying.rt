@@ -28,7 +28,8 @@ pub(crate) struct Window {
 /// A byte more of the text.
 #[tactic(auto, using(crate::proofs::Bytes::byte_passed, crate::proofs::Bytes::byte_put, crate::proofs::Bytes::byte_over))]
 fn put_byte(window: &mut Window, into: &mut [u8], byte: u8)
-    ensures { (from : ℕ) (text slice : List ℕ) → IsCopied from text slice window.old into.old → IsCopied from (text ++ byte ∷ []) slice window.new into.new }
+    ensures { (from : ℕ) (text slice : List ℕ) → IsCopied from text slice window.old into.old
+        → IsCopied from (text ++ byte ∷ []) slice window.new into.new }
 {
     if window.skip > 0 {
         window.skip -= 1;
@@ -40,7 +41,8 @@ fn put_byte(window: &mut Window, into: &mut [u8], byte: u8)
 
 /// Bytes more of the text.
 fn put_bytes(window: &mut Window, into: &mut [u8], bytes: &[u8])
-    ensures { (from : ℕ) (text slice : List ℕ) → IsCopied from text slice window.old into.old → IsCopied from (text ++ bytes.now) slice window.new into.new }
+    ensures { (from : ℕ) (text slice : List ℕ) → IsCopied from text slice window.old into.old
+        → IsCopied from (text ++ bytes.now) slice window.new into.new }
 {
     'bytes: for i in 0..bytes.len() {
         put_byte(window, into, bytes[i]);
@@ -50,7 +52,8 @@ fn put_bytes(window: &mut Window, into: &mut [u8], bytes: &[u8])
 /// A line more of the text.
 fn put_line(window: &mut Window, into: &mut [u8], line: &[u8])
     requires { length line.now ≤ 84 }
-    ensures { (from : ℕ) (text slice : List ℕ) → IsCopied from text slice window.old into.old → IsCopied from (text ++ (line.now ++ 13 ∷ 10 ∷ [])) slice window.new into.new }
+    ensures { (from : ℕ) (text slice : List ℕ) → IsCopied from text slice window.old into.old
+        → IsCopied from (text ++ (line.now ++ 13 ∷ 10 ∷ [])) slice window.new into.new }
 {
     let long = line.len() as u64 + 2;
     if window.skip >= long {
@@ -63,7 +66,8 @@ fn put_line(window: &mut Window, into: &mut [u8], line: &[u8])
 
 /// What an item writes, behind the text so far.
 fn put_item(window: &mut Window, into: &mut [u8], item: &Item)
-    ensures { (from : ℕ) (text slice : List ℕ) → IsCopied from text slice window.old into.old → IsCopied from (text ++ sent (written (item.now ∷ []))) slice window.new into.new }
+    ensures { (from : ℕ) (text slice : List ℕ) → IsCopied from text slice window.old into.old
+        → IsCopied from (text ++ sent (written (item.now ∷ []))) slice window.new into.new }
 {
     match item {
         Item::Out(line) => put_line(window, into, line.as_slice()),
@@ -73,7 +77,8 @@ fn put_item(window: &mut Window, into: &mut [u8], item: &Item)
 
 /// What items write, behind the text so far.
 fn put_items(window: &mut Window, into: &mut [u8], items: &[Item])
-    ensures { (from : ℕ) (text slice : List ℕ) → IsCopied from text slice window.old into.old → IsCopied from (text ++ sent (written items.now)) slice window.new into.new }
+    ensures { (from : ℕ) (text slice : List ℕ) → IsCopied from text slice window.old into.old
+        → IsCopied from (text ++ sent (written items.now)) slice window.new into.new }
 {
     'items: for i in 0..items.len() {
         put_item(window, into, &items[i]);

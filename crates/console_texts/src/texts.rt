@@ -27,7 +27,8 @@ impl Model for ConsoleTexts {
 /// So many rows more, of which the first has this number.
 fn add_rows(alloc: Global, rows: &mut Vec<Row>, number: u8, count: u8) -> Result<(), NoMemory>
     requires { number + count ≤ 255 }
-    ensures { OnOk result (map (λ (k : Kept). k.shown) rows.new.items ≡ map (λ (k : Kept). k.shown) rows.old.items ++ fresh number count) }
+    ensures { OnOk result (map (λ (k : Kept). k.shown) rows.new.items ≡ map (λ (k : Kept). k.shown) rows.old.items
+        ++ fresh number count) }
 {
     if count == 0 {
         return Ok(());
@@ -98,8 +99,10 @@ impl ConsoleTexts {
         from: u64,
         into: &mut [u8],
     ) -> usize
-        ensures count { result ≡ min (length into.old) (length (text_at (T.all transcripts.now) self.now console) - from) }
-        ensures bytes { into.new ≡ take result (drop from (text_at (T.all transcripts.now) self.now console)) ++ drop result into.old }
+        ensures count { result ≡ min (length into.old) (length (text_at (T.all transcripts.now) self.now console)
+            - from) }
+        ensures bytes { into.new ≡ take result (drop from (text_at (T.all transcripts.now) self.now console))
+            ++ drop result into.old }
     {
         let mut window = Window { skip: from, at: 0 };
         if let Some(row) = self.rows.get(console.number() as usize - 1) {

@@ -109,7 +109,8 @@ pub(crate) fn write_run<T: RunText, K: Sink>(
     ensures status { IsOneOf result.status (0 ∷ 4 ∷ 8 ∷ []) }
     ensures run { result.status ≢ 8 → result.run ≡ run }
     ensures numbers { (result.card ≡ 0) × (result.cause ≡ 0) }
-    ensures text { result.status ≡ 0 → K.held sink.new ≡ after (K.held sink.old) (T.bytes text.now script.now result.run) }
+    ensures text { result.status ≡ 0 → K.held sink.new
+        ≡ after (K.held sink.old) (T.bytes text.now script.now result.run) }
     ensures part { result.status ≡ 4
         → GrewByProperPrefix (K.held sink.old) (T.bytes text.now script.now result.run) (K.held sink.new) }
     ensures cause { result.status ≡ 4 → Rose (K.faults sink.old) (K.faults sink.new) }
@@ -158,7 +159,8 @@ pub fn perform<T: RunText, K: Sink, D: Medium, F: Medium>(
     ensures lost { result.status ≡ 6 → IsLost script.now
         (media_seen D.Medium F.Medium drum.old disk.old) (media_seen D.Medium F.Medium drum.new disk.new) result.run }
     ensures numbers { (result.card ≡ 0) × (result.cause ≡ 0) }
-    ensures text { result.status ≡ 0 → K.held sink.new ≡ after (K.held sink.old) (T.bytes text.now script.now result.run) }
+    ensures text { result.status ≡ 0 → K.held sink.new
+        ≡ after (K.held sink.old) (T.bytes text.now script.now result.run) }
     ensures part { result.status ≡ 4
         → GrewByProperPrefix (K.held sink.old) (T.bytes text.now script.now result.run) (K.held sink.new) }
     ensures cause { result.status ≡ 4 → Rose (K.faults sink.old) (K.faults sink.new) }

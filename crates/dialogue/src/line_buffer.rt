@@ -47,7 +47,8 @@ impl Lines {
     pub fn put(&mut self, line: LineText) -> Put
         ensures spent { (result ≡ Put.Spent) ↔ (self.old.count ≡ 2048) }
         ensures stays { result ≡ Put.Spent → self.new ≡ self.old }
-        ensures kept { result ≡ Put.Kept → self.new ≡ record { lines = self.old.lines ++ line ∷ []; count = self.old.count + 1 } }
+        ensures kept { result ≡ Put.Kept → self.new
+            ≡ record { lines = self.old.lines ++ line ∷ []; count = self.old.count + 1 } }
     {
         if self.count == MOST_LINES {
             return Put::Spent;

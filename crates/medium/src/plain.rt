@@ -25,7 +25,8 @@ impl PlainMedium {
     /// A medium of `records` records of `record_words` words, all zero. All memory is taken here; what is never written costs nothing
     /// until it is.
     pub fn new(alloc: Global, records: u16, record_words: u16) -> Result<PlainMedium, NoMemory>
-        ensures { IfOk result (λ m. m ≡ record { contents = replicate records (replicate record_words 0); each = record_words }) }
+        ensures { IfOk result (λ m. m
+            ≡ record { contents = replicate records (replicate record_words 0); each = record_words }) }
     {
         let pages = Pages::zeros(alloc, records, record_words)?;
         Ok(PlainMedium { pages })

@@ -50,7 +50,8 @@ fn add_columns<K: Sink>(
     mode: u8,
     count: usize,
 )
-    ensures { Adds K.Sink (line (first ++ (blank second ++ (number mode ++ blank (right (decimal count)))))) out.old out.new }
+    ensures { Adds K.Sink (line (first ++ (blank second ++ (number mode ++ blank (right (decimal count)))))) out.old
+        out.new }
 {
     out.add(first.as_slice());
     out.blank(second.as_slice());

@@ -151,7 +151,8 @@ fn with_account(draft: &mut Draft, params: Params, card: &UserCard) -> Result<()
 
 /// Ends the last file: no more words come to it.
 pub fn close_file(draft: &mut Draft) -> Result<(), NoMemory>
-    ensures { OnOk result (draft_of draft.new ≡ record (draft_of draft.old) { files = draft.old.files ++ option_to_list draft.old.file; file = None }) }
+    ensures { OnOk result (draft_of draft.new
+        ≡ record (draft_of draft.old) { files = draft.old.files ++ option_to_list draft.old.file; file = None }) }
 {
     let last = draft.file.take();
     draft.others = 0;
@@ -179,7 +180,8 @@ fn with_last(draft: &mut Draft, file: OwnedFile) -> Result<(), CardFault>
 
 /// Whether a file may stand behind those that have ended: before all events, with names of its own among its owner's.
 fn is_new_file(draft: &Draft, card: &FileCard) -> bool
-    ensures { result ≡ (nat_eq (length draft.now.events) 0 && not (list_any (is_same_file (empty_file card.now)) draft.now.files)) }
+    ensures { result ≡ (nat_eq (length draft.now.events) 0
+        && not (list_any (is_same_file (empty_file card.now)) draft.now.files)) }
 {
     draft.events.is_empty() && !has_file(draft.files.as_slice(), card)
 }
@@ -309,7 +311,11 @@ fn with_event(draft: &mut Draft, card: EventCard) -> Result<(), CardFault>
 /// Adds an event that is in order.
 fn add_event(draft: &mut Draft, tick: u64, console: u32, event: Event) -> Result<(), CardFault>
     requires console { (1 ≤ console) × (console ≤ 32) }
-    ensures { Enters result (Ok (record (draft_of draft.old) { events = draft.old.events ++ record { tick = tick; console = console; event = event } ∷ []; tick = tick })) (draft_of draft.new) }
+    ensures { Enters result (Ok (record (draft_of draft.old) {
+      events = draft.old.events
+          ++ record { tick = tick; console = console; event = event } ∷ [];
+      tick = tick;
+    })) (draft_of draft.new) }
 {
     let Some(console) = ConsoleNo::new(console as u8) else {
         unreachable!()
@@ -395,7 +401,8 @@ fn enter_first(draft: &mut Draft, word: &[u8], text: &[u8]) -> Result<(), CardFa
 
 /// Takes a card that is no comment and begins in the first column.
 fn enter_card(alloc: Global, draft: &mut Draft, card: &[u8]) -> Result<(), CardFault>
-    ensures { Enters result (entered_by draft.old.params (draft_of draft.old) (word_in card.now) (behind_word card.now)) (draft_of draft.new) }
+    ensures { Enters result (entered_by draft.old.params (draft_of draft.old) (word_in card.now)
+        (behind_word card.now)) (draft_of draft.new) }
 {
     let (word, text) = first_word(card);
     match draft.params {

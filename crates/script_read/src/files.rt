@@ -26,7 +26,8 @@ pub fn fits(others: u16, words: usize, quota: u16) -> bool
 
 /// The tracks of an owner's files, where they keep its quota.
 pub fn tracks_of(files: &[OwnedFile], owner: UserNo, quota: u16) -> Option<u16>
-    ensures { result ≡ (if nat_le (tracks_of (files_of owner files.now)) quota then Some (tracks_of (files_of owner files.now)) else None) }
+    ensures { result ≡ (if nat_le (tracks_of (files_of owner files.now)) quota then Some
+        (tracks_of (files_of owner files.now)) else None) }
 {
     let mut tracks = 0;
     for file in files {

@@ -65,7 +65,8 @@ fn add_file_card<K: Sink>(
     second: Word,
     mode: u8,
 )
-    ensures { Adds K.Sink (line (codes "FILE" ++ (number owner ++ (name first ++ (name second ++ number mode))))) out.old out.new }
+    ensures { Adds K.Sink (line (codes "FILE" ++ (number owner ++ (name first ++ (name second ++ number mode)))))
+        out.old out.new }
 {
     out.add(b"FILE");
     out.number(owner);

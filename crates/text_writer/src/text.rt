@@ -44,7 +44,8 @@ impl From<NoMemory> for TextFault {
 /// Writes a text. It takes the memory of one piece, before the first byte is put, and no other.
 pub fn write_text<K: Sink, T: Text>(alloc: Global, sink: &mut K, text: &T) -> Result<(), TextFault>
     ensures written { OnOk result (K.held sink.new ≡ after (K.held sink.old) (T.bytes text.now)) }
-    ensures part { result ≡ Err TextFault.Write → GrewByProperPrefix (K.held sink.old) (T.bytes text.now) (K.held sink.new) }
+    ensures part { result ≡ Err TextFault.Write → GrewByProperPrefix (K.held sink.old) (T.bytes text.now)
+        (K.held sink.new) }
     ensures cause { result ≡ Err TextFault.Write → Rose (K.faults sink.old) (K.faults sink.new) }
     ensures silent { result ≡ Err TextFault.NoMemory → K.held sink.new ≡ K.held sink.old }
 {

@@ -139,7 +139,8 @@ impl<'a, F: Medium> TrackStore<'a, F> {
         ensures tracks { self.new.tracks ≡ self.old.tracks }
         ensures serves { Serves (F.contents self.new.disk.now) (F.record_count self.new.disk.now)
             (F.words_each self.new.disk.now) (length self.new.tracks.taken.items) }
-        ensures contents { OnOk result (F.contents self.new.disk.now ≡ with_record (F.contents self.old.disk.now) track from.now) }
+        ensures contents { OnOk result (F.contents self.new.disk.now ≡ with_record (F.contents self.old.disk.now)
+            track from.now) }
         ensures calls { F.calls self.new.disk.now
             ≡ with_call (F.calls self.old.disk.now) (write_call track (is_err result)) }
         ensures faults_grow { F.faults self.old.disk.now ≤ F.faults self.new.disk.now }

@@ -32,7 +32,8 @@ fn go_to<'a, 'd, D: Medium, F: Medium>(
     requires usable { ⟦<Behind<Image<'a, D>, TrackDirectories<'d, F>> as user_cores::Backing>⟧.Usable behind.old }
     requires agrees { Agrees (whole_of supervisor.old
         (⟦<Behind<Image<'a, D>, TrackDirectories<'d, F>> as user_cores::Backing>⟧.state behind.old)) }
-    requires tells { (⟦<Behind<Image<'a, D>, TrackDirectories<'d, F>> as user_cores::Backing>⟧.state behind.old).held.tells
+    requires tells { (⟦<Behind<Image<'a, D>, TrackDirectories<'d, F>> as user_cores::Backing>⟧.state
+        behind.old).held.tells
         ≡ true }
     requires limit { limit ≤ 100000000 }
     ensures usable { OnOk result
@@ -51,7 +52,8 @@ fn look<'a, 'd, D: Medium, F: Medium>(
 ) -> (Behind<Image<'a, D>, TrackDirectories<'d, F>>, [u8; 128])
     ensures same { result.0 ≡ behind.entry }
     ensures owners { owner_in result.1
-        ≡ (⟦<Behind<Image<'a, D>, TrackDirectories<'d, F>> as user_cores::Backing>⟧.state behind.entry).held.places.owner }
+        ≡ (⟦<Behind<Image<'a, D>, TrackDirectories<'d, F>> as user_cores::Backing>⟧.state
+        behind.entry).held.places.owner }
 {
     let (cores, files) = behind.into_parts();
     let owners = cores.owners();

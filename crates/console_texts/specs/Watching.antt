@@ -1,7 +1,7 @@
 -- claim: the consoles' texts along a run of all users.
 use Rattle.std.specs.Prelude.{◌≡◌, ℕ, Option, Some, None, List, [], ◌∷◌, map}
 use Rattle.time_sharing.specs.Rows.{machine}
-use Rattle.time_sharing.specs.System.{Entry, Taken, Login, Refused, Idle, Swap, Rise, Serve, Clock, Common}
+use Rattle.time_sharing.specs.System.{Entry, Refused}
 use Rattle.time_sharing.specs.Record as whole
 use Rattle.time_sharing.specs.Repeat.{repeat}
 use Rattle.time_sharing.specs.Texts.{Watched, texts_after, next_watched, watched_to}
@@ -40,24 +40,10 @@ abbrev pub refused_by : List Entry → ℕ
 refused_by [] = 0
 refused_by (Refused tick console cause ∷ []) = console
 refused_by (Refused tick console cause ∷ e ∷ es) = refused_by (e ∷ es)
-refused_by (Taken tick console kind user own ∷ es) = refused_by es
-refused_by (Login tick console user ∷ es) = refused_by es
-refused_by (Idle from until ∷ es) = refused_by es
-refused_by (Swap tick user dumped read fresh ∷ es) = refused_by es
-refused_by (Rise tick user level ∷ es) = refused_by es
-refused_by (Serve tick user level ran cause ∷ es) = refused_by es
-refused_by (Clock answer user ∷ es) = refused_by es
-refused_by (Common user op reply ∷ es) = refused_by es
+refused_by (_ ∷ es) = refused_by es
 
 -- the console of an entry that says so
 abbrev pub refusal_in : Option Entry → ℕ
 refusal_in None = 0
 refusal_in (Some (Refused tick console cause)) = console
-refusal_in (Some (Taken tick console kind user own)) = 0
-refusal_in (Some (Login tick console user)) = 0
-refusal_in (Some (Idle from until)) = 0
-refusal_in (Some (Swap tick user dumped read fresh)) = 0
-refusal_in (Some (Rise tick user level)) = 0
-refusal_in (Some (Serve tick user level ran cause)) = 0
-refusal_in (Some (Clock answer user)) = 0
-refusal_in (Some (Common user op reply)) = 0
+refusal_in (Some _) = 0

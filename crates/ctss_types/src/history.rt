@@ -94,7 +94,8 @@ impl EventKind {
     }
 }
 
-/// An entry of the schedule. Ticks are those at which a thing began; `user` and `own` (own steps) are 0 where the
+/// An entry of the schedule. What definitions and code say of entries, they say of those that they name: any other is no load, no
+/// service and no operation, and adds nothing. Ticks are those at which a thing began; `user` and `own` (own steps) are 0 where the
 /// console had no session; `ran` counts ticks; `level` is the one that a user is served at, or that it has risen to. The operation
 /// on common files, which is large and rare, lies apart, so that each entry takes 48 bytes.
 #[derive(Clone, Debug, PartialEq, Eq, Drop)]

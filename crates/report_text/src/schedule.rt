@@ -42,13 +42,7 @@ fn with_entry(sums: Sums, entry: &Entry) -> Sums
             steps: sums.steps + u128::from(steps_of(*ran, *cause)),
             ..sums
         },
-        Entry::Taken { .. }
-        | Entry::Login { .. }
-        | Entry::Refused { .. }
-        | Entry::Idle { .. }
-        | Entry::Rise { .. }
-        | Entry::Clock { .. }
-        | Entry::Common { .. } => sums,
+        _ => sums,
     }
 }
 

@@ -13,14 +13,7 @@ pub fn cut_of(entry: &Entry) -> u64
 {
     match entry {
         Entry::Idle { from, until } => until.saturating_sub(*from).saturating_sub(MOST_IDLE),
-        Entry::Taken { .. }
-        | Entry::Login { .. }
-        | Entry::Refused { .. }
-        | Entry::Swap { .. }
-        | Entry::Rise { .. }
-        | Entry::Serve { .. }
-        | Entry::Clock { .. }
-        | Entry::Common { .. } => 0,
+        _ => 0,
     }
 }
 

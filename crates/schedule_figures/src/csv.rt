@@ -121,12 +121,7 @@ fn add_row<K: Sink>(out: &mut TextWriter<'_, K>, swap: u64, entry: &Entry)
             add_load(out, *tick, end_of_load(swap, *tick, moved), *user, moved);
         }
         Entry::Idle { from, until } => add_idle(out, *from, *until),
-        Entry::Taken { .. }
-        | Entry::Login { .. }
-        | Entry::Refused { .. }
-        | Entry::Rise { .. }
-        | Entry::Clock { .. }
-        | Entry::Common { .. } => out.add(b""),
+        _ => out.add(b""),
     }
 }
 

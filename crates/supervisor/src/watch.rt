@@ -49,14 +49,7 @@ fn refusal_in(entry: &Entry) -> u8
 {
     match entry {
         Entry::Refused { console, .. } => *console,
-        Entry::Taken { .. }
-        | Entry::Login { .. }
-        | Entry::Idle { .. }
-        | Entry::Swap { .. }
-        | Entry::Rise { .. }
-        | Entry::Serve { .. }
-        | Entry::Clock { .. }
-        | Entry::Common { .. } => 0,
+        _ => 0,
     }
 }
 

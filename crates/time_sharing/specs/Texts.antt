@@ -2,7 +2,7 @@
 use Rattle.std.specs.Prelude.{ℕ, suc, List, [], ◌∷◌, ◌++◌, nat_eq, if◌then◌else◌, drop, length, codes, replicate}
 use Rattle.std.specs.List.{flat_map}
 use Rattle.time_sharing.specs.Machine.{Machine, Line, Item, In, Out, Quitted, Hung}
-use Rattle.time_sharing.specs.System.{SystemState, World, Console, Off, On, Password, Session, Entry, Taken, Login, Refused, Idle, Swap, Rise, Serve, Clock, Common, at, state_of, next}
+use Rattle.time_sharing.specs.System.{SystemState, World, Console, Off, On, Password, Session, Entry, Refused, at, state_of, next}
 use Rattle.time_sharing.specs.Repeat.{repeat}
 use Rattle.time_sharing.specs.Record.{clock_is_below, measure}
 
@@ -39,14 +39,7 @@ asks_password (Session u) now = []
 abbrev pub refusals : ℕ → List Entry → List Line
 refusals c [] = []
 refusals c (Refused tick console cause ∷ es) = if nat_eq console c then codes "LOGIN REFUSED" ∷ refusals c es else refusals c es
-refusals c (Taken tick console kind user own ∷ es) = refusals c es
-refusals c (Login tick console user ∷ es) = refusals c es
-refusals c (Idle from until ∷ es) = refusals c es
-refusals c (Swap tick user dumped read fresh ∷ es) = refusals c es
-refusals c (Rise tick user level ∷ es) = refusals c es
-refusals c (Serve tick user level ran cause ∷ es) = refusals c es
-refusals c (Clock answer user ∷ es) = refusals c es
-refusals c (Common user op reply ∷ es) = refusals c es
+refusals c (_ ∷ es) = refusals c es
 
 -- lines as a console gets them
 abbrev pub sent : List Line → List ℕ

@@ -24,9 +24,9 @@ use crate::notes::{
     note, note_command, note_end, note_lines, note_read, note_ready, note_stop, note_taken,
 };
 use crate::session_text::{logged_in_text, logged_out_text, ready_text};
+use command_lines::runcom::CommandLines;
 use ctss_types::{Item, Items, LineText, NoMemory, Sequence};
 use program_model::ProgramState;
-use runcom::CommandLines;
 use std::alloc::Global;
 use std::marker::Model;
 use word36::Word;

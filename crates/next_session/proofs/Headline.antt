@@ -1,9 +1,9 @@
 -- What an answer to no word says of the text that was written.
 use Rattle.std.proofs.Common.{◌≡◌, ℕ, List, [], Option, ap, subst, ◌∙◌}
 use Rattle.ctss_modes.specs.declared.outcome.Outcome.{Outcome}
-use Rattle.tomorrow_model.specs.Laws.{HoldsWords}
-use Rattle.tomorrow_model.proofs.Bases.{next_bases_are_lawful}
-use Rattle.tomorrow_model.proofs.Read.{next_bases_are_read}
+use Rattle.next_session.specs.Laws.{HoldsWords}
+use Rattle.next_session.proofs.Bases.{next_bases_are_lawful}
+use Rattle.next_session.proofs.Read.{next_bases_are_read}
 use Rattle.script_show.specs.Shown.{ShownText, StreamsSeen, IsShown, IsShowing}
 use Rattle.script_show.specs.Asked.{IsAnswer}
 use Rattle.next_session.specs.Next.{IsNextBase, asked, next_text}

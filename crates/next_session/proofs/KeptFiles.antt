@@ -7,7 +7,7 @@ use Rattle.std.proofs.lemmas.Grind.{flat_map-append}
 use Rattle.ctss_types.specs.declared.file.FileBody.{FileBody}
 use Rattle.ctss_types.specs.declared.file.OwnedFile.{OwnedFile}
 use Rattle.text_model.specs.Canonical.{file_cards}
-use Rattle.tomorrow_model.specs.Tomorrow.{is_kept, files_kept}
+use Rattle.next_session.specs.Tomorrow.{is_kept, files_kept}
 use Rattle.next_session.specs.Files.{kept_text}
 
 abbrev owned_by : ℕ → FileBody → OwnedFile

@@ -6,8 +6,8 @@ use Rattle.text_model.specs.Canonical.{script_text_of}
 use Rattle.text_model.specs.Lawful.{IsLawful}
 use Rattle.text_model.specs.Reading.{max_bytes}
 use Rattle.system_model.specs.Record.{record_of}
-use Rattle.tomorrow_model.specs.Tomorrow.{next_base}
-use Rattle.tomorrow_model.specs.Laws.{IsReadAs}
+use Rattle.next_session.specs.Tomorrow.{next_base}
+use Rattle.next_session.specs.Laws.{IsReadAs}
 use Rattle.script_show.specs.Shown.{ShownText, Spells, StreamsSeen}
 
 -- the canonical text of the base behind the run of a script

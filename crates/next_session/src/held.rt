@@ -2,7 +2,7 @@
 //! been read: so these read them all, and change nothing.
 ghost use Rattle.std.specs.Prelude.{◌<◌, ◌^◌};
 ghost use Rattle.std.specs.List.{All};
-ghost use Rattle.tomorrow_model.specs.Laws.{HoldsWords};
+ghost use Rattle.next_session.specs.Laws.{HoldsWords};
 ghost use Rattle.next_session.specs.Files.{HaveWords};
 
 use ctss_types::{FileBody, Record};

@@ -2,7 +2,7 @@
 ghost use Rattle.std.specs.Prelude.{◌≡◌};
 ghost use Rattle.std.specs.List.{list_all};
 ghost use Rattle.text_model.specs.Lawful.{is_name_character};
-ghost use Rattle.tomorrow_model.specs.Tomorrow.{is_card_name, is_kept};
+ghost use Rattle.next_session.specs.Tomorrow.{is_card_name, is_kept};
 
 use bcd48::is_character;
 use ctss_types::{FileBody, name_text, name_word};

@@ -1,11 +1,12 @@
 //! The base script of the next session: the run of a script comes in, and what it leaves goes out as a script again.
 //!
-//! The definition stands in tomorrow_model, and what the program answers in `specs/Next`.
+//! The definition of a base stands in `specs/Tomorrow` (`tomorrow` has its laws), and what the program answers in `specs/Next`.
 #![tactic(auto)]
 
 mod held;
 mod kept;
 mod text;
+pub mod tomorrow;
 
 ghost use Rattle.std.specs.Prelude.{◌≡◌, []};
 ghost use Rattle.std.specs.Option.{option_map};

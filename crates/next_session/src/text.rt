@@ -2,7 +2,7 @@
 ghost use Rattle.std.specs.List.{flat_map};
 ghost use Rattle.text_model.specs.Canonical.{file_cards};
 ghost use Rattle.text_writer.specs.Writing.{Adds};
-ghost use Rattle.tomorrow_model.specs.Tomorrow.{files_kept};
+ghost use Rattle.next_session.specs.Tomorrow.{files_kept};
 ghost use Rattle.next_session.specs.Files.{kept_text};
 ghost use Rattle.next_session.specs.Next.{next_text};
 

@@ -6,7 +6,7 @@ ghost use Rattle.system_model.specs.Round.{asked as asked_in, password_by};
 ghost use Rattle.system_model.specs.Cases.{user_at};
 
 use accounts::{Accounts, split};
-use command_table::word_name;
+use command_lines::command_table::word_name;
 use ctss_types::{LineText, UserNo};
 use user_session::Session;
 use word36::Word;

@@ -19,7 +19,7 @@ use crate::file_command::DONE;
 use crate::session::Session;
 use crate::{Step, Turn};
 use cmd_program::{PrepareFault, prepare};
-use command_table::command_of;
+use command_lines::command_table::command_of;
 use cpu_regs::{MemoryPort, Regs};
 use ctss_types::{CommonOp, Ending, FileName, LineText, NoMemory, StepFault, name_word};
 use dialogue::session_text::load_text;

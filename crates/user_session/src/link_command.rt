@@ -13,7 +13,7 @@ use crate::file_command::DONE;
 use crate::run_file::behind_two;
 use crate::session::Session;
 use cmd_program::{LinkFilesFault, link_files};
-use command_table::word_name;
+use command_lines::command_table::word_name;
 use cpu_regs::MemoryPort;
 use ctss_types::{LineText, NoMemory, Sequence, StepFault, WordList, first_word};
 use dialogue::session_text::link_text;

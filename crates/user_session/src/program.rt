@@ -19,7 +19,7 @@ use crate::session::{Session, works_in};
 use crate::turn::Instructed;
 use crate::{Step, Turn};
 use cmd_program::fill;
-use command_table::command_of;
+use command_lines::command_table::command_of;
 use cpu_regs::MemoryPort;
 use cpu_step::{Stepped, run, step};
 use ctss_types::{NoMemory, Reply, StepFault};

@@ -17,12 +17,12 @@ use crate::Step;
 use crate::file_command::DONE;
 use crate::session::Session;
 use cmd_files::{printed, refusal_text};
+use command_lines::runcom::{ComFault, ComRefusal, MOST_LINES, substitute};
 use cpu_regs::MemoryPort;
 use ctss_types::{
     FileName, LineList, LineText, NoMemory, Refusal, StepFault, first_word, name_word,
 };
 use file_map::{FilePort, PortFault};
-use runcom::{ComFault, ComRefusal, MOST_LINES, substitute};
 use word36::Word;
 
 /// The file that commands of this name are read from.
@@ -43,7 +43,7 @@ fn com_text(refusal: ComRefusal) -> LineText
 }
 
 /// What stands behind the first word of a text.
-#[tactic(auto, using(runcom::proofs::Parts::behind_all))]
+#[tactic(auto, using(command_lines::proofs::Parts::behind_all))]
 fn behind_one(text: &[u8]) -> &[u8]
     requires { list_all is_character text.now ≡ true }
     ensures words { words_of result.now ≡ drop 1 (words_of text.now) }

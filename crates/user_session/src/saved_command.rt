@@ -13,7 +13,7 @@ use crate::file_command::DONE;
 use crate::session::Session;
 use crate::{Step, Turn};
 use cmd_program::{PrepareFault, prepare_saved, register_lines, saved_words, word_line};
-use command_table::is_dormant;
+use command_lines::command_table::is_dormant;
 use cpu_regs::MemoryPort;
 use ctss_types::{Ending, FileName, LineText, NoMemory, StepFault, name_word};
 use dialogue::session_text::load_text;

@@ -5,10 +5,10 @@ ghost use Rattle.user_model.specs.User.{typed, opened, cut};
 ghost use Rattle.time_sharing.specs.Machine.{Quit, Hang, Spent};
 ghost use Rattle.time_sharing.specs.Rows.{some_line};
 
+use command_lines::fap_debug::Debug;
 use cpu_regs::Regs;
 use ctss_types::{Account, FileName, Item, Items, LineText, NoMemory};
 use dialogue::{Dialogue, Put};
-use fap_debug::Debug;
 use program_model::{Fill, ProgramState};
 use std::alloc::Global;
 use std::marker::Model;

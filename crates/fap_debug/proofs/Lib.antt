@@ -1,2 +1,0 @@
-pub mod Octals
-pub mod Places

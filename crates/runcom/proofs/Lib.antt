@@ -1,2 +1,0 @@
-pub mod LinesMade
-pub mod Parts

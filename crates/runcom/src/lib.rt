@@ -1,9 +1,0 @@
-//! Command files: lines with arguments in them, which stand before those that were typed. The definitions are `CommandLines` of program_model.
-#![tactic(auto)]
-
-mod lines;
-mod made;
-
-pub use lines::{CommandLines, MOST_LINES};
-pub use made::{ComFault, substitute};
-pub use program_model::ComRefusal;

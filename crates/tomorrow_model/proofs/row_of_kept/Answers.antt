@@ -1,5 +1,0 @@
-use Rattle.tomorrow_model.proofs.RowsComputed as laws
-use Rattle.tomorrow_model.proofs.row_of_kept.Goals as goal
-
-pub returns : goal.returns
-returns c = laws.row_of_kept

@@ -1,3 +1,0 @@
-pub mod Tomorrow
-pub mod Laws
-pub mod Rows

@@ -1,18 +1,8 @@
-//! Trials of people at consoles: bytes as lines, links in memory and over sockets, turns of a server, someone at a socket who is
-//! served, what consoles show, who may log in, the words of a line.
+//! Trials of links in memory and over sockets, and of someone at a socket who is served. What consoles show, who may log in, and what
+//! a server makes of bytes are cases of run_cases.
 #![tactic(auto)]
 
 #[cfg(test)]
-mod bytes;
-#[cfg(test)]
 mod links;
 #[cfg(test)]
-mod logins;
-#[cfg(test)]
-mod rows;
-#[cfg(test)]
 mod served;
-#[cfg(test)]
-mod shown;
-#[cfg(test)]
-mod turns;

@@ -21,7 +21,7 @@ fn peer_of(alloc: Global, sends: [&[u8]; 2]) -> Result<Peer, NoMemory> {
 }
 
 /// A link with one such peer, of which these calls fail or are not ready, with room for so many calls and for 8 bytes that are sent.
-pub(crate) fn link_of(
+fn link_of(
     alloc: Global,
     sends: [&[u8]; 2],
     fails: &[LinkAt],

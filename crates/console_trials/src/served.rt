@@ -1,17 +1,21 @@
-//! Someone at a socket, whom a server serves over a run.
-ghost use Rattle.std.specs.Prelude.{◌≡◌, false};
+//! Someone at a socket, whom a server serves over a run. What else connections send and consoles show are cases of run_cases.
+ghost use Rattle.std.specs.Prelude.{◌≡◌, false, IfOk};
+ghost use Rattle.drum_slots.specs.Kept.{Serves};
+ghost use Rattle.track_store.specs.Tracks.{Serves as Holds};
+ghost use Rattle.text_model.specs.Lawful.{IsLawful};
 
 use crate::links::{gets, opened};
-use crate::shown::script_of;
-use crate::turns::{Happens, Row, are_events, two_turns};
-use console_link::MioLink;
+use console_link::{Link, MioLink};
+use console_server::{Finished, Server, Tables};
+use ctss_types::{Event, NoMemory, Script, Timed, TimedList};
 use live_core::LiveCore;
 use live_run::{Begun, NewRun, begin};
-use medium::MemoryMedium;
+use medium::{Medium, PlainMedium};
+use script_read::read_script;
 use std::alloc::Global;
-use std::io::Write;
+use std::io::{Read, Write};
 use std::net;
-use std::net::{Ipv4Addr, Net};
+use std::net::Ipv4Addr;
 use std::process::Abort;
 use std::test::Fail;
 
@@ -24,37 +28,103 @@ static TYPED: &[u8] = b"login alfa\r\nsesame\r\nlogout\r\n";
 
 static SHOWN: &[u8] = b"PASSWORD\r\nALFA LOGGED IN\r\nW 0000.0\r\nALFA LOGGED OUT\r\n";
 
-static EVENTS: [Row; 4] = [
-    (0, Happens::Dial),
-    (0, Happens::Line(b"LOGIN ALFA")),
-    (0, Happens::Line(b"SESAME")),
-    (0, Happens::Line(b"LOGOUT")),
-];
+/// What happens at console 1 and tick 0, a line or a DIAL.
+static EVENTS: [Option<&[u8]>; 4] = [None, Some(b"LOGIN ALFA"), Some(b"SESAME"), Some(b"LOGOUT")];
 
-/// Has a client type this at a core, and tries what it gets, and which events the core was given.
-fn is_served<R: Net + Abort, C: LiveCore + Drop>(rt: &R, alloc: Global, core: C) -> Result<(), Fail>
+/// Whether an event is this line at console 1 and tick 0, or where it is none a DIAL.
+fn is_event(timed: &Timed, wanted: Option<&[u8]>) -> bool {
+    let is_so = match timed.event {
+        Event::Line(line) => wanted == Some(line.as_slice()),
+        event => event == Event::Dial && wanted.is_none(),
+    };
+    is_so && timed.tick == 0 && timed.console.number() == 1
+}
+
+/// Tries that these are the events.
+fn are_events(rt: &impl Abort, events: &[Timed]) {
+    assert!(rt; events.len() == EVENTS.len());
+    for (timed, wanted) in events.iter().zip(&EVENTS) {
+        assert!(rt; is_event(timed, *wanted));
+    }
+}
+
+/// Does two turns of a server, and gives the events.
+fn two_turns<C: LiveCore + Drop, L: Link>(
+    rt: &impl Abort,
+    alloc: Global,
+    core: C,
+    link: &mut L,
+) -> Result<TimedList, NoMemory>
     requires ready { (C.seen core).is_ended ≡ false }
     requires sound { C.Sound core }
 {
-    let mut link = MioLink::new(alloc, rt)?;
-    let port = opened(rt, &mut link);
-    let mut client = net::TcpStream::connect(rt, (Ipv4Addr::LOCALHOST, port))?;
-    client.write_all(TYPED)?;
-    let events = two_turns(rt, alloc, core, &mut link)?;
-    gets(rt, &mut client, SHOWN)?;
-    are_events(rt, events.as_slice(), &EVENTS);
+    let tables = Tables::new(alloc)?;
+    let mut server = Server::new(tables, core, link);
+    assert!(rt; server.turns(2) == Ok(()));
+    let (finished, _) = server.finish();
+    let Finished { core, events } = finished;
+    drop(core);
+    Ok(events)
+}
+
+/// The base's script, which is lawful.
+#[tactic(auto, using(text_model::proofs::LawfulLaws::scripts_are_lawful))]
+fn base_of(rt: &impl Abort, alloc: Global) -> Result<Script, Fail>
+    ensures { IfOk result IsLawful }
+{
+    match read_script(alloc, BASE) {
+        Ok(script) => Ok(script),
+        Err(_) => panic!(rt; "the script is refused"),
+    }
+}
+
+/// Serves the run of a script over this drum and this disk, and tries which events it was given.
+fn over_media<D: Medium, F: Medium, L: Link>(
+    rt: &impl Abort,
+    alloc: Global,
+    script: &Script,
+    drum: &mut D,
+    disk: &mut F,
+    link: &mut L,
+) -> Result<(), Fail>
+    requires lawful { IsLawful script.now }
+    requires drum { Serves (D.contents drum.old) (D.record_count drum.old) (D.words_each drum.old) 3840 }
+    requires disk { Holds (F.contents disk.old) (F.record_count disk.old) (F.words_each disk.old) 10000 }
+{
+    let new = NewRun::new(alloc, script)?;
+    let Begun { run, wrote } = begin(new, script, drum, disk);
+    let Ok(()) = wrote else {
+        panic!(rt; "the disk failed");
+    };
+    let events = two_turns(rt, alloc, run, link)?;
+    are_events(rt, events.as_slice());
     Ok(())
+}
+
+/// Serves the base over a drum and a disk in memory.
+fn is_served<L: Link>(rt: &impl Abort, alloc: Global, link: &mut L) -> Result<(), Fail> {
+    let script = base_of(rt, alloc)?;
+    let mut drum = PlainMedium::new(alloc, 3840, 256)?;
+    let mut disk = PlainMedium::new(alloc, 10000, 432)?;
+    over_media(rt, alloc, &script, &mut drum, &mut disk, link)
+}
+
+/// Has a client type, and tries what it gets.
+fn types_and_gets<L: Link, S: Read + Write>(
+    rt: &impl Abort,
+    alloc: Global,
+    link: &mut L,
+    client: &mut S,
+) -> Result<(), Fail> {
+    client.write_all(TYPED)?;
+    is_served(rt, alloc, link)?;
+    gets(rt, client, SHOWN)
 }
 
 #[test]
 fn a_login_over_a_socket_is_served(rt: HostRuntime) -> Result<(), Fail> {
-    let script = script_of(&rt, rt.alloc(), BASE)?;
-    let mut drum = MemoryMedium::new(rt.alloc(), 3840, 256, &[], &[], 0)?;
-    let mut disk = MemoryMedium::new(rt.alloc(), 10000, 432, &[], &[], 0)?;
-    let new = NewRun::new(rt.alloc(), &script)?;
-    let Begun { run, wrote } = begin(new, &script, &mut drum, &mut disk);
-    let Ok(()) = wrote else {
-        panic!(rt; "the disk failed");
-    };
-    is_served(&rt, rt.alloc(), run)
+    let mut link = MioLink::new(rt.alloc(), &rt)?;
+    let port = opened(&rt, &mut link);
+    let mut client = net::TcpStream::connect(&rt, (Ipv4Addr::LOCALHOST, port))?;
+    types_and_gets(&rt, rt.alloc(), &mut link, &mut client)
 }

@@ -1,11 +1,11 @@
-ghost use Rattle.std.specs.Prelude.{◌≡◌, ◌≢◌, ◌<◌, ◌≤◌, ◌+◌, ℕ, All, length};
+//! Users' images over core and drum. What a drum that fails or gives other words comes to is a case of run_cases.
+ghost use Rattle.std.specs.Prelude.{◌≡◌, ◌≢◌, ◌<◌, ◌≤◌, ◌+◌, ℕ, length};
 ghost use Rattle.core_bank.specs.Bank.{AreWords, block_at};
 ghost use Rattle.drum_slots.specs.Kept.{Serves};
 ghost use Rattle.drum_slots.specs.Table.{records_of};
 ghost use Rattle.onion_swap.specs.Places.{base_of};
 ghost use Rattle.image_map.specs.Blocks.{first};
 ghost use Rattle.image_map.specs.Images.{size_of, image_in, where_told};
-ghost use Rattle.medium.specs.Damages.{IsDamage};
 
 use crate::rows::holds;
 use crate::telling::{Call, TellingDrum};
@@ -13,7 +13,7 @@ use core_bank::Bank;
 use cpu_regs::{MemoryPort, Outside};
 use ctss_types::UserNo;
 use image_map::{DrumFault, Image, Plan, Port, store_in};
-use medium::{Damage, Medium, MemoryMedium};
+use medium::{Medium, MemoryMedium};
 use std::alloc::{AllocError, Global};
 use std::process::Abort;
 use std::test::Fail;
@@ -303,51 +303,4 @@ fn moves_a_user_that_grows(rt: HostRuntime) -> Result<(), Fail> {
     assert!(rt; runs(&rt, &mut image, &[0, 100, 100], &STEPS) == Ok(()));
     let _ = image.back();
     Ok(())
-}
-
-/// Loads users 1, 2 and 1 in turn, of all of core each, over a drum with these faults and damages, which makes 256 writes
-/// and 128 reads. Compares how that ends, and if no load fails the word that user 1 has at address 5 then.
-fn gives(
-    rt: &impl Abort,
-    alloc: Global,
-    faults: &[u64],
-    damages: &[Damage],
-    word: i8,
-    ended: Result<(), DrumFault>,
-) -> Result<(), Fail>
-    requires { All (λ damage. IsDamage 256 damage) damages.now }
-{
-    let steps = [
-        (1, Give(128)),
-        (2, Give(128)),
-        (1, Load(0, 0, 128, 0, STAYS)),
-        (1, Put(5, 7)),
-        (2, Load(128, 0, 128, 0, STAYS)),
-        (1, Load(128, 128, 0, 0, STAYS)),
-        (1, Get(5, Ok(word))),
-    ];
-    let mut drum = MemoryMedium::new(alloc, 256, 256, faults, damages, 0)?;
-    let mut image = Image::new(alloc, &mut drum, 256, &[128, 128])?;
-    assert!(rt; runs(rt, &mut image, &[0, 128, 128], &steps) == ended);
-    assert!(rt; image.failed() == ended.is_err());
-    let _ = image.back();
-    Ok(())
-}
-
-#[test]
-fn shows_what_the_drum_gives(rt: HostRuntime) -> Result<(), Fail> {
-    let damage = Damage {
-        read: Some(1),
-        place: 5,
-        word: 9,
-    };
-    gives(&rt, rt.alloc(), &[], &[damage], 9, Ok(()))
-}
-
-#[test]
-fn fails_with_each_call_of_the_drum(rt: HostRuntime) -> Result<(), Fail> {
-    for number in [1, 128, 129, 130, 383, 384] {
-        gives(&rt, rt.alloc(), &[number], &[], 7, Err(DrumFault))?;
-    }
-    gives(&rt, rt.alloc(), &[385], &[], 7, Ok(()))
 }

@@ -1,8 +1,11 @@
-//! Trials of the machine's parts: words and characters, sums, products and shifts, operations, registers, relocation, and cores.
+//! Trials of the machine's parts: words and characters, operations, registers, relocation, and cores. Sums, products and shifts are
+//! cases of step_cases.
 #![tactic(auto)]
 
 #[cfg(test)]
 mod banks;
+#[cfg(test)]
+mod bits;
 #[cfg(test)]
 mod characters;
 #[cfg(test)]
@@ -15,11 +18,5 @@ mod registers;
 mod relocation;
 #[cfg(test)]
 mod rows;
-#[cfg(test)]
-mod shifts;
-#[cfg(test)]
-mod signed;
-#[cfg(test)]
-mod sums;
 #[cfg(test)]
 mod words;

@@ -1,5 +1,5 @@
+use crate::bits::bits_of;
 use crate::rows::holds;
-use crate::signed::bits_of;
 use opcode_table::{Class, Instr, Kind, Op, class, decode, encode, kind, op_named};
 use std::test::Fail;
 use word36::Word;

@@ -1,5 +1,5 @@
+use crate::bits::bits_of;
 use crate::rows::holds;
-use crate::signed::bits_of;
 use std::alloc::Global;
 use std::test::Fail;
 use word36::{Acc, TooWide, Word};

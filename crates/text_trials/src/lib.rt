@@ -1,5 +1,5 @@
-//! Trials of texts, of what no case of run_cases shows: the shared types, scripts as they are read and made, reports and
-//! summaries, cards assembled as decks and as modules, streams, and the words of the command line.
+//! Trials of texts, of what no case of run_cases shows: the shared types, scripts as they are read and made, summaries, the segments
+//! of a deck, streams, and the words of the command line.
 #![tactic(auto)]
 
 #[cfg(test)]
@@ -8,12 +8,6 @@ mod assemble;
 mod command;
 #[cfg(test)]
 mod made;
-#[cfg(test)]
-mod modules;
-#[cfg(test)]
-mod read;
-#[cfg(test)]
-mod report;
 #[cfg(test)]
 mod rows;
 #[cfg(test)]

@@ -1,4 +1,5 @@
-//! What no clause says: that calls succeed, and that the pieces fit together.
+//! What no clause says: that calls succeed, and that the pieces fit together. Whole scripts in pieces of 1, 7 and 5000 bytes, and one
+//! of none, are cases of run_cases.
 ghost use Rattle.std.specs.Prelude.{◌<◌, ◌≤◌, IfOk};
 
 use crate::rows::holds;
@@ -89,24 +90,6 @@ fn reads<S: Source>(
 ) -> Result<(), Fail> {
     let bytes = read_bytes(alloc, source)?;
     assert!(rt; bytes.as_slice() == want);
-    Ok(())
-}
-
-/// Bytes, and how many of them come at a time.
-static WHOLE: [(&[u8], usize); 4] = [
-    (b"a line of cards\n", 1),
-    (b"a line of cards\n", 7),
-    (b"a line of cards\n", 5000),
-    (b"", 1),
-];
-
-#[test]
-fn reads_all(rt: HostRuntime) -> Result<(), Fail> {
-    for (bytes, piece) in &WHOLE {
-        assert!(rt; 1 <= *piece);
-        let mut source = MemorySource::new(rt.alloc(), bytes, *piece, &[])?;
-        reads(&rt, rt.alloc(), &mut source, bytes)?;
-    }
     Ok(())
 }
 

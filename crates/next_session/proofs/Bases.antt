@@ -21,7 +21,7 @@ use Rattle.record_laws.proofs.Changes.{fewer_keep}
 use Rattle.record_laws.proofs.Directories.{directories_keep_rules}
 use Rattle.next_session.specs.Tomorrow.{is_card_name, is_kept, files_kept, next_base}
 use Rattle.next_session.specs.Laws.{HoldsWords, NextBasesAreLawful}
-use Rattle.next_session.proofs.Kept.{files_of_kept, each_of_kept, all_of_kept}
+use Rattle.next_session.proofs.KeptLaws.{files_of_kept, each_of_kept, all_of_kept}
 use Rattle.next_session.proofs.Users.{lists_of_files}
 
 -- a name that a card can say is written in at most six characters

@@ -1,7 +1,7 @@
 mod KeptFiles
 mod Headline
 pub mod Users
-pub mod Kept
+pub mod KeptLaws
 pub mod Bases
 pub mod Quiet
 pub mod Read

@@ -83,7 +83,7 @@ fn with_entry(requests: Requests, user: usize, track: Track, entry: &Entry) -> R
 /// What a user waited for, over a whole schedule.
 pub(crate) fn requests_of(user: usize, entries: &[Entry]) -> Requests
     ensures requests { AreRequests result (visits user entries.now) }
-    ensures few { AreFewRequests (2 ^ 57) result }
+    ensures few { AreFewRequests (2 ^ 58) result }
 {
     let mut requests = Requests {
         waited: 0,

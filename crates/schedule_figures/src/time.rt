@@ -46,16 +46,17 @@ fn idle_of(entry: &Entry) -> u64
 fn served_in(entries: &[Entry]) -> u128
     ensures { result ≡ total served_of entries.now }
 {
-    entries
-        .iter()
-        .map(|entry| u128::from(served_of(entry)))
-        .sum()
+    let mut served = 0;
+    for entry in entries {
+        served += u128::from(served_of(entry));
+    }
+    served
 }
 
 /// The blocks that the loads moved.
 fn moved_in(entries: &[Entry]) -> u128
     ensures value { result ≡ total moved_of entries.now }
-    ensures below { result < 2 ^ 66 }
+    ensures below { result < 2 ^ 67 }
 {
     let mut moved = 0;
     for entry in entries {
@@ -68,7 +69,11 @@ fn moved_in(entries: &[Entry]) -> u128
 fn idle_in(entries: &[Entry]) -> u128
     ensures { result ≡ total idle_of entries.now }
 {
-    entries.iter().map(|entry| u128::from(idle_of(entry))).sum()
+    let mut idle = 0;
+    for entry in entries {
+        idle += u128::from(idle_of(entry));
+    }
+    idle
 }
 
 /// Adds a number of which these are the tens and the units: it may be too large for a number of the machine.
@@ -86,7 +91,7 @@ fn add_tens_and_units<K: Sink>(out: &mut TextWriter<'_, K>, tens: u128, units: u
 
 /// Adds the ticks of so many blocks, at so many ticks a block.
 fn add_product<K: Sink>(out: &mut TextWriter<'_, K>, swap: u64, blocks: u128)
-    requires { blocks < 2 ^ 66 }
+    requires { blocks < 2 ^ 67 }
     ensures { Adds K.Sink (decimal (swap * blocks)) out.old out.new }
 {
     let swap = u128::from(swap);

@@ -1,3 +1,3 @@
 pub mod Added
-pub mod Digits
+pub mod OctalDigits
 pub mod FirstCard

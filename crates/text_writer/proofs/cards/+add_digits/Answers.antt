@@ -1,7 +1,7 @@
 use Rattle.std.proofs.Common.{subst, List, ℕ}
 use Rattle.text_writer.specs.Writing.{Adds}
 use Rattle.text_writer.proofs.Added.{◌⨾◌, adds_none}
-use Rattle.text_writer.proofs.Digits.{digits_next, digits_none}
+use Rattle.text_writer.proofs.OctalDigits.{digits_next, digits_none}
 use Rattle.text_writer.proofs.cards.+add_digits.Goals as goal
 
 pub returns-then-count-gt0 : goal.returns-then-count-gt0

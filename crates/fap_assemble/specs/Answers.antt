@@ -23,6 +23,12 @@ IsModuleMade (Ok m) said = said ≡ relocatable m
 IsModuleMade (Err (Faults fs)) said = said ≡ module_faulty (numbered fs)
 IsModuleMade (Err NoMemory) said = Unit {0}
 
+-- the faults that are said, where there are any
+abbrev pub IsRefused : Result Unit AsmFault → ModuleMade → Type 0
+IsRefused (Ok _) said = Unit {0}
+IsRefused (Err (Faults fs)) said = said ≡ module_faulty (numbered fs)
+IsRefused (Err NoMemory) said = Unit {0}
+
 -- how many cards stand before the first END
 abbrev pub end_index : List Card → ℕ
 end_index cards = prefix_len (λ (c : Card). not (is_end (operation_in c.text))) cards

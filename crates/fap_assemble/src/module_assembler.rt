@@ -1,11 +1,11 @@
-ghost use Rattle.std.specs.Prelude.{◌≡◌, ◌+◌, ◌-◌, ◌^◌, ◌<◌, ◌≤◌, [], IfOk, length};
+ghost use Rattle.std.specs.Prelude.{◌≡◌, ◌+◌, ◌-◌, ◌^◌, ◌<◌, ◌≤◌, [], IfOk, OnOk, length};
 ghost use Rattle.fap_model.specs.Places.{value_in, or_zero};
 ghost use Rattle.fap_model.specs.Decks.{cards_read};
 ghost use Rattle.link_model.specs.Moves.{nothing_moved};
 ghost use Rattle.link_model.specs.ModuleCards.{relocated_of, entries_of, module_start, module_faults, module_of_cards, module_made};
 ghost use Rattle.fap_assemble.specs.Steps.{texts};
 ghost use Rattle.fap_assemble.specs.Follows.{numbered};
-ghost use Rattle.fap_assemble.specs.Answers.{end_index, IsModuleMade};
+ghost use Rattle.fap_assemble.specs.Answers.{end_index, IsModuleMade, IsRefused};
 ghost use Rattle.fap_assemble.specs.Judging.{relocated_in};
 ghost use Rattle.fap_assemble.specs.ModuleFollows.{TellsAll};
 ghost use Rattle.fap_assemble.specs.ModuleEnds.{entries_named};
@@ -128,6 +128,32 @@ fn sound_module(
     })
 }
 
+/// Gives up with the faults of cards that together tell this, if there are any.
+fn refuse_faults(
+    alloc: Global,
+    cards: &[Card],
+    read: &[Card],
+    end: usize,
+    r: &Relocated,
+) -> Result<(), AsmFault>
+    requires few { length cards.now < 2 ^ 32 - 1 }
+    requires fewer { length read.now ≤ length cards.now }
+    requires end { end ≡ end_index cards.now }
+    requires read { texts read.now ≡ cards_read (texts cards.now) }
+    requires blocks { r.now.whole.blocks < 2 ^ 30 }
+    requires literals { length r.now.whole.literals < 2 ^ 33 }
+    requires tells { TellsAll r.now (texts read.now) }
+    ensures sound { OnOk result (module_faults (texts cards.now) ≡ []) }
+    ensures faulty { IsRefused result (module_made (texts cards.now)) }
+{
+    let faults = faults_of(alloc, cards, read, end, r)?;
+    if faults.is_empty() {
+        Ok(())
+    } else {
+        Err(AsmFault::Faults(faults))
+    }
+}
+
 /// The module of cards that together tell this, or their faults.
 fn module_of(
     alloc: Global,
@@ -146,10 +172,7 @@ fn module_of(
     requires tells { TellsAll r (texts read.now) }
     ensures { IsModuleMade result (module_made (texts cards.now)) }
 {
-    let faults = faults_of(alloc, cards, read, end, &r)?;
-    if !faults.is_empty() {
-        return Err(AsmFault::Faults(faults));
-    }
+    refuse_faults(alloc, cards, read, end, &r)?;
     let made = sound_module(alloc, cards, read, end, r)?;
     Ok(made)
 }

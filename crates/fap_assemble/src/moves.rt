@@ -20,6 +20,7 @@ use ctss_types::NoMemory;
 use fap_model::Operation;
 use fap_read::{Card, field, is_comment, symbol};
 use std::alloc::Global;
+use std::mem;
 use word36::Word;
 
 /// The number of places.
@@ -228,6 +229,24 @@ fn equs_with(equs: Roster, symbols: &Symbols, text: &[u8]) -> Result<Roster, NoM
     }
 }
 
+/// Notes a card's symbol if it is an EQU's and no earlier card has it. Where memory lacks, all EQUs are given up.
+fn enter_equ(
+    equs: &mut Roster,
+    alloc: Global,
+    symbols: &Symbols,
+    text: &[u8],
+) -> Result<(), NoMemory>
+    requires { length equs.old < 2 ^ 32 }
+    ensures value { OnOk result (equs.new
+        ≡ equs_with (known_moves (take (length symbols.now) symbols.now) equs.old) (module_operation text.now) (symbol_of text.now)) }
+    ensures few { OnOk result (length equs.new ≤ length equs.old + 1) }
+{
+    let before = mem::replace(equs, Roster::new(alloc));
+    let with = equs_with(before, symbols, text)?;
+    *equs = with;
+    Ok(())
+}
+
 /// Defines the symbol that a card has, and its weight.
 fn enter_worth(
     symbols: &mut Symbols,
@@ -304,54 +323,47 @@ impl Moves {
     }
 
     /// Takes a card that is no comment.
-    fn taking(self, text: &[u8], card: Weighed) -> Result<Moves, NoMemory>
-        requires place { self.place + card.size < 2 ^ 40 }
-        requires few { length self.equs < 2 ^ 32 }
-        ensures moved { IfOk result (λ t. moves_in t
-            ≡ moved_by (moves_in self) (module_operation text.now) (symbol_of text.now) card.size (card.worth.value, card.worth.weight)) }
-        ensures literals { IfOk result (λ t. t.literals
-            ≡ with_literal self.literals (literal_by (operation_in text.now) text.now)) }
-        ensures place { IfOk result (λ t. t.place ≡ self.place + card.size) }
-        ensures equs { IfOk result (λ t. length t.equs ≤ length self.equs + 1) }
-        ensures few { IfOk result (λ t. length t.literals ≤ length self.literals + 1) }
+    fn taking(&mut self, alloc: Global, text: &[u8], card: Weighed) -> Result<(), NoMemory>
+        requires place { self.old.place + card.size < 2 ^ 40 }
+        requires few { length self.old.equs < 2 ^ 32 }
+        ensures moved { OnOk result (moves_in self.new
+            ≡ moved_by (moves_in self.old) (module_operation text.now) (symbol_of text.now) card.size (card.worth.value, card.worth.weight)) }
+        ensures literals { OnOk result (self.new.literals
+            ≡ with_literal self.old.literals (literal_by (operation_in text.now) text.now)) }
+        ensures place { OnOk result (self.new.place ≡ self.old.place + card.size) }
+        ensures equs { OnOk result (length self.new.equs ≤ length self.old.equs + 1) }
+        ensures few { OnOk result (length self.new.literals ≤ length self.old.literals + 1) }
     {
-        let Moves {
-            mut symbols,
-            mut weights,
-            equs,
-            mut literals,
-            place,
-        } = self;
-        let equs = equs_with(equs, &symbols, text)?;
-        enter_worth(&mut symbols, &mut weights, symbol(text), card.worth)?;
-        enter_literal(&mut literals, literal_by(operation_in(text), text))?;
-        Ok(Moves {
-            symbols,
-            weights,
-            equs,
-            literals,
-            place: place + card.size,
-        })
+        enter_equ(&mut self.equs, alloc, &self.symbols, text)?;
+        enter_worth(
+            &mut self.symbols,
+            &mut self.weights,
+            symbol(text),
+            card.worth,
+        )?;
+        enter_literal(&mut self.literals, literal_by(operation_in(text), text))?;
+        self.place += card.size;
+        Ok(())
     }
 
     /// Takes a card.
     #[tactic(auto, using(crate::proofs::Moving::comment_kept, crate::proofs::Moving::comment_literal))]
-    fn enter(self, alloc: Global, externs: &Roster, text: &[u8]) -> Result<Moves, NoMemory>
-        requires place { self.place < 2 ^ 39 }
-        requires few { length self.equs < 2 ^ 32 }
-        ensures moved { IfOk result (λ t. moves_in t ≡ moved_behind externs.now (moves_in self) text.now) }
-        ensures literals { IfOk result (λ t. t.literals
-            ≡ with_literal self.literals (literal_by (operation_in text.now) text.now)) }
-        ensures place { IfOk result (λ t. t.place ≤ max 32768 (self.place + 1)) }
-        ensures equs { IfOk result (λ t. length t.equs ≤ length self.equs + 1) }
-        ensures few { IfOk result (λ t. length t.literals ≤ length self.literals + 1) }
+    fn enter(&mut self, alloc: Global, externs: &Roster, text: &[u8]) -> Result<(), NoMemory>
+        requires place { self.old.place < 2 ^ 39 }
+        requires few { length self.old.equs < 2 ^ 32 }
+        ensures moved { OnOk result (moves_in self.new ≡ moved_behind externs.now (moves_in self.old) text.now) }
+        ensures literals { OnOk result (self.new.literals
+            ≡ with_literal self.old.literals (literal_by (operation_in text.now) text.now)) }
+        ensures place { OnOk result (self.new.place ≤ max 32768 (self.old.place + 1)) }
+        ensures equs { OnOk result (length self.new.equs ≤ length self.old.equs + 1) }
+        ensures few { OnOk result (length self.new.literals ≤ length self.old.literals + 1) }
     {
         if is_comment(text) {
-            return Ok(self);
+            return Ok(());
         }
         let card = self.coming(alloc, externs, text)?;
-        let taken = self.taking(text, card)?;
-        Ok(taken)
+        self.taking(alloc, text, card)?;
+        Ok(())
     }
 }
 
@@ -365,8 +377,7 @@ pub(crate) fn moves_of(alloc: Global, externs: &Roster, cards: &[Card]) -> Resul
 {
     let mut moves = Moves::new(alloc);
     for card in cards {
-        let next = moves.enter(alloc, externs, card.text.as_slice())?;
-        moves = next;
+        moves.enter(alloc, externs, card.text.as_slice())?;
     }
     Ok(moves)
 }

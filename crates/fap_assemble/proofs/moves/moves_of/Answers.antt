@@ -5,11 +5,11 @@ use Rattle.fap_assemble.proofs.moves.moves_of.Goals as goal
 
 pub loop-card-preserved : goal.loop-card-preserved
 loop-card-preserved c = record {
-  rest = rest_moved c.args.externs.now c.args.cards.now c.loop-card.card-index c.card-item.result c.as_slice.result.now (moves_in c.loop-card.moves) (moves_in c.in_ok-next.next) _
-      c.loop-card-test.true c.card-item.is c.as_slice.ensures c.loop-card.invariant.rest c.in_ok-next.ensures.moved;
-  literals = rest_literals c.args.cards.now c.loop-card.card-index c.card-item.result c.as_slice.result.now c.loop-card.moves.literals c.in_ok-next.next.literals _
-      c.loop-card-test.true c.card-item.is c.as_slice.ensures c.loop-card.invariant.literals c.in_ok-next.ensures.literals;
-  place = omega (arith, c.loop-card.invariant.place, c.in_ok-next.ensures.place);
-  equs = omega (arith, c.loop-card.invariant.equs, c.in_ok-next.ensures.equs);
-  few = omega (arith, c.loop-card.invariant.few, c.in_ok-next.ensures.few);
+  rest = rest_moved c.args.externs.now c.args.cards.now c.loop-card.card-index c.card-item.result c.as_slice.result.now (moves_in c.loop-card.moves) (moves_in c.enter.new.self) _
+      c.loop-card-test.true c.card-item.is c.as_slice.ensures c.loop-card.invariant.rest c.in_ok-enter.ensures.moved;
+  literals = rest_literals c.args.cards.now c.loop-card.card-index c.card-item.result c.as_slice.result.now c.loop-card.moves.literals c.enter.new.self.literals _
+      c.loop-card-test.true c.card-item.is c.as_slice.ensures c.loop-card.invariant.literals c.in_ok-enter.ensures.literals;
+  place = omega (arith, c.loop-card.invariant.place, c.in_ok-enter.ensures.place);
+  equs = omega (arith, c.loop-card.invariant.equs, c.in_ok-enter.ensures.equs);
+  few = omega (arith, c.loop-card.invariant.few, c.in_ok-enter.ensures.few);
 }

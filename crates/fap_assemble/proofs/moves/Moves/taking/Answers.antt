@@ -8,8 +8,8 @@ use Rattle.fap_assemble.proofs.moves.Moves.taking.Goals as goal
 
 pub returns-clause-moved : goal.returns-clause-moved
 returns-clause-moved c =
-    taken_parts (moves_in c.args.self) c.enter_worth.new.symbols c.enter_worth.new.weights c.in_ok-equs.equs (module_operation c.args.text.now) (symbol_of c.args.text.now) c.args.card.size
+    taken_parts (moves_in c.args.self.now) c.enter_worth.new.symbols c.enter_worth.new.weights c.enter_equ.new.equs (module_operation c.args.text.now) (symbol_of c.args.text.now) c.args.card.size
     c.args.card.worth.value c.args.card.worth.weight
-    (c.in_ok-enter_worth.ensures.symbols ∙ ap (λ (name : Option ℕ). symbol_entered c.args.self.symbols name c.args.card.worth.value) c.symbol.ensures)
-    (c.in_ok-enter_worth.ensures.weights ∙ ap (λ (name : Option ℕ). symbol_entered c.args.self.weights name c.args.card.worth.weight) c.symbol.ensures)
-    c.in_ok-equs.ensures.value
+    (c.in_ok-enter_worth.ensures.symbols ∙ ap (λ (name : Option ℕ). symbol_entered c.args.self.now.symbols name c.args.card.worth.value) c.symbol.ensures)
+    (c.in_ok-enter_worth.ensures.weights ∙ ap (λ (name : Option ℕ). symbol_entered c.args.self.now.weights name c.args.card.worth.weight) c.symbol.ensures)
+    c.in_ok-enter_equ.ensures.value

@@ -73,7 +73,7 @@ fn transcripts(alloc: Global) -> Result<Transcripts, Fail> {
 fn record(alloc: Global) -> Result<Record, Fail> {
     let transcripts = transcripts(alloc)?;
     Ok(Record {
-        entries: Sequence::from_vec(Vec::from_clones(alloc, &ENTRIES)?),
+        entries: Sequence::from_vec(Vec::from_array(alloc, ENTRIES)?),
         transcripts,
         files: Sequence::new(alloc),
         common: Sequence::new(alloc),

@@ -234,7 +234,7 @@ module _ (console : ℕ) (one : 1 ≤ console) where
             (λ p k. in_turn p (any_back p heard told (told_within p i second answers.told k))) read_all.now (sym (lost_at i answers.told) ∙ is);
       }
 
-  -- turns one after another, behind such calls
+  -- turns one after another, after such calls
   pub ended_turns : (n : ℕ) (texts : List (List ℕ)) (desk : Desk) (turns : List TurnSeen) (calls : List Done) (events : List Event) (w : Watch) → AreTurns texts desk turns →
       Watched AnyVisit (get_or desk.seats (console - 1) None) (get_or desk.failed (console - 1) false) events w → AreEnded calls (get_or desk.failed (console - 1) false) w →
       AreEnded (calls ++ calls_of_turns texts desk turns) (get_or (desk_behind texts desk turns).failed (console - 1) false) (all_watched console n texts desk turns w)

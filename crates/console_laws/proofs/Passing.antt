@@ -14,7 +14,7 @@ use Rattle.console_laws.specs.Laws.{ReadsAreTaken, WritesAreSent}
 use Rattle.console_laws.proofs.Watching.{none_heard, none_told}
 use Rattle.console_laws.proofs.AtConsole.{same, other}
 
--- behind calls
+-- after calls
 
 abbrev pub passed_all : List Done → ℕ → Passed → Passed
 passed_all [] k p = p

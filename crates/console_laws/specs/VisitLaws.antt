@@ -60,7 +60,7 @@ pub record AreVisitsSoFar (console : ℕ) (texts : List (List ℕ)) (turns : Lis
   pub sent : link.tells ≡ true → AreCountable (texts_behind texts turns)
       → All (λ (v : Visit). (link.passed v.id).sent ≡ take (length (link.passed v.id).sent) (drop v.place (get_or (texts_behind texts turns) (console - 1) []))) visits
 
--- From a desk without connections on, behind turns and one that failed, the events at a console are a beginning of those of its visits:
+-- From a desk without connections on, after turns and one that failed, the events at a console are a beginning of those of its visits:
 -- all of them, where the core was to go on. A Hang is of a connection that ended, if the turn read only as far as it may.
 abbrev pub CutEventsAreVisits : Type 0
 CutEventsAreVisits =

@@ -108,7 +108,7 @@ abbrev pub if_new : {X : Type 0} → Option ℕ → ℕ → X → X → X
 if_new None k x was = was
 if_new (Some id) k x was = if nat_eq k id then x else was
 
--- which connections are open behind a call
+-- which connections are open after a call
 abbrev pub open_after : Done → ℕ → Bool → Bool
 open_after (DidOpen port failed) k was = was
 open_after (DidAccept answer) k was = if_new (new_of answer) k true was
@@ -117,7 +117,7 @@ open_after (DidWrite id answer bytes) k was = was
 open_after (DidClose id) k was = if nat_eq k id then false else was
 open_after (DidWait millis failed) k was = was
 
--- what has passed over a connection behind a call
+-- what has passed over a connection after a call
 abbrev pub passed_after : Done → ℕ → Passed → Passed
 passed_after (DidOpen port failed) k was = was
 passed_after (DidAccept answer) k was = if_new (new_of answer) k nothing_passed was

@@ -1,4 +1,4 @@
--- A link behind more calls.
+-- A link after more calls.
 use Rattle.std.specs.Prelude.{map, take, drop, length, get_or}
 use Rattle.std.proofs.Math.Seq.{take-append_seam, take-append-add}
 use Rattle.ctss_types.specs.declared.script.Event.{Event}

@@ -114,7 +114,7 @@ module _ {C L : Type 0} (goes : C → List CoreCall → C → Type 0) (none : (a
     failed = sym d.failed;
   }
 
-  -- the desk behind the turns that were done is that of the tasks and flags
+  -- the desk after the turns that were done is that of the tasks and flags
   pub desk_is : (n : ℕ) (desk : Desk) (o p : ServerState C L) → (s : TurnsAreDone goes see look n desk o p) → IsDeskOf p (desk_behind (see o.core).texts desk s.turns)
   desk_is n desk o p s = record { seats = s.seats; failed = sym s.failed }
 

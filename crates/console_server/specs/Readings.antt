@@ -21,7 +21,7 @@ bytes_of reads = flat_map (λ (r : Gave). r.bytes) reads
 abbrev pub did_read : ℕ → Gave → Done
 did_read id r = DidRead id r.answer r.bytes
 
--- a link behind these calls
+-- a link after these calls
 pub data DidAll : List Done → LinkSeen → LinkSeen → Type 0 where
   Nothing : (s : LinkSeen) → DidAll [] s s
   Then : (d : Done) (ds : List Done) (s t u : LinkSeen) → Did d s t → DidAll ds t u → DidAll (d ∷ ds) s u

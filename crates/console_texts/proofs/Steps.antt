@@ -303,7 +303,7 @@ stepped_still true t u made reply v LoggedOut left cs h = cc h
 stepped_still false t u None reply v LoggedOut left cs h = cc h
 stepped_still false t u (Some op) reply v LoggedOut left cs h = cc h
 
--- where a service is open behind the step, the session goes on
+-- where a service is open after the step, the session goes on
 stepped_served : (u : ℕ) (v : Service) (e : Ending) (left : Bool) (cs : List Console) → is_some (service_after v (cause_of e left)) ≡ true → consoles_after e u cs ≡ cs
 stepped_served u v Went left cs h = refl
 stepped_served u v Stopped left cs h = refl

@@ -1,4 +1,4 @@
--- The consoles' texts behind each step of a run, and along whole runs.
+-- The consoles' texts after each step of a run, and along whole runs.
 use Rattle.std.proofs.Common.{◌≡◌, ℕ, zero, suc, ◌<◌, ◌≤◌, Bool, true, false, nat_eq, Option, Some, None, List, [], ◌∷◌, ◌++◌, All, length, map, drop, cond, refl, sym, ◌∙◌, ap, subst, arith, lt-ltb, le-ltb}
 use Rattle.std.specs.Option.{is_some}
 use Rattle.std.proofs.lemmas.List.{length-append}
@@ -61,7 +61,7 @@ all_of : {X : Type 0} (P : X → Type 0) (x : X) (xs : List X) → P x → All P
 all_of P x xs h k zero d i = h
 all_of P x xs h k (suc n) d i = k n d (omega arith)
 
--- each row shows more by what its console newly says, and is then that of the console behind the step
+-- each row shows more by what its console newly says, and is then that of the console after the step
 module _ (r : Run) (s t : State) (f : Shown → Shown) where
   abbrev Row : Shown → Type 0
   Row x = (x.console ≡ at Off s.consoles x.number) → Fits (transcripts_of s.users) (user_in x.console) x → 0 < x.number →

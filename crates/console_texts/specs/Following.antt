@@ -1,4 +1,4 @@
--- proof: what a console has shown behind one step of a run.
+-- proof: what a console has shown after one step of a run.
 use Rattle.std.specs.Prelude.{◌≡◌, ℕ, zero, suc, ◌-◌, Bool, true, false, not, ◌&&◌, if◌then◌else◌, nat_eq, Option, Some, None, List, [], ◌∷◌, ◌++◌, All}
 use Rattle.time_sharing.specs.System.{Console, Off, On, Password, Session, at}
 use Rattle.time_sharing.specs.Texts.{user_in, shows}

@@ -21,11 +21,11 @@ transcripts_of users = map (λ (p : User). p.transcript) users
 abbrev pub watch : Run → List (List ℕ) → Watched User Plan (List FileBody)
 watch r texts = record { system = r.system; texts = texts }
 
--- the texts behind one step
+-- the texts after one step
 unfoldable pub texts_next : ℕ → Run → List (List ℕ) → List (List ℕ)
 texts_next limit r texts = texts_after (machine user_rows) (round r.swap r.common r.accounts) 1 r.system (next limit r).system texts
 
--- the texts behind all steps below the limit
+-- the texts after all steps below the limit
 unfoldable pub texts_to : ℕ → Run → List (List ℕ) → List (List ℕ)
 texts_to limit r texts = (watched_to (machine user_rows) (round r.swap r.common r.accounts) limit (watch r texts)).texts
 

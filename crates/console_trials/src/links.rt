@@ -107,7 +107,7 @@ pub(crate) fn opened<R: Net>(rt: &impl Abort, link: &mut MioLink<'_, R>) -> u16 
     port
 }
 
-/// The next connection, behind a wait.
+/// The next connection, after a wait.
 fn arrived<L: Link>(rt: &impl Abort, link: &mut L) -> u32
     ensures { (L.seen link.new).is_open result ≡ true }
 {
@@ -115,7 +115,7 @@ fn arrived<L: Link>(rt: &impl Abort, link: &mut L) -> u32
     accepted(rt, link)
 }
 
-/// Tries that a read behind a wait gives this text as a whole.
+/// Tries that a read after a wait gives this text as a whole.
 fn hears<L: Link>(rt: &impl Abort, link: &mut L, id: u32, text: &[u8])
     requires open { (L.seen link.old).is_open id ≡ true }
     ensures open { (L.seen link.new).is_open id ≡ true }

@@ -22,7 +22,7 @@ const TIX: u8 = 2;
 
 /// How a step ended.
 ///
-/// Where it went on or halted, registers and core are those behind the instruction. Every other answer leaves both as
+/// Where it went on or halted, registers and core are those after the instruction. Every other answer leaves both as
 /// they were, the instruction counter too.
 #[derive(Clone, Copy, Debug, PartialEq, Eq)]
 pub enum Stepped {

@@ -1,4 +1,4 @@
--- Bases, owners and kept copies behind each part of a load, and after a user gave up its blocks from one on.
+-- Bases, owners and kept copies after each part of a load, and after a user gave up its blocks from one on.
 use Rattle.std.specs.Prelude.{Bool, true, false, ◌&&◌, ◌||◌, not, Option, None, Some, nat_eq, nat_lt, nat_le, if◌then◌else◌, slice_set, sum, ◌-◌}
 use Rattle.std.proofs.Common.{◌≡◌, ◌≢◌, ◌⊎◌, inl, inr, ℕ, suc, ◌+◌, ◌<◌, ◌≤◌, List, length, refl, sym, ◌∙◌, ap, subst, arith, get_or-set_same, get_or-set_other}
 use Rattle.std.proofs.lemmas.Bool.{cases_eq}

@@ -6,7 +6,7 @@ use ctss_types::{ConsoleNo, NoMemory, RunFault, Timed};
 
 /// A run that is handed its events as they come, and goes on up to a limit at a time.
 ///
-/// Its calls `take` and `advance` have one meaning together, `Goes`: the run behind such calls. Reading what a console
+/// Its calls `take` and `advance` have one meaning together, `Goes`: the run after such calls. Reading what a console
 /// has shown changes nothing. After a fault of `advance` neither may be called again.
 pub trait LiveCore {
     /// Whether a fault ended it, what its consoles have shown, and how often its drum and disk failed.
@@ -15,7 +15,7 @@ pub trait LiveCore {
     /// What it needs to go on.
     ghost Sound: { Self → Type 0 };
 
-    /// The second is the first behind these calls, over the same drum and disk.
+    /// The second is the first after these calls, over the same drum and disk.
     ghost Goes: { Self → List CoreCall → Self → Type 0 };
 
     /// Takes an event, behind all others.
@@ -50,7 +50,7 @@ pub trait LiveCore {
     /// No calls leave it as it is.
     ghost goes_nowhere: { (a : Self) → Goes a [] a };
 
-    /// Behind some calls and then others it is behind all of them.
+    /// After some calls and then others it is behind all of them.
     ghost goes_on: { (a b c : Self) (first second : List CoreCall) → Goes a first b → Goes b second c
         → Goes a (first ++ second) c };
 }

@@ -197,7 +197,7 @@ recorded r s h =
           ((h.1 k).0, b ∙ (h.1 k).1 ∙ ap (λ (is : List Item). is ++ (h.1 k).0) (sym a)));
     }
 
--- behind some steps the rest of a run is what it was
+-- after some steps the rest of a run is what it was
 abbrev steps_of : ℕ → ℕ → Run → State
 steps_of limit n r = whole.iterate (machine user_rows) (round r.swap r.common r.accounts) limit n r.system
 

@@ -1,4 +1,4 @@
--- What a core does behind its calls.
+-- What a core does after its calls.
 use Rattle.std.proofs.Common.{◌≡◌, ℕ, true, List, [], ◌∷◌, ◌++◌, map, None, refl, sym, ap, ◌∙◌}
 use Rattle.std.proofs.lemmas.List.{append_assoc}
 use Rattle.ctss_types.specs.declared.script.Timed.{Timed}
@@ -81,7 +81,7 @@ calls_are_counted (p ∷ parts) old new h =
     let went = given.4 in
     counted_both old given.0 new given.3 (counted_both given.0 went.0 new went.1.counted (calls_are_counted parts went.0 new went.2))
 
--- and behind these calls the consoles show what they show in the run in these parts
+-- and after these calls the consoles show what they show in the run in these parts
 pub calls_show_texts : CallsShowTexts
 calls_show_texts [] old new told h = ap (λ (w : Whole). w.bare.texts) h
 calls_show_texts (p ∷ parts) old new told h =

@@ -20,7 +20,7 @@ pub record IsBeginningOf (so_far all : Record) : Type 0 where
   pub entries : IsBeginning so_far.entries all.entries
   pub transcripts : (k : ℕ) → IsBeginning (get_or so_far.transcripts k []) (get_or all.transcripts k [])
 
--- Behind some whole steps of a script's run the record so far is a beginning of the script's.
+-- After some whole steps of a script's run the record so far is a beginning of the script's.
 abbrev pub StoppedRunsAreBeginnings : Type 0
 StoppedRunsAreBeginnings =
     (script : Script) (at : Run) → AfterSteps script.end (start_of script) at → IsBeginningOf (record_so_far at) (record_of script)

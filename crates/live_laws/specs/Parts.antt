@@ -43,7 +43,7 @@ abbrev pub calls_of : List Part → List CoreCall
 calls_of [] = []
 calls_of (p ∷ parts) = map Took p.events ++ Went p.limit None ∷ calls_of parts
 
--- Behind these calls, none of which met a fault, the supervisor's run is the run in these parts; where drum and disk tell their records.
+-- After these calls, none of which met a fault, the supervisor's run is the run in these parts; where drum and disk tell their records.
 abbrev pub CallsAreRuns : Type 0
 CallsAreRuns =
     (parts : List Part) (old new : Whole) → old.back.held.tells ≡ true → Follows (calls_of parts) old new →

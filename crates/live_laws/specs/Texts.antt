@@ -23,7 +23,7 @@ LateEventsShowNothing =
     (events : List Timed) (limit : ℕ) (r : Run) (texts : List (List ℕ)) → AreLate limit events →
     texts_to limit (with_all_events events r) texts ≡ texts_to limit r texts
 
--- the texts behind a run in these parts
+-- the texts after a run in these parts
 abbrev pub texts_in : List Part → Run → List (List ℕ) → List (List ℕ)
 texts_in [] r texts = texts
 texts_in (p ∷ parts) r texts = texts_in parts (run_to p.limit (with_all_events p.events r)) (texts_to p.limit (with_all_events p.events r) texts)
@@ -34,7 +34,7 @@ LiveTextsAreReplayed =
     (base : Script) (parts : List Part) (last : ℕ) (texts : List (List ℕ)) → AreInOrder 0 last parts →
     texts_in parts (start_of (record base { events = [] })) texts ≡ texts_to last (start_of (live_script base (all_events parts) last)) texts
 
--- Behind such calls, none of which met a fault, a supervisor's consoles show what they show in the run in these parts; where drum and
+-- After such calls, none of which met a fault, a supervisor's consoles show what they show in the run in these parts; where drum and
 -- disk tell their records.
 abbrev pub CallsShowTexts : Type 0
 CallsShowTexts =

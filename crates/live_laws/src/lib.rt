@@ -55,7 +55,7 @@ pub fn live_texts_are_replayed()
     ensures { LiveTextsAreReplayed }
 {}
 
-/// What a supervisor shows behind its calls is what such a run shows, over a drum and a disk that tell their records and don't fail.
+/// What a supervisor shows after its calls is what such a run shows, over a drum and a disk that tell their records and don't fail.
 #[tactic(auto, using(crate::proofs::Calls::calls_show_texts))]
 pub fn calls_show_texts()
     ensures { CallsShowTexts }

@@ -25,7 +25,7 @@ abbrev pub Makes : CoreCall → Whole → Whole → Type 0
 Makes (Took e) old new = Takes e old new
 Makes (Went limit fault) old new = Advances limit (result_of fault) old new
 
--- the run behind these calls, one after another
+-- the run after these calls, one after another
 abbrev pub Follows : List CoreCall → Whole → Whole → Type 0
 Follows [] old new = new ≡ old
 Follows (call ∷ calls) old new = (mid : Whole) × Makes call old mid × Follows calls mid new

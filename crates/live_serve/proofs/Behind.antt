@@ -1,4 +1,4 @@
--- A run behind the calls of turns, and what it counts.
+-- A run after the calls of turns, and what it counts.
 use Rattle.std.proofs.Common.{◌≡◌, ℕ, suc, ◌+◌, ◌*◌, ◌≤◌, List, [], ◌∷◌, ◌++◌, map, Option, None, refl, sym, ap, ◌∙◌, arith}
 use Rattle.medium.specs.Medium.{CallList}
 use Rattle.ctss_types.specs.declared.script.Timed.{Timed}

@@ -53,7 +53,7 @@ unfolding joined closed
 ended_begins f r = (end_notes r.system.service ++ idle_notes r.system.idling r.system.clock, ap (λ (q : Run). q.system.entries) (closes (joined f r)))
 
 module _ (base : Script) (was : MediaSeen) (turns : List TurnSeen) (a b : Whole) (begins : Begins base was.tells a) (was_is : a.back.calls ≡ was.drum_calls) where
-  -- a run behind the calls of whole turns
+  -- a run after the calls of whole turns
   parts_behind : Follows (heard_in 0 (events_by turns)) a b → Follows (calls_of (parts_from 0 (events_by turns))) a b
   parts_behind h = subst (λ (l : List CoreCall). Follows l a b) (heard_are 0 (events_by turns)) h
 

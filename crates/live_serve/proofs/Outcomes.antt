@@ -263,7 +263,7 @@ module _ (base : Script) (was now : MediaSeen) (a b : Whole) (begins : Begins ba
       InTurns Advancing here b.bare.entries (counted_in_turn base was here a b begins was_is rec refl run now now_is)
       (λ told. let i = lost_in_turn base was here a b begins was_is rec refl run told in (i.run, i.part, ap (λ (r : Record). r.entries) i.shown))
 
-  -- whatever a run hands out behind its turns, over drum and disk as they are then
+  -- whatever a run hands out after its turns, over drum and disk as they are then
   module _ (was_drum : a.back.faults ≡ was.drum_faults) (was_disk : was.disk_faults ≤ a.back.disk_faults) (last : BackState) (same_calls : last.calls ≡ b.back.calls) (same_faults : last.faults ≡ b.back.faults)
       (calls : last.calls ≡ now.drum_calls) (drum : last.faults ≡ now.drum_faults) (disk : last.disk_faults ≡ now.disk_faults) (events : List Timed) (k l m : LinkSeen) (opened : Did (DidOpen port false) k l) where
     abbrev Lie : Record → Type 0

@@ -84,7 +84,7 @@ unfolding start_of
 start_with base es more last end = refl
 
 module _ (base : Script) (was : MediaSeen) (a : Whole) (begins : Begins base was.tells a) (told : was.tells ≡ true) where
-  -- behind a run in these parts
+  -- after a run in these parts
   shown_in : (w : Whole) (parts : List Part) (last : ℕ) → AreInOrder 0 last parts → Follows (calls_of parts) a w
       → w.bare.texts ≡ texts_to last (start_of (live_script base (all_events parts) last)) silent
   shown_in w parts last order h =

@@ -20,7 +20,7 @@ use Rattle.live_serve.specs.declared.ending.Served.TheVariants.{Done, DrumFailed
 use Rattle.live_serve.specs.declared.fault.ServingFault.{ServingFault}
 use Rattle.live_serve.specs.Live.{IsServed, HasSpent, RunEnds}
 
--- drum and disk as they are seen behind a run
+-- drum and disk as they are seen after a run
 pub record IsBehind (Lies : List (List FileBody) → List FileBody → Type 0) (back : BackState) (now : MediaSeen) : Type 0 where
   pub calls : back.calls ≡ now.drum_calls
   pub faults : back.faults ≡ now.drum_faults

@@ -87,7 +87,7 @@ pub record IsLost (base : Script) (port turns : ℕ) (was now : MediaSeen) (a b 
   pub cause : Rose was.disk_faults now.disk_faults
 
 -- No record came, as memory lacked or the listener failed: before the first turn, when the drum was not called, and the link not, or to be
--- opened; in a turn; or behind all turns. The drum was called as the loads of these entries say, which where drum and disk tell their records
+-- opened; in a turn; or after all turns. The drum was called as the loads of these entries say, which where drum and disk tell their records
 -- are those of some whole steps, a beginning of the run's; or, if the drum had failed before, as it was then.
 pub data HasSpent (base : Script) (port turns : ℕ) (was now : MediaSeen) (a b : LinkSeen) : Type 0 where
   BeforeTurns : now.drum_calls ≡ was.drum_calls → (calls : List DidCall) → DidAll calls a b → length calls ≤ 1 → HasSpent base port turns was now a b

@@ -73,7 +73,7 @@ pub record IsCutTalk (base : Script) (told : Bool) (port count : ℕ) (at : CutA
       ++ (calls_until (texts_behind silent turns) (desk_behind silent empty_desk turns) answers at ++ map DidClose closed))) a b
   pub shown : told ≡ true → AreTextsOf (start_of (live_script base (events_given turns) (1000 * length turns))) turns
 
--- a core behind all its turns, of consoles that had shown these texts
+-- a core after all its turns, of consoles that had shown these texts
 pub record TalkIsDone {C : Type 0} (goes : C → List CoreCall → C → Type 0) (see : C → CoreSeen) (texts : List (List ℕ)) (count : ℕ) (events : List Timed) (a b : LinkSeen) (old new : C) : Type 0 where
   pub turns : List TurnSeen
   pub many : length turns ≡ count

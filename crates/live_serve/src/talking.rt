@@ -8,7 +8,7 @@ use console_server::{Finished, ServeFault, Server, Tables};
 use ctss_types::TimedList;
 use live_core::LiveCore;
 
-/// A core behind its turns, the events that it was given, and how the turns ended.
+/// A core after its turns, the events that it was given, and how the turns ended.
 #[derive(Drop)]
 pub(crate) struct Talked<C> {
     pub(crate) core: C,

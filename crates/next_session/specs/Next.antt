@@ -10,7 +10,7 @@ use Rattle.next_session.specs.Tomorrow.{next_base}
 use Rattle.next_session.specs.Laws.{IsReadAs}
 use Rattle.script_show.specs.Shown.{ShownText, Spells, StreamsSeen}
 
--- the canonical text of the base behind the run of a script
+-- the canonical text of the base after the run of a script
 abbrev pub next_text : ShownText
 next_text script rec = script_text_of (next_base script rec)
 

@@ -45,7 +45,7 @@ core_lines owners (e ∷ es) = core_line (first_owners owners) e ++ core_lines (
 abbrev pub core_head : List ℕ
 core_head = line (codes "      TICK  USER  DUMPED    READ CLEARED  PLACES OF CORE BEHIND THE LOAD, AND WHOSE THEY ARE")
 
--- the whole picture in characters, with the owners of core behind each load
+-- the whole picture in characters, with the owners of core after each load
 unfoldable pub chart_over : List (ℕ → ℕ) → Script → Record → List ℕ
 chart_over owners script rec = chart_of script rec ++ (core_head ++ core_lines owners rec.entries)
 

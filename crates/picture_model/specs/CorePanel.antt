@@ -75,7 +75,7 @@ abbrev pub next_load : (last cut : ℕ) → List Entry → ℕ
 next_load last cut [] = last
 next_load last cut (e ∷ es) = load_place cut e (next_load last (cut + cut_of e) es)
 
--- the owners behind the next load, and those behind the loads that come after an entry
+-- the owners behind the next load, and those after the loads that come after an entry
 abbrev pub first_owners : List (ℕ → ℕ) → ℕ → ℕ
 first_owners [] = λ place. 0
 first_owners (owner ∷ owners) = owner
@@ -91,7 +91,7 @@ core_drawn scale zoom users cut until owner (Swap tick user dumped read fresh) =
     load_shown scale zoom users (tick - cut) until dumped read fresh owner (Swap tick user dumped read fresh)
 core_drawn scale zoom users cut until owner _ = []
 
--- the same of all entries, with the owners behind each load
+-- the same of all entries, with the owners after each load
 abbrev pub cores_drawn : (scale zoom users last cut : ℕ) → List (ℕ → ℕ) → List Entry → List ℕ
 cores_drawn scale zoom users last cut owners [] = []
 cores_drawn scale zoom users last cut owners (e ∷ es) =

@@ -1,4 +1,4 @@
--- claim: whose each place of core is, when the run of a script has come to a tick, and behind each load.
+-- claim: whose each place of core is, when the run of a script has come to a tick, and after each load.
 use Rattle.std.specs.Prelude.{ℕ, suc, min, List, [], ◌∷◌, ◌++◌, map, slice_index_or}
 use Rattle.ctss_types.specs.declared.script.Script.{Script}
 use Rattle.ctss_types.specs.declared.history.Entry.{Entry}
@@ -23,7 +23,7 @@ abbrev pub load_ticks : List Entry → List ℕ
 load_ticks [] = []
 load_ticks (e ∷ es) = load_tick e ++ load_ticks es
 
--- the owners behind each load of a schedule
+-- the owners after each load of a schedule
 abbrev pub owners_in : Script → List Entry → List (ℕ → ℕ)
 owners_in script es = map (owner_behind script) (load_ticks es)
 

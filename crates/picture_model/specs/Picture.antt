@@ -8,7 +8,7 @@ use Rattle.picture_model.specs.Drawing.{back_drawn, figures_drawn, rows_drawn, s
 use Rattle.picture_model.specs.Cores.{owners_in}
 use Rattle.picture_model.specs.CorePanel.{core_panel}
 
--- what is drawn, from back to front, with the owners of core behind each load
+-- what is drawn, from back to front, with the owners of core after each load
 abbrev pub drawing_with : (scale zoom users places : ℕ) → List (ℕ → ℕ) → Script → Record → List ℕ
 drawing_with scale zoom users places owners script rec =
     back_drawn scale zoom users places script.params.swap rec

@@ -16,7 +16,7 @@ tick_or (Some a) tick = a
 tick_or None tick = tick
 
 -- Since when a user has waited that is served from this tick on: since the last service that did not do what was asked for; else since
--- the first line that came behind the last service, if it came before this one began; else since that service ended, as lines were left.
+-- the first line that came after the last service, if it came before this one began; else since that service ended, as lines were left.
 abbrev pub waited_from : Track → ℕ → ℕ
 waited_from Fresh tick = tick
 waited_from (Done ended) tick = ended
@@ -61,7 +61,7 @@ taken_as kind.Quit tick t = Fresh
 taken_as kind.Hang tick t = Fresh
 taken_as kind.Spent tick t = Fresh
 
--- behind a service that ended at this tick
+-- after a service that ended at this tick
 abbrev pub served_until : Bool → (asked until : ℕ) → Track
 served_until true asked until = Done until
 served_until false asked until = UnderWay asked until

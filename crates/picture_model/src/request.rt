@@ -118,7 +118,7 @@ impl Track {
         }
     }
 
-    /// Behind a service.
+    /// After a service.
     fn served(self, tick: u64, ran: u64, cause: Cause) -> Track
         ensures { result ≡ served_until (ends_request cause) (asked_from self tick) (tick + ran) }
     {

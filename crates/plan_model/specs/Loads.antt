@@ -96,7 +96,7 @@ brought_in p u n =
           || (p.kept v b && not (nat_eq v u && nat_lt b n && is_read p u b));
     }
 
--- behind a load of a user's n blocks
+-- after a load of a user's n blocks
 unfoldable pub loaded : Places → ℕ → ℕ → Places
 loaded p u n = brought_in (based p u n) u n
 

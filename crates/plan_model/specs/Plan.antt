@@ -25,7 +25,7 @@ abbrev pub move_of : ℕ → Places → ℕ → ℕ → Move
 move_of swap places u n =
     record { ticks = swap * (dumps places u n + reads places u n); dumped = dumps places u n; read = reads places u n; fresh = clears places u n }
 
--- a user that has n blocks behind a step gives up the others, and all where its program was replaced
+-- a user that has n blocks after a step gives up the others, and all where its program was replaced
 abbrev pub places_after : Ending → ℕ → ℕ → Places → Places
 places_after Went u n places = places
 places_after Stopped u n places = given_up places u n

@@ -15,7 +15,7 @@ use Rattle.program_model.specs.declared.EntryFault.TheVariants.{NoSuchEntry, Out
 abbrev pub call_place : Regs → ℕ
 call_place r = (2 ^ 15 - xr r 4) % 2 ^ 15
 
--- the n-th place behind the call, from 1 on, round the end of core
+-- the n-th place after the call, from 1 on, round the end of core
 abbrev pub behind_call : Regs → ℕ → ℕ
 behind_call r n = (call_place r + n) % 2 ^ 15
 

@@ -81,7 +81,7 @@ new_fits quota name words files none h =
     they_fit quota (with_new name words files) (All-push HasMode files _ h.modes (omega arith))
     (new_differs name words files none h.differ)
 
--- the modes behind a change of the file of a name
+-- the modes after a change of the file of a name
 modes_behind : (name : NamePair) (change : FileBody → FileBody) (files : List FileBody)
     → ((f : FileBody) → f.mode ≤ 3 → (change f).mode ≤ 3) → All HasMode files
     → All HasMode (with_change name change files)

@@ -50,7 +50,7 @@ same_number x y e = cc
 same_service : (x y : Service) → Some x ≡ Some y → x ≡ y
 same_service x y e = cc
 
--- what holds of a user's state still does behind a write, where it holds of what is written
+-- what holds of a user's state still does after a write, where it holds of what is written
 put_keeps : {S : Type 0} (Q : S → Type 0) (d : S) (xs : List S) (u v : ℕ) (a : S) → Q (at d xs v) → (u ≡ v → Q a)
     → Q (at d (put xs u a) v)
 put_keeps Q d xs u v a h k =
@@ -68,7 +68,7 @@ before_service swap false t u (Some op) r more = refl
 before_service swap true t u None r more = refl
 before_service swap true t u (Some op) r more = refl
 
--- a service that goes on behind a step
+-- a service that goes on after a step
 goes_on_went : (e : Ending) (left : Bool) → cause_of e left ≡ None → e ≡ Went
 goes_on_went Went left h = refl
 goes_on_went Stopped left h = cc

@@ -1,4 +1,4 @@
-//! What a run notes in its schedule, and small parts of its state behind a step: the definitions are those of time_sharing `System` and
+//! What a run notes in its schedule, and small parts of its state after a step: the definitions are those of time_sharing `System` and
 //! system_model `Cases`.
 #![tactic(auto)]
 
@@ -114,7 +114,7 @@ pub fn service_left(service: Option<Service>, user: UserNo) -> Option<Service>
     }
 }
 
-/// The entry of a service that ends behind a step of it. It stands apart, so that other steps don't pay for the room
+/// The entry of a service that ends after a step of it. It stands apart, so that other steps don't pay for the room
 /// of an entry.
 #[inline(never)]
 fn note_end(entries: &mut Vec<Entry>, v: Service, cause: Cause)
@@ -134,7 +134,7 @@ fn note_end(entries: &mut Vec<Entry>, v: Service, cause: Cause)
     );
 }
 
-/// The service behind a step of it, if it goes on; where it ends, its entry is noted.
+/// The service after a step of it, if it goes on; where it ends, its entry is noted.
 pub fn note_step(entries: &mut Vec<Entry>, v: Service, cause: Option<Cause>) -> Option<Service>
     requires room { vec_len entries.old < vec_capacity entries.old }
     requires ran { v.ran < 2 ^ 64 - 1 }
@@ -190,7 +190,7 @@ pub fn idle_from(idling: Option<u64>, now: u64) -> u64
     }
 }
 
-/// Why a service ends behind a step, if it does.
+/// Why a service ends after a step, if it does.
 pub fn cause_of(ending: Ending, left: bool) -> Option<Cause>
     ensures { result ≡ cause_from ending left }
 {

@@ -85,7 +85,7 @@ pub shows : (script : Script) (t : ℕ) (left : List ℕ) (old new : Whole) → 
     → Reaches (min (suc t) script.end) old new → new.back.held.places.owner ≡ owner_at script (min (suc t) script.end)
 shows script t left old new was h = owners_are script (min (suc t) script.end) new (run_is script t left old new was h)
 
--- behind the load at a place of a list of ticks
+-- after the load at a place of a list of ticks
 pub next_load : (script : Script) (ticks : List ℕ) (i limit : ℕ) (old new : Whole) → i < length ticks → limit ≡ min (suc (get_or ticks i 0)) script.end
     → IsOnTheWay script (drop i ticks) old → Reaches limit old new
     → IsOnTheWay script (drop (i + 1) ticks) new × (new.back.held.places.owner ≡ owner_behind script (get_or ticks i 0))

@@ -13,7 +13,7 @@ pub record Reaches (limit : ℕ) (old new : Whole) : Type 0 where
   pub agrees : Agrees new
   pub tells : new.back.held.tells ≡ true
 
--- it is the run of a script to a tick, from which it can go on to behind the loads that begin at these ticks
+-- it is the run of a script to a tick, from which it can go on to after the loads that begin at these ticks
 pub record IsOnTheWay (script : Script) (left : List ℕ) (s : Whole) : Type 0 where
   pub from : ℕ
   pub at : ℕ

@@ -50,7 +50,7 @@ impl RunText for Spans {
     }
 }
 
-/// The picture in characters, with the owners of core behind each load.
+/// The picture in characters, with the owners of core after each load.
 #[derive(Drop)]
 struct Chart {
     maps: Vec<[u8; 128]>,

@@ -64,7 +64,7 @@ fn add_rows_of_run<K: Sink>(out: &mut TextWriter<'_, K>, script: &Script, run: &
     add_in_columns(out, columns_for(places_in(run)), script, run);
 }
 
-/// Adds the picture of a record: who ran and at which level, and core behind each load, of which these maps say whose
+/// Adds the picture of a record: who ran and at which level, and core after each load, of which these maps say whose
 /// each place is.
 pub fn add_chart<K: Sink>(
     out: &mut TextWriter<'_, K>,

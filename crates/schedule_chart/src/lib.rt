@@ -1,4 +1,4 @@
-//! The picture of a run in characters: who ran and at which level, in lines of 120 columns, and core behind each load.
+//! The picture of a run in characters: who ran and at which level, in lines of 120 columns, and core after each load.
 #![tactic(auto)]
 
 mod chart;

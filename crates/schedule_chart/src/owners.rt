@@ -1,4 +1,4 @@
-//! Whose each place of core is behind a load.
+//! Whose each place of core is after a load.
 ghost use Rattle.std.specs.Prelude.{◌≡◌, ◌<◌, ◌-◌, map};
 ghost use Rattle.picture_model.specs.Cores.{owner_in};
 ghost use Rattle.picture_model.specs.CorePanel.{begins_at, first_owners, owners_after, stretch_from};
@@ -37,7 +37,7 @@ pub fn stretch_from(maps: &[[u8; 128]], user: u8, place: u8) -> u8
     128 - place
 }
 
-/// The owners behind the loads that come after an entry.
+/// The owners after the loads that come after an entry.
 pub fn maps_after<'a>(entry: &Entry, maps: &'a [[u8; 128]]) -> &'a [[u8; 128]]
     ensures { map owner_in result.now ≡ owners_after entry.now (map owner_in maps.now) }
 {

@@ -167,7 +167,7 @@ fn add_back<K: Sink>(out: &mut TextWriter<'_, K>, sheet: Sheet, places: u64, run
     );
 }
 
-/// Adds the picture of a record, with these owners of the places of core behind each load.
+/// Adds the picture of a record, with these owners of the places of core after each load.
 pub fn add_drawing<K: Sink>(
     out: &mut TextWriter<'_, K>,
     script: &Script,

@@ -1,4 +1,4 @@
-//! Core behind a load: its places from top to bottom, in stretches of one owner each.
+//! Core after a load: its places from top to bottom, in stretches of one owner each.
 ghost use Rattle.std.specs.Prelude.{◌≡◌, ◌≤◌, ◌<◌, ◌+◌, ◌-◌, ◌*◌, ◌^◌, map};
 ghost use Rattle.picture_model.specs.Cores.{owner_in};
 ghost use Rattle.picture_model.specs.CorePanel.{first_owners, owner_bar, owner_label, place_drawn, places_drawn, stretch_drawn};

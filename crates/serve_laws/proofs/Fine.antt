@@ -101,7 +101,7 @@ fine_all_heard tick console (s ∷ seats) (h ∷ hs) some few =
     All-append (IsFine tick) (events_heard tick console s h.reads h.over) (all_events_heard tick (suc console) seats hs) (fine_heard tick console s h.reads h.over some (omega (arith, few)))
     (fine_all_heard tick (suc console) seats hs (omega arith) (omega (arith, few)))
 
--- there are as many seats and flags behind a turn
+-- there are as many seats and flags after a turn
 
 long_after : (seats : List (Option Talk)) (hs : List HeardOf) → length (all_seats_after seats hs) ≡ length seats
 long_after [] hs = refl

@@ -124,7 +124,7 @@ broken_off v r =
       };
     }
 
--- the queues behind a step that ends a service by this cause, if any
+-- the queues after a step that ends a service by this cause, if any
 abbrev pub levels_after : Option Cause → ℕ → User → (now : ℕ) → Levels → Levels
 levels_after None u p now q = q
 levels_after (Some cause) u p now q = leaves q u cause p now

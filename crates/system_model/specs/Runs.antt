@@ -6,7 +6,7 @@ use Rattle.plan_model.specs.Spent.{spent}
 use Rattle.system_model.specs.Run.{Run, next, due_of}
 use Rattle.system_model.specs.Cases.{with_user}
 
--- new is old behind so many steps below the limit, at each of which no event was due, and which write no entry
+-- new is old after so many steps below the limit, at each of which no event was due, and which write no entry
 abbrev pub Passes : ℕ → ℕ → Run → Run → Type 0
 Passes limit zero old new = new ≡ old
 Passes limit (suc n) old new =

@@ -7,7 +7,7 @@ use cpu_regs::{MemoryPort, Regs};
 use program_model::EntryFault;
 use word36::Word;
 
-/// The n-th place behind the call, from 1 on.
+/// The n-th place after the call, from 1 on.
 pub(crate) fn behind_call(regs: &Regs, n: u16) -> u16
     requires { n ≤ 4 }
     ensures place { result ≡ behind_call regs.now n }
@@ -27,7 +27,7 @@ pub(crate) fn word_at<M: MemoryPort>(core: &M, address: u16) -> Result<Word, Ent
     }
 }
 
-/// The word at the n-th place behind the call, from 1 on.
+/// The word at the n-th place after the call, from 1 on.
 pub(crate) fn argument<M: MemoryPort>(regs: &Regs, core: &M, n: u16) -> Result<Word, EntryFault>
     requires { n ≤ 4 }
     ensures { result ≡ word_at (M.words core.now) (behind_call regs.now n) }

@@ -195,7 +195,7 @@ at_break_in (Some s) ic = meets s ic
 abbrev pub at_break : Inner → Bool
 at_break i = at_break_in i.debugger i.regs.ic
 
--- an open debugger knows behind an own step of the program that it has done one
+-- an open debugger knows after an own step of the program that it has done one
 abbrev pub stepped_in : Option Stops → Option Stops
 stepped_in None = None
 stepped_in (Some s) = Some (record s { stepped = true })

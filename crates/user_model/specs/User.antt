@@ -45,7 +45,7 @@ sets_word p = is_debugged p.inner.debugger && not (works_in p.inner.state) && li
 abbrev pub in_store : Stored → User → User
 in_store store p = record p { inner = record p.inner { core = store.core; files = store.files } }
 
--- The words behind a step, of which so many blocks are left: a program that was replaced has plus zeros, and a core of
+-- The words after a step, of which so many blocks are left: a program that was replaced has plus zeros, and a core of
 -- another size is cut or extended.
 abbrev pub core_after : Ending → ℕ → List ℕ → List ℕ
 core_after Replaced blocks core = zeros blocks
@@ -58,7 +58,7 @@ core_after LoggedOut blocks core = recut blocks core
 abbrev pub hung : Stored → Stored
 hung store = record { core = []; files = lasting store.files }
 
--- what is stored behind a step
+-- what is stored after a step
 abbrev pub store_after : Ending → ℕ → Stored → Stored
 store_after e blocks store = record store { core = core_after e blocks store.core }
 

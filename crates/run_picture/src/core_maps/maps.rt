@@ -30,7 +30,7 @@ fn ticks_of(alloc: Global, script: &Script) -> Result<Vec<u64>, NoMemory>
     }
 }
 
-/// The owners of all places behind each load that begins at one of these ticks.
+/// The owners of all places after each load that begins at one of these ticks.
 fn maps_at<D: Medium, F: Medium>(
     alloc: Global,
     script: &Script,
@@ -57,8 +57,8 @@ fn maps_at<D: Medium, F: Medium>(
     watch(alloc, &mut supervisor, behind, script, ticks)
 }
 
-/// Whose each place of core is behind each load of a script's run: 128 numbers of users, 0 for nobody's. The run is done twice,
-/// over a drum and a disk in memory, as its schedule must be known before it can be stopped behind its loads.
+/// Whose each place of core is after each load of a script's run: 128 numbers of users, 0 for nobody's. The run is done twice,
+/// over a drum and a disk in memory, as its schedule must be known before it can be stopped after its loads.
 pub fn core_maps(alloc: Global, script: &Script) -> Result<Vec<[u8; 128]>, NoMemory>
     requires { IsLawful script.now }
     ensures { IfOk result (λ maps. map owner_in maps.items ≡ owners_in script.now (record_of script.now).entries) }

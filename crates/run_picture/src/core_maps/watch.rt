@@ -1,4 +1,4 @@
-//! A run that is stopped behind each load.
+//! A run that is stopped after each load.
 ghost use Rattle.std.specs.Prelude.{◌≡◌, ◌≤◌, suc, min, map, true, IfOk, OnOk};
 ghost use Rattle.text_model.specs.Lawful.{IsLawful};
 ghost use Rattle.system_model.specs.Record.{start_of};
@@ -16,7 +16,7 @@ use supervisor::Supervisor;
 use track_directories::TrackDirectories;
 use user_cores::Behind;
 
-/// The limit behind a load that begins at a tick, in a run to this end.
+/// The limit after a load that begins at a tick, in a run to this end.
 fn limit_behind(tick: u64, end: u64) -> u64
     ensures { result ≡ min (suc tick) end }
 {
@@ -60,7 +60,7 @@ fn look<'a, 'd, D: Medium, F: Medium>(
     (Behind::new(cores, files), owners)
 }
 
-/// The owners of all places behind each load that begins at one of these ticks, of a run that stands at its script's start.
+/// The owners of all places after each load that begins at one of these ticks, of a run that stands at its script's start.
 pub(crate) fn watch<'a, 'd, D: Medium, F: Medium>(
     alloc: Global,
     supervisor: &mut Supervisor,

@@ -8,7 +8,7 @@ use Rattle.picture_model.specs.Cores.{owner_behind, owner_in}
 use Rattle.run_picture.specs.Watching.{IsOnTheWay}
 use Rattle.run_picture.proofs.core_maps.watch.watch.Given as goal
 
--- the run is behind the loads so far, whose maps were made, and with those that are left they are all
+-- the run is after the loads so far, whose maps were made, and with those that are left they are all
 abbrev pub invariant-loop-tick : goal.invariant-loop-tick
 invariant-loop-tick g l = record {
   usable : IsWhole (state l.behind.cores) × IsSound (tracked g.F.Medium l.behind.files.store) l.behind.files.tables.items;

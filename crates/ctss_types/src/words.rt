@@ -27,7 +27,8 @@ fn word_len(text: &[u8]) -> usize
 pub fn first_word(text: &[u8]) -> (&[u8], &[u8])
     ensures word { result.0.now ≡ word_in text.now }
     ensures behind { result.1.now ≡ behind_word text.now }
-    ensures words { words_of text.now ≡ (if nat_eq (length result.0.now) 0 then [] else result.0.now ∷ words_of result.1.now) }
+    ensures words { words_of text.now ≡ (if nat_eq (length result.0.now) 0 then [] else result.0.now
+        ∷ words_of result.1.now) }
 {
     let text = text.split_at(blanks(text)).1;
     text.split_at(word_len(text))

@@ -113,7 +113,8 @@ fn most_weight(op: Operation) -> u16
 #[tactic(auto, using(crate::proofs::FieldKinds::value_kind_seen))]
 pub(crate) fn value_kind(op: Operation, weights: Names<'_>, field: &[u8]) -> Option<u16>
     ensures { result
-        ≡ kind_of op (externs_in weights.entry) (names_in weights.entry) (option_map (λ ts. value ts) (expression field.now)) }
+        ≡ kind_of op (externs_in weights.entry) (names_in weights.entry)
+        (option_map (λ ts. value ts) (expression field.now)) }
 {
     let Some(heft) = heft_of(weights, field) else {
         return Some(0);

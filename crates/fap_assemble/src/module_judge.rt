@@ -151,7 +151,8 @@ pub(crate) fn card_said(
     text: &[u8],
 ) -> Result<Option<Said>, NoMemory>
     ensures value { IfOk result (λ s. s
-        ≡ option_map (said (names_of op (relocated_in r.now) (moved_at r.now spot)) spot.place) (field_for op text.now)) }
+        ≡ option_map (said (names_of op (relocated_in r.now) (moved_at r.now spot)) spot.place)
+        (field_for op text.now)) }
     ensures short { IfOk result (λ s. IfSome s HasShortValues) }
 {
     let names = Names {
@@ -166,7 +167,8 @@ pub(crate) fn card_said(
 fn is_end_wrong(r: &Relocated, spot: Spot, text: &[u8], said: &Option<Said>) -> bool
     requires { r.now.whole.blocks < 2 ^ 30 }
     ensures { result
-        ≡ (is_none (card_kind end (relocated_in r.now) (moved_at r.now spot) text.now) || is_start_outside r.now.whole.blocks said.now) }
+        ≡ (is_none (card_kind end (relocated_in r.now) (moved_at r.now spot) text.now)
+        || is_start_outside r.now.whole.blocks said.now) }
 {
     card_kind(Operation::End, r, spot, text).is_none() || is_start_outside(r.whole.blocks, said)
 }
@@ -296,7 +298,8 @@ fn judge_card(
     requires blocks { r.now.whole.blocks < 2 ^ 30 }
     requires literals { length r.now.whole.literals < 2 ^ 33 }
     ensures { OnOk result (numbered faults.new
-        ≡ numbered faults.old ++ fault_entry number (module_fault_by (relocated_in r.now) past.now (moved_at r.now spot) text.now)) }
+        ≡ numbered faults.old ++ fault_entry number
+        (module_fault_by (relocated_in r.now) past.now (moved_at r.now spot) text.now)) }
 {
     let fault = module_fault(alloc, r, past, spot, text)?;
     note(faults, number, fault)?;

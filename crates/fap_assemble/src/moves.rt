@@ -216,7 +216,8 @@ fn worth_of(
 fn equs_with(equs: Roster, symbols: &Symbols, text: &[u8]) -> Result<Roster, NoMemory>
     requires { length equs < 2 ^ 32 }
     ensures value { IfOk result (λ e. e
-        ≡ equs_with (known_moves (take (length symbols.now) symbols.now) equs) (module_operation text.now) (symbol_of text.now)) }
+        ≡ equs_with (known_moves (take (length symbols.now) symbols.now) equs) (module_operation text.now)
+        (symbol_of text.now)) }
     ensures few { IfOk result (λ e. length e ≤ length equs + 1) }
 {
     let Some(name) = symbol(text) else {
@@ -238,7 +239,8 @@ fn enter_equ(
 ) -> Result<(), NoMemory>
     requires { length equs.old < 2 ^ 32 }
     ensures value { OnOk result (equs.new
-        ≡ equs_with (known_moves (take (length symbols.now) symbols.now) equs.old) (module_operation text.now) (symbol_of text.now)) }
+        ≡ equs_with (known_moves (take (length symbols.now) symbols.now) equs.old) (module_operation text.now)
+        (symbol_of text.now)) }
     ensures few { OnOk result (length equs.new ≤ length equs.old + 1) }
 {
     let before = mem::replace(equs, Roster::new(alloc));
@@ -327,7 +329,8 @@ impl Moves {
         requires place { self.old.place + card.size < 2 ^ 40 }
         requires few { length self.old.equs < 2 ^ 32 }
         ensures moved { OnOk result (moves_in self.new
-            ≡ moved_by (moves_in self.old) (module_operation text.now) (symbol_of text.now) card.size (card.worth.value, card.worth.weight)) }
+            ≡ moved_by (moves_in self.old) (module_operation text.now) (symbol_of text.now) card.size
+            (card.worth.value, card.worth.weight)) }
         ensures literals { OnOk result (self.new.literals
             ≡ with_literal self.old.literals (literal_by (operation_in text.now) text.now)) }
         ensures place { OnOk result (self.new.place ≡ self.old.place + card.size) }

@@ -114,8 +114,10 @@ impl Tables {
     fn enter(&mut self, alloc: Global, text: &[u8]) -> Result<(), NoMemory>
         requires { self.old.place < 2 ^ 39 }
         ensures known { OnOk result (known_in self.new ≡ known_behind (known_in self.old) text.now) }
-        ensures literals { OnOk result (self.new.literals ≡ with_literal self.old.literals (literal_by (operation_in text.now) text.now)) }
-        ensures reach { OnOk result (self.new.reach ≡ reach_of self.old.reach self.old.place (size_by (operation_in text.now) (known_in self.old) text.now)) }
+        ensures literals { OnOk result (self.new.literals
+            ≡ with_literal self.old.literals (literal_by (operation_in text.now) text.now)) }
+        ensures reach { OnOk result (self.new.reach ≡ reach_of self.old.reach self.old.place
+            (size_by (operation_in text.now) (known_in self.old) text.now)) }
         ensures few { OnOk result (length self.new.literals ≤ length self.old.literals + 1) }
         ensures place_within { OnOk result (self.new.place ≤ max 65535 (self.old.place + 1)) }
         ensures reach_within { OnOk result (self.new.reach ≤ max self.old.reach (max 32768 (self.old.place + 1))) }

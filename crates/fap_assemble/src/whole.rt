@@ -91,7 +91,8 @@ fn end_fault(
     place: u64,
 ) -> Result<u8, NoMemory>
     requires { whole.now.blocks < 2 ^ 30 }
-    ensures { IfOk result (λ f. f ≡ fault_by (Some end) (whole_in whole.now) (known_at whole.now.symbols visible place) text.now) }
+    ensures { IfOk result (λ f. f ≡ fault_by (Some end) (whole_in whole.now)
+        (known_at whole.now.symbols visible place) text.now) }
 {
     let symbols = &whole.symbols;
     let said = read(alloc, Operation::End, text, symbols, symbols.len(), place)?;
@@ -147,7 +148,8 @@ fn fault_by(
     place: u64,
 ) -> Result<u8, NoMemory>
     requires { whole.now.blocks < 2 ^ 30 }
-    ensures { IfOk result (λ f. f ≡ fault_by (Some op) (whole_in whole.now) (known_at whole.now.symbols visible place) text.now) }
+    ensures { IfOk result (λ f. f ≡ fault_by (Some op) (whole_in whole.now) (known_at whole.now.symbols visible place)
+        text.now) }
 {
     match op {
         Operation::End => end_fault(alloc, text, whole, visible, place),

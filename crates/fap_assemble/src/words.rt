@@ -135,7 +135,8 @@ fn add_said(
     requires room { place + length (words_said (whole_in whole.now) op flag said.now) < 2 ^ 34 }
     requires place { whole.now.end_place < 2 ^ 33 }
     requires few { length whole.now.literals < 2 ^ 33 }
-    ensures { OnOk result (segments.new ≡ words_in segments.old place (words_said (whole_in whole.now) op flag said.now)) }
+    ensures { OnOk result (segments.new
+        ≡ words_in segments.old place (words_said (whole_in whole.now) op flag said.now)) }
 {
     match op {
         Operation::Machine(op) => {
@@ -164,7 +165,8 @@ fn add_card(
     requires place { whole.now.end_place < 2 ^ 33 }
     requires few { length whole.now.literals < 2 ^ 33 }
     ensures { OnOk result (segments.new
-        ≡ words_in segments.old place (words_by (whole_in whole.now) (known_at whole.now.symbols visible place) (operation_in text.now) text.now)) }
+        ≡ words_in segments.old place (words_by (whole_in whole.now) (known_at whole.now.symbols visible place)
+        (operation_in text.now) text.now)) }
 {
     let Some(op) = operation_in(text) else {
         return Ok(());
@@ -186,7 +188,9 @@ pub(crate) fn words_of(
     requires literals { length whole.now.literals < 2 ^ 33 }
     requires symbols { (known_after nothing_known (texts cards.now)).symbols ≡ whole.now.symbols }
     requires sound { faults_from (whole_in whole.now) 1 nothing_known (texts cards.now) ≡ [] }
-    ensures { IfOk result (λ ws. ws ≡ closed (words_in (cards_in (whole_in whole.now) (record { done = head ∷ []; first = 0; run = [] }) nothing_known (texts cards.now))
+    ensures { IfOk result (λ ws. ws
+        ≡ closed (words_in (cards_in (whole_in whole.now) (record { done = head ∷ []; first = 0; run = [] })
+        nothing_known (texts cards.now))
         whole.now.end_place whole.now.literals)) }
 {
     let symbols = &whole.symbols;

@@ -30,7 +30,8 @@ pub fn fields(card: &Card) -> Fields
     ensures comment { result.comment ≡ is_comment card.now.text }
     ensures bad { result.bad ≡ is_bad card.now.text }
     ensures symbol { result.symbol ≡ symbol_columns card.now.text }
-    ensures operation { result.operation ≡ operation_of card.now.text ++ replicate (8 - length (operation_of card.now.text)) 32 }
+    ensures operation { result.operation ≡ operation_of card.now.text
+        ++ replicate (8 - length (operation_of card.now.text)) 32 }
     ensures flag { result.flag ≡ flag_of card.now.text }
     ensures end { result.end ≡ 15 + length (field_of card.now.text) }
 {

@@ -14,7 +14,8 @@ use fap_model::Term;
 /// The term of a number that fits an address.
 fn number(digits: &[u8]) -> Option<Term>
     requires { list_all is_digit digits.now ≡ true }
-    ensures value { result ≡ (if nat_le (digits_value 10 digits.now) 32767 then Some (Number (digits_value 10 digits.now)) else None) }
+    ensures value { result ≡ (if nat_le (digits_value 10 digits.now) 32767 then Some
+        (Number (digits_value 10 digits.now)) else None) }
     ensures short { IfSome result HasShortNumber }
 {
     let n = decimal_value(digits);
@@ -61,7 +62,8 @@ fn term_len(text: &[u8]) -> usize
 /// The text up to the first sign; and where there is one, whether it is minus, with what stands behind it.
 #[tactic(auto, using(crate::proofs::Parts::parts_last, crate::proofs::Parts::parts_first))]
 pub fn first_term(text: &[u8]) -> (&[u8], Option<(bool, &[u8])>)
-    ensures parts { (sign : ℕ) → parts_from sign text.now ≡ (sign, result.0.now) ∷ parts_behind (option_map (λ p. (p.0, p.1.now)) result.1) }
+    ensures parts { (sign : ℕ) → parts_from sign text.now ≡ (sign, result.0.now)
+        ∷ parts_behind (option_map (λ p. (p.0, p.1.now)) result.1) }
     ensures shorter { IfSome result.1 (λ p. length p.1.now < length text.now) }
 {
     let n = term_len(text);

@@ -23,7 +23,8 @@ fn read_file<F: Medium>(
     requires tracks { HasTracks file.now }
     requires serves { Serves (F.contents store.old.disk.now) (F.record_count store.old.disk.now)
         (F.words_each store.old.disk.now) (length store.old.tracks.taken.items) }
-    ensures file { WhereTold (F.contents store.old.disk.now) (λ contents. IfOk result (λ f. f ≡ body_on contents file.now)) }
+    ensures file { WhereTold (F.contents store.old.disk.now)
+        (λ contents. IfOk result (λ f. f ≡ body_on contents file.now)) }
     ensures same { store.new.disk.ghost_name ≡ store.old.disk.ghost_name }
     ensures tracks { store.new.tracks ≡ store.old.tracks }
     ensures contents { OnOk result (F.contents store.new.disk.now ≡ F.contents store.old.disk.now) }

@@ -17,7 +17,8 @@ pub(crate) fn rename_in(
     to: FileName,
 ) -> Result<(), PortFault>
     requires { IsDistinct same_name (map (λ (f : Filed). f.name) table.old.files.items) }
-    ensures left { (contents : List (List ℕ)) → Leaves result (renamed name to (files_on contents table.old.files.items))
+    ensures left { (contents : List (List ℕ))
+        → Leaves result (renamed name to (files_on contents table.old.files.items))
         (files_on contents table.old.files.items) (files_on contents table.new.files.items) }
     ensures usable { (contents : Option (List (List ℕ))) (taken : List Bool)
         → IsDirectory contents taken table.old.quota table.old.used table.old.files.items
@@ -49,7 +50,8 @@ pub(crate) fn rename_in(
 /// Gives a file another mode.
 pub(crate) fn chmode_in(table: &mut TrackTable, name: FileName, mode: u8) -> Result<(), PortFault>
     requires { IsDistinct same_name (map (λ (f : Filed). f.name) table.old.files.items) }
-    ensures left { (contents : List (List ℕ)) → Leaves result (moded name mode (files_on contents table.old.files.items))
+    ensures left { (contents : List (List ℕ))
+        → Leaves result (moded name mode (files_on contents table.old.files.items))
         (files_on contents table.old.files.items) (files_on contents table.new.files.items) }
     ensures usable { (contents : Option (List (List ℕ))) (taken : List Bool)
         → IsDirectory contents taken table.old.quota table.old.used table.old.files.items

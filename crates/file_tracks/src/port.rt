@@ -66,12 +66,14 @@ impl<F: Medium> FilePort for TrackPort<'_, '_, F> {
 
     fn read(&mut self, name: FileName, place: u64, count: u16) -> Result<WordList, PortFault>
         requires usable { Sound F.Medium self.old }
-        ensures answer { AnswersOver (tells_in F.Medium self.old) (files_in F.Medium self.old) result (read name place count) }
+        ensures answer { AnswersOver (tells_in F.Medium self.old) (files_in F.Medium self.old) result
+            (read name place count) }
         ensures left { ¬ IsErrOf result PortFault.Disk → files_in F.Medium self.new ≡ files_in F.Medium self.old }
         ensures telling { ¬ IsErrOf result PortFault.Disk → tells_in F.Medium self.new ≡ tells_in F.Medium self.old }
         ensures usable { ¬ IsErrOf result PortFault.Disk → Sound F.Medium self.new }
         ensures keeps { Stands F.Medium self.old self.new }
-        ensures cause { IsErrOf result PortFault.Disk → Rose (faults_in F.Medium self.old) (faults_in F.Medium self.new) }
+        ensures cause { IsErrOf result PortFault.Disk
+            → Rose (faults_in F.Medium self.old) (faults_in F.Medium self.new) }
 
         // The words are those that the disk's reads gave in this call.
         ensures gave { IfOk result (GavePart place (calls_in F.Medium self.old) (calls_in F.Medium self.new)) }
@@ -89,7 +91,8 @@ impl<F: Medium> FilePort for TrackPort<'_, '_, F> {
         ensures telling { ¬ IsErrOf result PortFault.Disk → tells_in F.Medium self.new ≡ tells_in F.Medium self.old }
         ensures usable { ¬ IsErrOf result PortFault.Disk → Sound F.Medium self.new }
         ensures keeps { Stands F.Medium self.old self.new }
-        ensures cause { IsErrOf result PortFault.Disk → Rose (faults_in F.Medium self.old) (faults_in F.Medium self.new) }
+        ensures cause { IsErrOf result PortFault.Disk
+            → Rose (faults_in F.Medium self.old) (faults_in F.Medium self.new) }
 
         // The words are those that the disk's reads gave in this call.
         ensures gave { IfOk result (GaveFirst (calls_in F.Medium self.old) (calls_in F.Medium self.new)) }

@@ -68,7 +68,8 @@ impl TrackTable {
 
     /// Whether there is a file of a name.
     pub(crate) fn has(&self, name: FileName) -> bool
-        ensures { (contents : List (List ℕ)) → result ≡ is_some (file_named name (files_on contents self.now.files.items)) }
+        ensures { (contents : List (List ℕ)) → result
+            ≡ is_some (file_named name (files_on contents self.now.files.items)) }
     {
         self.place(name).is_some()
     }

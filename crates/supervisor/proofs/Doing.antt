@@ -227,6 +227,14 @@ pub go_same : (limit m : ℕ) (x : Waiting) (v : Service) (old new : Run) (had h
 go_same limit m x v old new had has c s is d =
     by_both limit (Some (m, x)) (Some v) old new had has c s (does_as (attended v) (otherwise limit (Some x.user) (Some v)) old new had has (λ w. sym (goes_on limit x.user v (joined w old) is)) d)
 
+-- the user whose service is open is known to be the chosen one
+pub go_served : (limit : ℕ) (v : Service) (old new : Run) (had has : Held) → user_of (chosen old.system.plan.levels) ≡ Some v.user → old.system.service ≡ Some v → Does (attended v) old new had has
+    → Does (otherwise limit (user_of (chosen old.system.plan.levels)) old.system.service) old new had has
+go_served limit v old new had has c s d =
+    subst (λ (o : Option ℕ). Does (otherwise limit o old.system.service) old new had has) (sym c)
+    (subst (λ (o : Option Service). Does (otherwise limit (Some v.user) o) old new had has) (sym s)
+    (does_as (attended v) (otherwise limit (Some v.user) (Some v)) old new had has (λ w. sym (goes_on limit v.user v (joined w old) refl)) d))
+
 -- the user that is served has blocks that are not in core, and their load was cut off
 pub load_fails : (m : ℕ) (x : Waiting) (old : Run) (m' : Held) (was now : Option CallList) → chosen old.system.plan.levels ≡ Some (m, x) → ((v : Service) → old.system.service ≡ Some v → v.user ≡ x.user)
     → IsTied old.system.users m' → IsUser x.user old → is_loaded old.system.plan.places x.user (size_of m'.sizes x.user) ≡ false → IsCutOff was now (calls_to_load x.user old) → LoadFails old was now

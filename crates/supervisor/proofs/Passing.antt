@@ -1,11 +1,14 @@
 -- What many steps of the user that is served keep, over users joined with words and files.
 use Rattle.std.proofs.Common.{◌≡◌, ◌≢◌, ℕ, ◌+◌, ◌<◌, ◌≤◌, true, false, List, length, map, Some, None, refl, sym, ◌∙◌, ap, subst, arith}
-use Rattle.time_sharing.specs.System.{Service, next_tick}
+use Rattle.time_sharing.specs.System.{Service, next_tick, served_of}
 use Rattle.ctss_types.specs.declared.session.Waiting.{Waiting}
 use Rattle.user_model.specs.Inner.{Stored, blocks_of}
 use Rattle.user_model.specs.User.{User}
 use Rattle.user_model.specs.Runs.{HaveGone}
-use Rattle.plan_model.specs.Levels.{chosen}
+use Rattle.plan_model.specs.Levels.{chosen, goes_up}
+use Rattle.plan_model.specs.Loads.{is_loaded}
+use Rattle.plan_model.proofs.SpentLaws.{still_chosen, still_none}
+use Rattle.image_map.specs.Images.{size_of}
 use Rattle.plan_model.specs.Spent.{NobodyRises}
 use Rattle.plan_model.specs.Plan.{must_load}
 use Rattle.system_model.specs.Run.{Run, next, run_to, measure, AfterSteps, due_of}
@@ -14,7 +17,7 @@ use Rattle.system_model.specs.Joined.{joined, with_store}
 use Rattle.system_model.specs.Runs.{Passes, passed}
 use Rattle.system_model.specs.Sound.{Sound, IsUser}
 use Rattle.system_model.proofs.JoinedLaws.{joined_same, with_own, with_other, sound_joined, sound_unjoined, measure_joined}
-use Rattle.system_model.proofs.PassLaws.{passes_joined, passes_keep}
+use Rattle.system_model.proofs.PassLaws.{passes_joined, passes_keep, quiet_until}
 use Rattle.system_model.proofs.RunLaws.{measure_next, run_to_next, after_next}
 use Rattle.system_model.proofs.SoundLaws.{sound_next}
 use Rattle.console_texts.specs.Parts.{Shown, text_of}
@@ -23,7 +26,7 @@ use Rattle.console_texts.specs.Watching.{transcripts_of, texts_to, AfterShown}
 use Rattle.console_texts.proofs.Watched.{shown_still, texts_on, shown_on}
 use Rattle.user_cores.specs.Backing.{Held}
 use Rattle.supervisor.specs.Runs.{DoesMany}
-use Rattle.supervisor.specs.Steps.{IsTied, IsHeld}
+use Rattle.supervisor.specs.Steps.{IsTied, IsHeld, IsServedNext}
 use Rattle.supervisor.specs.Shows.{TextsGrow}
 use Rattle.supervisor.proofs.Growing.{grow_none, grow_trans, next_grow}
 use Rattle.supervisor.proofs.Doing.{same_but}
@@ -64,6 +67,21 @@ does_many limit n l w v p old new had has window after who serves first mine lef
   where
     f : ℕ → Stored
     f = with_store v.user window had.stores
+
+-- behind fewer of them than could have been done the next step is that user's too
+pub served_next : (limit most n l : ℕ) (w : Waiting) (v : Service) (p : User) (until : ℕ) (old new : Run) (has : Held) → new ≡ passed n v p old → n < most
+    → chosen old.system.plan.levels ≡ Some (l, w) → w.user ≡ v.user → old.system.clock + most ≤ next_tick limit old.system.events
+    → NobodyRises (Some v.user) until old.system.plan.levels → old.system.clock + most ≤ until
+    → is_loaded has.places v.user (size_of has.sizes v.user) ≡ true → IsServedNext new has
+unfolding passed NobodyRises
+served_next limit most n l w v p until old new has is few first mine quiet low still loaded =
+    subst (λ (r : Run). IsServedNext r has) (sym is)
+    (record {
+      quiet = quiet_until old.system.events limit old.system.clock most n quiet few;
+      low = ap goes_up (still_none n v.user (old.system.clock + n) (Some v.user) old.system.plan.levels (low (old.system.clock + n) (omega (arith, still, few))));
+      first = λ s serves. still_chosen n v.user l w old.system.plan.levels first mine ∙ ap served_of serves;
+      loaded = λ s serves. (let e : Some v.user ≡ Some s.user = ap served_of serves in let same : v.user ≡ s.user = cc in subst (λ (k : ℕ). is_loaded has.places k (size_of has.sizes k) ≡ true) same loaded);
+    })
 
 -- what the loop over steps keeps
 

@@ -10,6 +10,7 @@ use Rattle.image_map.specs.Images.{size_of}
 use Rattle.user_model.specs.Inner.{Stored, blocks_of}
 use Rattle.user_model.specs.User.{User}
 use Rattle.plan_model.specs.Levels.{chosen, user_of}
+use Rattle.plan_model.specs.Loads.{is_loaded}
 use Rattle.plan_model.specs.Plan.{must_load}
 use Rattle.user_cores.specs.Backing.{Held}
 use Rattle.user_cores.specs.Settles.{IsResized}
@@ -59,6 +60,13 @@ pub record IsLeft (cut : Option ℕ) (had has : Held) : Type 0 where
   pub tells : has.tells ≡ had.tells
   pub places : has.places ≡ left_places cut had.places
   pub sizes : IsResized (number_of cut) 0 had has
+
+-- the next step is one of the user whose service is open, and all its blocks are in core
+pub record IsServedNext (r : Run) (m : Held) : Type 0 where
+  pub quiet : due_of r.system.events r.system.clock ≡ None
+  pub low : rising r ≡ None
+  pub first : (v : Service) → r.system.service ≡ Some v → user_of (chosen r.system.plan.levels) ≡ Some v.user
+  pub loaded : (v : Service) → r.system.service ≡ Some v → is_loaded m.places v.user (size_of m.sizes v.user) ≡ true
 
 -- some blocks of the user to be served are not in core
 pub record LoadIsDue (r : Run) : Type 0 where

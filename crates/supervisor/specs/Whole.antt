@@ -13,7 +13,7 @@ use Rattle.supervisor.specs.Seen.{Bare, bare_of, run_with}
 use Rattle.supervisor.specs.Shows.{texts_of, TextsGrow, GoesOn, HasTexts, HasTextsShown}
 use Rattle.supervisor.specs.declared.state.State.{State}
 use Rattle.supervisor.specs.declared.watch.Watch.{Watch}
-use Rattle.supervisor.specs.Steps.{Does, Stays, IsHeld, IsTied, LoadFails, NextLoadFails, HasRun, HasRunPart, HasRunShown, HasRunToLoad, Ends, Lasts}
+use Rattle.supervisor.specs.Steps.{Does, Stays, IsHeld, IsTied, IsServedNext, LoadFails, NextLoadFails, HasRun, HasRunPart, HasRunShown, HasRunToLoad, Ends, Lasts}
 
 -- a run but for what lies behind its users' sessions, and this
 pub record Whole : Type 0 where
@@ -41,6 +41,10 @@ run_apart s = run_with no_places s.bare
 -- what holds at each moment
 abbrev pub Holds : Whole → Type 0
 Holds s = IsHeld (run_of s) s.back.held
+
+-- the next step is one of the user whose service is open, and all its blocks are in core
+abbrev pub IsReady : Whole → Type 0
+IsReady s = IsServedNext (run_of s) s.back.held
 
 -- all blocks of a user are in core, or not
 abbrev pub HasBlocks : ℕ → Bool → Whole → Type 0

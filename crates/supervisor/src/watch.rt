@@ -10,7 +10,7 @@ ghost use Rattle.console_texts.specs.Watching.{refused_by, refusal_in as console
 ghost use Rattle.supervisor.specs.Seen.{seen};
 ghost use Rattle.supervisor.specs.Shows.{MatchesConsoles, TextsGrow, rows_of};
 ghost use Rattle.supervisor.specs.Steps.{Lasts};
-ghost use Rattle.supervisor.specs.Whole.{watched, Holds, AreTied, AreCountedBy, NextIsCut, Steps, TextsFollow, RunsTo, TextsRunTo};
+ghost use Rattle.supervisor.specs.Whole.{watched, Holds, IsReady, AreTied, AreCountedBy, NextIsCut, Steps, TextsFollow, RunsTo, TextsRunTo};
 
 use crate::state::State;
 use arrayvec::ArrayVec;
@@ -112,8 +112,10 @@ impl Watch {
         Ok(())
     }
 
-    /// One step, at which no event is due.
-    fn go<C: Backing>(&mut self, cores: &mut C, limit: u64) -> Result<(), RunFault>
+    /// One step, at which no event is due; whether it is known to be one of the user whose service is open.
+    #[inline(always)]
+    fn go<C: Backing>(&mut self, cores: &mut C, ready: bool, limit: u64) -> Result<(), RunFault>
+        requires ready { ready ≡ true → IsReady (watched self.old (C.state cores.old)) }
         requires usable { C.Usable cores.old }
         requires held { Holds (watched self.old (C.state cores.old)) }
         requires matched { MatchesConsoles self.old.state.consoles.items self.old.state.sessions.items self.old.texts }
@@ -133,7 +135,7 @@ impl Watch {
             (watched self.old (C.state cores.old)) (watched self.new (C.state cores.new)) }
         ensures matched { MatchesConsoles self.new.state.consoles.items self.new.state.sessions.items self.new.texts }
     {
-        match self.state.step_on(cores, limit) {
+        match self.state.step_on(cores, ready, limit) {
             Ok(()) => {}
             Err(fault) => return Err(fault),
         }
@@ -149,8 +151,9 @@ impl Watch {
         Ok(())
     }
 
-    /// One step.
-    fn step<C: Backing>(&mut self, cores: &mut C, limit: u64) -> Result<(), RunFault>
+    /// One step of which nothing is known. It stands apart, so that a step that is known to be the served user's is short.
+    #[inline(never)]
+    fn look<C: Backing>(&mut self, cores: &mut C, limit: u64) -> Result<(), RunFault>
         requires usable { C.Usable cores.old }
         requires held { Holds (watched self.old (C.state cores.old)) }
         requires matched { MatchesConsoles self.old.state.consoles.items self.old.state.sessions.items self.old.texts }
@@ -172,7 +175,35 @@ impl Watch {
         if self.state.is_due() {
             return self.hear(cores, limit);
         }
-        self.go(cores, limit)
+        self.go(cores, false, limit)
+    }
+
+    /// One step; whether it is known to be one of the user whose service is open.
+    #[inline(always)]
+    fn step<C: Backing>(&mut self, cores: &mut C, ready: bool, limit: u64) -> Result<(), RunFault>
+        requires ready { ready ≡ true → IsReady (watched self.old (C.state cores.old)) }
+        requires usable { C.Usable cores.old }
+        requires held { Holds (watched self.old (C.state cores.old)) }
+        requires matched { MatchesConsoles self.old.state.consoles.items self.old.state.sessions.items self.old.texts }
+        requires in_time { self.old.state.clock < limit }
+        requires limit { limit ≤ 100000000 }
+        ensures ended { Steps (next limit) NextIsCut result
+            (watched self.old (C.state cores.old)) (watched self.new (C.state cores.new)) }
+        ensures counted { AreCountedBy result
+            (watched self.old (C.state cores.old)) (watched self.new (C.state cores.new)) }
+        ensures tied { Lasts result (AreTied (watched self.new (C.state cores.new))) }
+        ensures usable { Lasts result (C.Usable cores.new) }
+        ensures keeps { C.Keeps cores.old cores.new }
+        ensures faults_grow { (C.state cores.old).faults ≤ (C.state cores.new).faults }
+        ensures disk { (C.state cores.old).disk_faults ≤ (C.state cores.new).disk_faults }
+        ensures texts { TextsFollow limit result
+            (watched self.old (C.state cores.old)) (watched self.new (C.state cores.new)) }
+        ensures matched { MatchesConsoles self.new.state.consoles.items self.new.state.sessions.items self.new.texts }
+    {
+        if ready {
+            return self.go(cores, ready, limit);
+        }
+        self.look(cores, limit)
     }
 
     /// Whole steps, up to the limit.
@@ -199,12 +230,13 @@ impl Watch {
         ensures faults_grow { (C.state cores.old).faults ≤ (C.state cores.new).faults }
         ensures disk { (C.state cores.old).disk_faults ≤ (C.state cores.new).disk_faults }
     {
+        let mut ready = false;
         'steps: while self.state.clock < limit {
-            match self.step(cores, limit) {
+            match self.step(cores, ready, limit) {
                 Ok(()) => {}
                 Err(fault) => return Err(fault),
             }
-            self.state.run(cores, limit);
+            ready = self.state.run(cores, limit);
         }
         Ok(())
     }

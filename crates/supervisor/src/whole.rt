@@ -14,7 +14,7 @@ ghost use Rattle.time_sharing.specs.Machine.{Went};
 ghost use Rattle.time_sharing.specs.System.{next_tick};
 ghost use Rattle.supervisor.specs.Seen.{number_of};
 ghost use Rattle.supervisor.specs.Steps.{IsLeft, Lasts};
-ghost use Rattle.supervisor.specs.Whole.{whole, run_of, Holds, HasBlocks, StepsBy, IsSame, StepsOn, AreTied, AreCounted, AreCountedBy, LoadIsCut, AbsentIsCut, ServedIsCut, NextIsCut, NeverCut, Steps};
+ghost use Rattle.supervisor.specs.Whole.{whole, run_of, Holds, IsReady, HasBlocks, StepsBy, IsSame, StepsOn, AreTied, AreCounted, AreCountedBy, LoadIsCut, AbsentIsCut, ServedIsCut, NextIsCut, NeverCut, Steps};
 
 use crate::state::State;
 use ctss_types::{
@@ -270,6 +270,7 @@ impl State {
     }
 
     /// No event is due: the head of the lowest level is served, or the service ends, or the clock goes on.
+    #[inline(never)]
     #[tactic(auto, using(crate::proofs::Doing::go_idle, crate::proofs::Doing::go_end_none, crate::proofs::Doing::go_end))]
     fn go_on<C: Backing>(&mut self, cores: &mut C, limit: u64) -> Result<(), RunFault>
         requires usable { C.Usable cores.old }
@@ -363,9 +364,17 @@ impl State {
         Ok(())
     }
 
-    /// One step, at which no event is due.
+    /// One step, at which no event is due. Where it is known to be one of the user whose service is open, nothing else is
+    /// looked at.
+    #[inline(always)]
     #[tactic(auto, using(crate::proofs::Doing::does_rise))]
-    pub(crate) fn step_on<C: Backing>(&mut self, cores: &mut C, limit: u64) -> Result<(), RunFault>
+    pub(crate) fn step_on<C: Backing>(
+        &mut self,
+        cores: &mut C,
+        ready: bool,
+        limit: u64,
+    ) -> Result<(), RunFault>
+        requires ready { ready ≡ true → IsReady (whole self.old (C.state cores.old)) }
         requires quiet { due_of self.old.events.items self.old.clock ≡ None }
         requires usable { C.Usable cores.old }
         requires held { Holds (whole self.old (C.state cores.old)) }
@@ -381,6 +390,11 @@ impl State {
         ensures faults_grow { (C.state cores.old).faults ≤ (C.state cores.new).faults }
         ensures disk { (C.state cores.old).disk_faults ≤ (C.state cores.new).disk_faults }
     {
+        if ready {
+            if let Some(v) = self.service {
+                return self.serve(cores, v);
+            }
+        }
         if self.rises() {
             if self.lift(cores).is_err() {
                 return Err(RunFault::NoMemory);
@@ -409,7 +423,8 @@ impl State {
             .min(left.saturating_sub(1))
     }
 
-    /// Instructions of the user of the service, one after another: as many as go on, at most so many.
+    /// Instructions of the user of the service, one after another: as many as go on, at most so many; and whether the next step
+    /// is known to be that user's too, as it is where they were fewer.
     fn work<C: Backing>(
         &mut self,
         cores: &mut C,
@@ -418,7 +433,7 @@ impl State {
         most: u64,
         limit: u64,
         still: u64,
-    )
+    ) -> bool
         requires usable { C.Usable cores.old }
         requires held { Holds (whole self.old (C.state cores.old)) }
         requires user { IsUser v.user (run_of (whole self.old (C.state cores.old))) }
@@ -433,6 +448,7 @@ impl State {
         requires still { self.old.clock + most ≤ still }
         requires limit { limit ≤ 100000000 }
         ensures many { StepsOn limit (whole self.old (C.state cores.old)) (whole self.new (C.state cores.new)) }
+        ensures ready { result ≡ true → IsReady (whole self.new (C.state cores.new)) }
         ensures entries { self.new.entries.items ≡ self.old.entries.items }
         ensures tied { AreTied (whole self.new (C.state cores.new)) }
         ensures usable { C.Usable cores.new }
@@ -444,12 +460,13 @@ impl State {
         let session = &mut self.sessions[v.user.index()];
         let ticks = cores.advance(v.user, session, most);
         self.count_ticks(v, ticks);
+        ticks < most
     }
 
     /// Instructions of the user of the service, if it is the head of the lowest level and all its blocks are in core, until
-    /// something else is to be looked at.
+    /// something else is to be looked at; and whether the next step is known to be that user's too.
     #[tactic(auto, using(crate::proofs::Passing::stands_still))]
-    fn work_on<C: Backing>(&mut self, cores: &mut C, v: Service, next: Chosen, limit: u64)
+    fn work_on<C: Backing>(&mut self, cores: &mut C, v: Service, next: Chosen, limit: u64) -> bool
         requires usable { C.Usable cores.old }
         requires held { Holds (whole self.old (C.state cores.old)) }
         requires user { IsUser v.user (run_of (whole self.old (C.state cores.old))) }
@@ -458,6 +475,7 @@ impl State {
         requires mine { next.user ≡ v.user }
         requires limit { limit ≤ 100000000 }
         ensures many { StepsOn limit (whole self.old (C.state cores.old)) (whole self.new (C.state cores.new)) }
+        ensures ready { result ≡ true → IsReady (whole self.new (C.state cores.new)) }
         ensures entries { self.new.entries.items ≡ self.old.entries.items }
         ensures tied { AreTied (whole self.new (C.state cores.new)) }
         ensures usable { C.Usable cores.new }
@@ -467,25 +485,27 @@ impl State {
         ensures disk { (C.state cores.new).disk_faults ≡ (C.state cores.old).disk_faults }
     {
         if !cores.is_loaded(v.user) {
-            return;
+            return false;
         }
         let served = Some(v.user);
         let still = self.queues.still_until(&served);
         let most = self.spare(next.left, limit, still);
         if most == 0 {
-            return;
+            return false;
         }
-        self.work(cores, v, next, most, limit, still);
+        self.work(cores, v, next, most, limit, still)
     }
 
     /// As many instructions of the user of the service as can be done before anything else is to be looked at, one after
-    /// another: each is a step, but none of them asks again whom to serve.
+    /// another: each is a step, but none of them asks again whom to serve. The answer is whether the next step is known to be one
+    /// of that user too.
     #[tactic(auto, using(crate::proofs::Passing::stands_still))]
-    pub(crate) fn run<C: Backing>(&mut self, cores: &mut C, limit: u64)
+    pub(crate) fn run<C: Backing>(&mut self, cores: &mut C, limit: u64) -> bool
         requires usable { C.Usable cores.old }
         requires held { Holds (whole self.old (C.state cores.old)) }
         requires limit { limit ≤ 100000000 }
         ensures many { StepsOn limit (whole self.old (C.state cores.old)) (whole self.new (C.state cores.new)) }
+        ensures ready { result ≡ true → IsReady (whole self.new (C.state cores.new)) }
         ensures entries { self.new.entries.items ≡ self.old.entries.items }
         ensures tied { AreTied (whole self.new (C.state cores.new)) }
         ensures usable { C.Usable cores.new }
@@ -497,11 +517,11 @@ impl State {
         match (self.queues.choose(), self.service) {
             (Some(next), Some(v)) => {
                 if v.user != next.user {
-                    return;
+                    return false;
                 }
-                self.work_on(cores, v, next, limit);
+                self.work_on(cores, v, next, limit)
             }
-            (None, _) | (Some(_), None) => {}
+            (None, _) | (Some(_), None) => false,
         }
     }
 }

@@ -17,7 +17,7 @@ use Rattle.system_model.specs.Cases.{user_at, with_user}
 use Rattle.system_model.specs.Joined.{counted, at_places, stepped_to}
 use Rattle.system_model.proofs.JoinedLaws.{stepped_is}
 use Rattle.system_model.proofs.SwapLaws.{counted_moves}
-use Rattle.user_cores.specs.Backing.{Held}
+use Rattle.user_cores.specs.Backing.{Held, Shared}
 use Rattle.supervisor.specs.Seen.{seen}
 use Rattle.supervisor.specs.Steps.{IsTied}
 use Rattle.user_cores.specs.Settles.{IsResized, settled}
@@ -61,8 +61,9 @@ returns-in-Ok-clause-ended g c =
     let tells : Bool = (g.C.Backing.state c.args.cores.now).disk_tells in
     let w : Stored = (g.C.Backing.state c.args.cores.now).window u in
     let after : Stored = (g.C.Backing.state c.share.new.self).window u in
-    let over = c.in-Ok.ensures.shared.step in
-    let applied = c.in-Ok.ensures.shared.common in
+    let shared = subst (λ (o : CommonOp). Shared o c.in-Ok.field-0 u c.args.self.now.clock c.index_mut-session.result.now p (g.C.Backing.state c.args.cores.now) (g.C.Backing.state c.share.new.self)) c.get.ensures c.in-Ok.ensures.shared in
+    let over = shared.step in
+    let applied = shared.common in
     let worked = c.in-Ok.ensures.worked in
     let first : Stored = stored w.core over.had in
     let last : Stored = stored after.core over.has in

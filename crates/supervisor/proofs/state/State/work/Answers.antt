@@ -13,7 +13,9 @@ use Rattle.system_model.proofs.PassLaws.{elapsed_is, elapsed_users, elapsed_entr
 use Rattle.user_cores.specs.Backing.{Held}
 use Rattle.supervisor.specs.Seen.{seen}
 use Rattle.supervisor.specs.Steps.{IsTied}
-use Rattle.supervisor.proofs.Passing.{does_many}
+use Rattle.supervisor.proofs.Passing.{does_many, served_next}
+use Rattle.image_map.specs.Images.{size_of}
+use Rattle.std.proofs.lemmas.Bool.Decides.{nat_tests}
 use Rattle.supervisor.proofs.Serving.{resized_none, with_users}
 use Rattle.supervisor.proofs.Tied.{tied_with}
 use Rattle.supervisor.proofs.state.State.work.Goals as goal
@@ -49,6 +51,23 @@ returns-clause-many g c =
     (λ told. c.advance-ticks.ensures.worked.mine told ∙ (λ j. record { core = after.core; files = c.advance-ticks.ensures.files j }))
     (λ x other. c.advance-ticks.ensures.worked.rest.others x (omega arith) other)
     c.advance-ticks.ensures.worked.rest.tells c.advance-ticks.ensures.worked.rest.rules.common
+
+pub returns-clause-ready : goal.returns-clause-ready
+returns-clause-ready g c = λ fewer.
+    let had : Held = (g.C.Backing.state c.args.cores.now).held in
+    let has : Held = (g.C.Backing.state c.advance-ticks.new.self).held in
+    let old : Run = seen had.places c.args.self.now in
+    let users : List User = c.args.self.now.sessions.items in
+    let u : ℕ = c.args.v.user in
+    let n : ℕ = c.advance-ticks.result in
+    let p : User = c.advance-ticks.new.session in
+    let place : c.index.result ≡ u - 1 = c.index.ensures.value in
+    let is : seen has.places c.count_ticks.new.self ≡ passed n c.args.v p old =
+    ap (λ (q : Places). seen q c.count_ticks.new.self) c.advance-ticks.ensures.worked.places ∙ c.count_ticks.ensures had.places
+    ∙ (λ j. elapsed n c.args.v (with_users old (set users (place j) p) old.system.entries)) ∙ elapsed_is n c.args.v p old in
+    served_next c.args.limit c.args.most n c.args.next.level (record { user = c.args.next.user; left = c.args.next.left; since = since_in (chosen old.system.plan.levels) }) c.args.v p c.args.still old (seen has.places c.count_ticks.new.self) has
+    is (grind (arith, nat_tests, fewer)) c.requires.first c.requires.mine c.requires.quiet c.requires.low c.requires.still
+    ((λ j. is_loaded (c.advance-ticks.ensures.worked.places j) u (size_of (c.advance-ticks.ensures.worked.sizes j) u)) ∙ c.requires.loaded)
 
 pub returns-clause-tied : goal.returns-clause-tied
 returns-clause-tied g c =

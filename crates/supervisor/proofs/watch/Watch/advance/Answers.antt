@@ -31,14 +31,15 @@ steps-init g c =
       counted = counted_same _ _ _ _ refl refl;
       tells = refl;
       held = c.requires.held;
+      ready = λ e. cc;
       usable = c.requires.usable;
       keeps = search rules;
       faults_grow = omega arith;
       disk = omega arith;
     }
 
-pub run-requires-clause-held : goal.run-requires-clause-held
-run-requires-clause-held g c =
+pub run-ready-requires-clause-held : goal.run-ready-requires-clause-held
+run-ready-requires-clause-held g c =
     let had : Held = (g.C.Backing.state c.steps.cores).held in
     let mid : Held = (g.C.Backing.state c.step.new.cores).held in
     held_on c.args.limit (seen had.places c.steps.self.state) (seen mid.places c.step.new.self.state) had mid c.steps-test.true c.steps.invariant.held c.in-Ok.ensures.tied c.in-Ok.ensures.ended
@@ -47,9 +48,9 @@ pub steps-smaller : goal.steps-smaller
 steps-smaller g c =
     let had : Held = (g.C.Backing.state c.steps.cores).held in
     let mid : Held = (g.C.Backing.state c.step.new.cores).held in
-    let has : Held = (g.C.Backing.state c.run.new.cores).held in
+    let has : Held = (g.C.Backing.state c.run-ready.new.cores).held in
     let down = does_fall c.args.limit (seen had.places c.steps.self.state) (seen mid.places c.step.new.self.state) had mid c.steps-test.true c.in-Ok.ensures.ended in
-    let more = pass_falls c.args.limit (seen mid.places c.step.new.self.state) (seen has.places c.run.new.self) mid has c.run.ensures.many in
+    let more = pass_falls c.args.limit (seen mid.places c.step.new.self.state) (seen has.places c.run-ready.new.self) mid has c.run-ready.ensures.many in
     omega (arith, down, more)
 
 pub steps-preserved : goal.steps-preserved
@@ -57,15 +58,15 @@ steps-preserved g c =
     let first : Held = (g.C.Backing.state c.args.cores.now).held in
     let had : Held = (g.C.Backing.state c.steps.cores).held in
     let mid : Held = (g.C.Backing.state c.step.new.cores).held in
-    let has : Held = (g.C.Backing.state c.run.new.cores).held in
+    let has : Held = (g.C.Backing.state c.run-ready.new.cores).held in
     let start : Run = seen first.places c.args.self.now.state in
     let old : Run = seen had.places c.steps.self.state in
     let next : Run = seen mid.places c.step.new.self.state in
-    let new : Run = seen has.places c.run.new.self in
+    let new : Run = seen has.places c.run-ready.new.self in
     let inv = c.steps.invariant in
     let up = c.steps-test.true in
     let done = c.in-Ok.ensures.ended in
-    let many = c.run.ensures.many in
+    let many = c.run-ready.ensures.many in
     let rows : List Shown = rows_of c.step.new.self.texts in
     let x = texts_of c.args.self.now.state.sessions.items c.args.self.now.texts in
     let y = texts_of c.steps.self.state.sessions.items c.steps.self.texts in
@@ -81,13 +82,14 @@ steps-preserved g c =
       grows = grow_trans x z _ (grow_trans x y z inv.grows (step_grow c.args.limit old next had mid y z done c.in-Ok.ensures.texts)) (pass_grow c.args.limit next new mid has many rows held.sound told);
       seats = many_seats c.args.limit next new mid has many ∙ does_seats c.args.limit old next had mid done ∙ inv.seats;
       matched = pass_told c.args.limit next new mid has many rows held.sound told;
-      counted = counted_on _ _ _ _ _ _ (counted_on _ _ _ _ _ _ inv.counted c.in-Ok.ensures.counted) (counted_same _ _ _ _ c.run.ensures.entries c.run.ensures.calls);
+      counted = counted_on _ _ _ _ _ _ (counted_on _ _ _ _ _ _ inv.counted c.in-Ok.ensures.counted) (counted_same _ _ _ _ c.run-ready.ensures.entries c.run-ready.ensures.calls);
       tells = many.tells ∙ tells;
-      held = pass_held c.args.limit next new mid has many held c.run.ensures.tied;
-      usable = c.run.ensures.usable;
-      keeps = g.met.C.Backing.goes_on _ _ _ (g.met.C.Backing.goes_on _ _ _ inv.keeps c.in-Ok.ensures.keeps) c.run.ensures.keeps;
-      faults_grow = let a = inv.faults_grow in let b = c.in-Ok.ensures.faults_grow in let e = c.run.ensures.faults in omega (arith, a, b, e);
-      disk = let a = inv.disk in let b = c.in-Ok.ensures.disk in let e = c.run.ensures.disk in omega (arith, a, b, e);
+      held = pass_held c.args.limit next new mid has many held c.run-ready.ensures.tied;
+      ready = c.run-ready.ensures.ready;
+      usable = c.run-ready.ensures.usable;
+      keeps = g.met.C.Backing.goes_on _ _ _ (g.met.C.Backing.goes_on _ _ _ inv.keeps c.in-Ok.ensures.keeps) c.run-ready.ensures.keeps;
+      faults_grow = let a = inv.faults_grow in let b = c.in-Ok.ensures.faults_grow in let e = c.run-ready.ensures.faults in omega (arith, a, b, e);
+      disk = let a = inv.disk in let b = c.in-Ok.ensures.disk in let e = c.run-ready.ensures.disk in omega (arith, a, b, e);
     }
 
 pub returns-in-Err-clause-ended : goal.returns-in-Err-clause-ended

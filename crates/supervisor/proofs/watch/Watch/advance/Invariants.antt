@@ -1,8 +1,8 @@
-use Rattle.std.proofs.Common.{◌≡◌, ◌≤◌, length}
+use Rattle.std.proofs.Common.{◌≡◌, ◌≤◌, true, length}
 use Rattle.system_model.specs.Run.{measure}
 use Rattle.supervisor.specs.Counts.{IsCounted}
 use Rattle.supervisor.specs.Seen.{seen}
-use Rattle.supervisor.specs.Steps.{IsHeld}
+use Rattle.supervisor.specs.Steps.{IsHeld, IsServedNext}
 use Rattle.supervisor.specs.Shows.{texts_of, MatchesConsoles, TextsGrow}
 use Rattle.supervisor.proofs.Running.{HasRunSteps, Leads}
 use Rattle.supervisor.proofs.Watching.{HasTextsPart, TextsLead}
@@ -22,6 +22,7 @@ invariant-steps g l = record {
   counted : IsCounted l.fn.self.state.entries.items l.self.state.entries.items (g.C.Backing.state l.fn.cores).calls (g.C.Backing.state l.cores).calls;
   tells : (g.C.Backing.state l.cores).held.tells ≡ (g.C.Backing.state l.fn.cores).held.tells;
   held : IsHeld (seen (g.C.Backing.state l.cores).held.places l.self.state) (g.C.Backing.state l.cores).held;
+  ready : l.ready ≡ true → IsServedNext (seen (g.C.Backing.state l.cores).held.places l.self.state) (g.C.Backing.state l.cores).held;
   usable : g.C.Backing.Usable l.cores;
   keeps : g.C.Backing.Keeps l.fn.cores l.cores;
   faults_grow : (g.C.Backing.state l.fn.cores).faults ≤ (g.C.Backing.state l.cores).faults;

@@ -1,4 +1,4 @@
-use Rattle.std.proofs.Common.{rules, ◌≡◌, ℕ, None}
+use Rattle.std.proofs.Common.{rules, ◌≡◌, None}
 use Rattle.system_model.specs.Run.{Run, rising}
 use Rattle.user_cores.specs.Backing.{Held}
 use Rattle.supervisor.specs.Seen.{seen}

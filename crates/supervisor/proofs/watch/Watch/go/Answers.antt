@@ -1,4 +1,4 @@
-use Rattle.std.proofs.Common.{rules, ◌≡◌, ◌≤◌, ℕ, List, length, map, sym, ap, subst, ◌∙◌}
+use Rattle.std.proofs.Common.{rules, ◌≡◌, ◌≤◌, List, length, map, sym, ap, subst, ◌∙◌}
 use Rattle.time_sharing.specs.System.{Console}
 use Rattle.user_model.specs.User.{User}
 use Rattle.system_model.specs.Run.{Run}

@@ -79,7 +79,7 @@ pub(crate) fn watch<'a, 'd, D: Medium, F: Medium>(
     requires rising { IsRising 0 ticks.now }
     ensures { IfOk result (λ maps. map owner_in maps.items ≡ map (owner_behind script.now) ticks.now) }
 {
-    let mut maps = Vec::new(alloc);
+    let mut maps = Vec::with_capacity(alloc, ticks.len())?;
     let mut behind = behind;
     for tick in ticks {
         let limit = limit_behind(*tick, script.end);

@@ -15,7 +15,7 @@ loop-tick-init g c =
     record {
       usable = c.requires.usable;
       way = begins script c.args.ticks.now _ c.requires.start c.requires.agrees c.requires.tells c.requires.rising;
-      maps = ap (λ (ms : List (List ℕ)). map owner_in ms ++ map (owner_behind script) c.args.ticks.now) c.new-maps.ensures.items;
+      maps = ap (λ (ms : List (List ℕ)). map owner_in ms ++ map (owner_behind script) c.args.ticks.now) c.in_ok-maps.ensures.items;
     }
 
 pub go_to-requires-clause-usable : goal.go_to-requires-clause-usable

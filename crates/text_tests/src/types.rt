@@ -1,8 +1,7 @@
-//! The shared types. Lines with blanks behind, too long or of other characters, and words between blanks, are cases of run_cases.
 use crate::rows::holds;
 use ctss_types::{
     Cause, ConsoleNo, EventKind, FileName, LineFault, LineText, Refusal, RunFault, Sequence,
-    StepFault, UserNo, WordList, name_text, name_word,
+    StepFault, UserNo, WordList, first_word, name_text, name_word,
 };
 use std::process::Abort;
 use std::test::Fail;
@@ -27,6 +26,19 @@ fn numbers_have_their_ranges(rt: HostRuntime) {
     }
 }
 
+#[test]
+fn lines_drop_trailing_blanks(rt: HostRuntime) -> Result<(), Fail> {
+    let line = LineText::from_bytes(b"LOGIN ALFA  ")?;
+    assert!(rt; (line.len(), line.at(6)) == (10, b'A'));
+    Ok(())
+}
+
+#[test]
+fn texts_that_are_no_lines(rt: HostRuntime) {
+    assert!(rt; LineText::from_bytes(&[b'A'; 85]) == Err(LineFault::TooLong));
+    assert!(rt; LineText::from_bytes(b"login") == Err(LineFault::NotBcd));
+}
+
 /// Adds a word to words, which differ from these before and not after.
 fn add(rt: &impl Abort, words: &mut WordList, word: Word) -> Result<(), Fail> {
     let before = words.clone()?;
@@ -43,6 +55,16 @@ fn sequences_compare_by_their_items(rt: HostRuntime) -> Result<(), Fail> {
     add(&rt, &mut words, Word::signed(false, 0))?;
     assert!(rt; words.len() == 2);
     Ok(())
+}
+
+#[test]
+fn words_stand_between_blanks(rt: HostRuntime) {
+    let (first, rest) = first_word(b"  LOGIN ALFA ");
+    let (second, rest) = first_word(rest);
+    let (none, _) = first_word(rest);
+    assert!(rt; first == b"LOGIN".as_slice());
+    assert!(rt; second == b"ALFA".as_slice());
+    assert!(rt; none.is_empty());
 }
 
 /// Texts of at most six characters, which are names.

@@ -3,4 +3,7 @@ pub mod Terms
 pub mod Statements
 pub mod Places
 pub mod Decks
+pub mod Causes
+pub mod Listed
+pub mod Listings
 pub mod Rows

@@ -63,3 +63,12 @@ items_of field = slice_split (λ b. b == 44) field
 abbrev pub all_words : (List ℕ → Option ℕ) → List (List ℕ) → Option (List ℕ)
 all_words f [] = Some []
 all_words f (x ∷ xs) = option_and_then (λ w. option_map (λ ws. w ∷ ws) (all_words f xs)) (f x)
+
+-- whether a text begins as a literal does
+abbrev pub begins_literal : List ℕ → Bool
+begins_literal [] = false
+begins_literal (b ∷ text) = nat_eq b 61
+
+-- the texts between signs, each with the sign before it; the first has a plus
+abbrev pub signed_texts : List ℕ → List (ℕ × List ℕ)
+signed_texts text = zip (43 ∷ filter is_sign text) (slice_split is_sign text)

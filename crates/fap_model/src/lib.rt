@@ -7,9 +7,10 @@
 
 mod types;
 
+ghost use Rattle.fap_model.specs.Listings.{ShowsDeck, ShowsFaults};
 ghost use Rattle.fap_model.specs.Rows.{RowOfGreeting, RowOfFaults, RowOfLiterals};
 
-pub use types::{Form, Operation, Term};
+pub use types::{CardRow, FaultCause, Form, Listed, Mention, Operation, SymbolValue, Term};
 
 /// Nine cards and their deck.
 #[tactic(auto, using(crate::proofs::RowsComputed::row_of_greeting))]
@@ -27,4 +28,16 @@ pub fn row_of_faults()
 #[tactic(auto, using(crate::proofs::RowsComputed::row_of_literals))]
 pub fn row_of_literals()
     ensures { RowOfLiterals }
+{}
+
+/// A listing's faults are those of its cards.
+#[tactic(auto, using(crate::proofs::Listings::shows_faults))]
+pub fn shows_faults()
+    ensures { ShowsFaults }
+{}
+
+/// A listing's words are those of the deck.
+#[tactic(auto, using(crate::proofs::Listings::shows_deck))]
+pub fn shows_deck()
+    ensures { ShowsDeck }
 {}

@@ -2,13 +2,12 @@
 use Rattle.std.proofs.Common.{◌≡◌, ℕ, ◌<◌, ◌≤◌, Bool, true, false, ◌&&◌, List, [], ◌∷◌, length, get_or, drop, Option, Some, None, refl, sym, ap, ◌∙◌, nat_eq, nat_le, arith, if◌then◌else◌}
 use Rattle.std.proofs.lemmas.Bool.Decides.{nat_tests}
 use Rattle.std.specs.Option.{option_map, option_and_then}
-use Rattle.fap_model.specs.Terms.{Signed, expression, literal_word, items_of, octal_number, decimal_word, all_words}
+use Rattle.fap_model.specs.Terms.{Signed, begins_literal, expression, literal_word, items_of, octal_number, decimal_word, all_words}
 use Rattle.fap_model.specs.declared.types.Operation.{Operation}
 use Rattle.fap_model.specs.declared.types.Form.TheVariants as form
 use Rattle.fap_model.specs.Statements as says
 use Rattle.link_model.specs.Weights.{address_kind, is_light, most_weight, kind_of}
 use Rattle.fap_assemble.specs.declared.weigh.Heft.{Heft}
-use Rattle.fap_assemble.specs.Fields.{begins_literal}
 use Rattle.fap_assemble.specs.Weighing.{heft_of, is_light_heft, heft_kind}
 use Rattle.fap_assemble.specs.FieldKinds.{joined_kind, value_heft}
 use Rattle.fap_assemble.proofs.Weighing.{plain_kind_is, light_is, weight_is}

@@ -2,11 +2,11 @@
 use Rattle.std.proofs.Common.{◌≡◌, ℕ, ◌<◌, ◌≤◌, Bool, true, false, List, [], ◌∷◌, length, get_or, drop, Option, Some, None, refl, nat_eq, nat_le, arith, if◌then◌else◌}
 use Rattle.std.proofs.lemmas.Bool.Decides.{nat_tests}
 use Rattle.std.specs.Option.{option_map, option_and_then}
-use Rattle.fap_model.specs.Terms.{Signed, expression, literal_word}
+use Rattle.fap_model.specs.Terms.{Signed, begins_literal, expression, literal_word}
 use Rattle.fap_model.specs.Statements as says
 use Rattle.fap_model.specs.Places.{value_of}
 use Rattle.fap_assemble.specs.declared.field.Address.TheVariants.{Plain, Literal}
-use Rattle.fap_assemble.specs.Fields.{address_said, said, joined, begins_literal}
+use Rattle.fap_assemble.specs.Fields.{address_said, said, joined}
 
 literal_by_case : (text : List ℕ) (b : ℕ) (c : Bool) → nat_eq b 61 ≡ c
     → says.literal_at (says.address_of (b ∷ text)) ≡ (if c then literal_word text else None)

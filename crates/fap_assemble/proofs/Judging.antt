@@ -20,7 +20,7 @@ use Rattle.link_model.specs.Moves.{Moved, without_org}
 use Rattle.link_model.specs.ModuleCards.{Relocated, has_operation, field_symbol, named_by, with_named, card_kind, names_of, weights_of, module_fault, plain_fault}
 use Rattle.fap_assemble.specs.Fields.{said, known_at, is_misshapen, least, fault_known}
 use Rattle.fap_assemble.specs.Wholes.{names_seen, is_start_outside}
-use Rattle.fap_assemble.proofs.Wholes.{outside_is}
+use Rattle.fap_assemble.proofs.Causes.{outside_is}
 use Rattle.fap_model.specs.Decks.{start_is_outside}
 use Rattle.fap_assemble.specs.declared.field.Said.{Said}
 use Rattle.fap_assemble.specs.declared.past.Past.{Past}

@@ -5,7 +5,7 @@ pub mod Expressions
 pub mod Fields
 pub mod Places
 pub mod Passes
-pub mod Wholes
+pub mod Causes
 pub mod Follows
 pub mod CardWords
 pub mod Reading

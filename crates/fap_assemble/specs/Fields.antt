@@ -134,10 +134,6 @@ abbrev pub given_words : Option Said → List ℕ
 given_words (Some (Words ws)) = ws
 given_words s = []
 
-abbrev pub begins_literal : List ℕ → Bool
-begins_literal [] = false
-begins_literal (b ∷ text) = nat_eq b 61
-
 -- what an ORG or an EQU says if it isn't at fault
 abbrev pub said_or : Operation → Known → List ℕ → ℕ → ℕ
 said_or o k card other = if nat_eq (early_fault k o card) 0 then said_by k (says.field_for o card) else other

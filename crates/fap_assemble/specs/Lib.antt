@@ -7,6 +7,7 @@ pub mod Fields
 pub mod Steps
 pub mod Passes
 pub mod Wholes
+pub mod Causes
 pub mod Follows
 pub mod CardWords
 pub mod Answers

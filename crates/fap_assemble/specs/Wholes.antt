@@ -1,15 +1,12 @@
 -- proof: what all cards together tell, as the code holds it.
-use Rattle.std.specs.Prelude.{ℕ, Bool, false, if◌then◌else◌, List, length, take, Option, Some}
-use Rattle.std.specs.Option.{option_map}
+use Rattle.std.specs.Prelude.{ℕ, Bool, false, if◌then◌else◌, List, length, Option, Some}
 use Rattle.fap_model.specs.declared.types.Operation.{Operation}
-use Rattle.fap_model.specs.Statements as says
 use Rattle.fap_model.specs.Places.{looks_back}
 use Rattle.fap_model.specs.Decks as decks
 use Rattle.fap_assemble.specs.declared.field.Said.{Said}
 use Rattle.fap_assemble.specs.declared.field.Said.TheVariants.{Value}
 use Rattle.fap_assemble.specs.declared.tables.Tables.{Tables}
 use Rattle.fap_assemble.specs.declared.whole.Whole.{Whole}
-use Rattle.fap_assemble.specs.Fields.{said, known_at, fault}
 
 abbrev pub whole_in : Whole → decks.Whole
 whole_in w = record { names = w.symbols; literals = w.literals; end_place = w.end_place; blocks = w.blocks }
@@ -29,7 +26,3 @@ is_start_outside blocks s = false
 -- how many symbols a field may use
 abbrev pub names_seen : Operation → List (ℕ × ℕ) → ℕ → ℕ
 names_seen o symbols visible = if looks_back o then visible else length symbols
-
-abbrev pub card_fault : Operation → List (ℕ × ℕ) → ℕ → ℕ → List ℕ → ℕ
-card_fault o symbols visible place card =
-    fault 0 false (known_at symbols visible place) o card (option_map (said (take (names_seen o symbols visible) symbols) place) (says.field_for o card))

@@ -1,11 +1,11 @@
 ghost use Rattle.std.specs.Prelude.{◌≡◌, ◌<◌, ◌^◌, IfOk, IfSome, take, drop, length, nat_eq, nat_lt};
 ghost use Rattle.std.specs.Option.{option_map};
-ghost use Rattle.fap_model.specs.Terms.{items_of};
+ghost use Rattle.fap_model.specs.Terms.{begins_literal, items_of};
 ghost use Rattle.fap_model.specs.Statements.{address_of, parts_of, field_for, literal_at};
 ghost use Rattle.fap_model.specs.Decks.{literal_by};
 ghost use Rattle.fap_model.specs.Places.{value_of};
 ghost use Rattle.fap_assemble.specs.Names.{names_in};
-ghost use Rattle.fap_assemble.specs.Fields.{address_said, said, joined, HasShortAddress, HasShortValues, IsShort, is_wrong, address_is_defined, is_defined, number, data_words, begins_literal};
+ghost use Rattle.fap_assemble.specs.Fields.{address_said, said, joined, HasShortAddress, HasShortValues, IsShort, is_wrong, address_is_defined, is_defined, number, data_words};
 ghost use Rattle.fap_assemble.specs.declared.field.Said.TheVariants.{Words};
 
 use crate::expression::value;
@@ -72,7 +72,7 @@ pub(crate) fn literal(op: Operation, text: &[u8]) -> Option<Word>
 
 /// An address, where its text is one.
 #[tactic(auto, using(crate::proofs::Fields::address_seen))]
-fn address_in(names: Names<'_>, place: u64, text: &[u8]) -> Option<Address>
+pub(crate) fn address_in(names: Names<'_>, place: u64, text: &[u8]) -> Option<Address>
     ensures value { result ≡ option_map (address_said (names_in names.entry) place) (address_of text.now) }
     ensures short { IfSome result HasShortAddress }
 {

@@ -5,9 +5,10 @@ ghost use Rattle.fap_assemble.specs.Steps.{texts};
 ghost use Rattle.fap_assemble.specs.Wholes.{whole_in};
 ghost use Rattle.fap_assemble.specs.Follows.{numbered};
 
+use crate::cause::fault_of;
 use crate::fault::{CardFault, FaultList};
 use crate::place::{operation_in, place_behind, visible_behind};
-use crate::whole::{Whole, fault_of};
+use crate::whole::Whole;
 use ctss_types::{NoMemory, Sequence};
 use fap_read::Card;
 use std::alloc::Global;

@@ -2,6 +2,7 @@
 #![tactic(auto)]
 
 mod assembler;
+mod cause;
 mod cells;
 mod expression;
 mod fault;

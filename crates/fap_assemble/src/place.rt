@@ -69,7 +69,7 @@ fn size(op: Operation, place: u64, said: &Option<Said>) -> u64
 }
 
 /// Whether an operation can have a flag.
-fn takes_flag(op: Operation) -> bool
+pub(crate) fn takes_flag(op: Operation) -> bool
     ensures { result ≡ takes_flag op }
 {
     match op {
@@ -82,7 +82,7 @@ fn takes_flag(op: Operation) -> bool
 }
 
 /// Whether an operation is EQU.
-fn is_equ(op: Operation) -> bool
+pub(crate) fn is_equ(op: Operation) -> bool
     ensures { result ≡ is_equ op }
 {
     match op {
@@ -102,7 +102,7 @@ fn is_misshapen(op: Operation, text: &[u8]) -> bool
 }
 
 /// Whether an earlier card has a card's symbol.
-fn is_known(text: &[u8], symbols: &Symbols, visible: usize, place: u64) -> bool
+pub(crate) fn is_known(text: &[u8], symbols: &Symbols, visible: usize, place: u64) -> bool
     ensures { result ≡ symbol_is_known (known_at symbols.now visible place) (symbol_of text.now) }
 {
     match symbol(text) {
@@ -112,7 +112,7 @@ fn is_known(text: &[u8], symbols: &Symbols, visible: usize, place: u64) -> bool
 }
 
 /// Whether words behind a place pass the last one.
-fn is_far(place: u64, words: usize, more: usize) -> bool
+pub(crate) fn is_far(place: u64, words: usize, more: usize) -> bool
     ensures { result ≡ nat_lt max_place (place + words + more) }
 {
     place

@@ -1,19 +1,13 @@
-ghost use Rattle.std.specs.Prelude.{◌≡◌, ◌+◌, ◌^◌, ◌<◌, Some, IfOk, length};
+ghost use Rattle.std.specs.Prelude.{◌≡◌, ◌+◌, ◌^◌, ◌<◌, length};
 ghost use Rattle.fap_model.specs.Places.{looks_back};
-ghost use Rattle.fap_model.specs.Decks.{blocks_for, reach_of, fault_by, fault_of};
-ghost use Rattle.fap_assemble.specs.Fields.{known_at};
-ghost use Rattle.fap_assemble.specs.Wholes.{whole_in, whole_of_tables, is_start_outside, names_seen, card_fault};
-ghost use Rattle.fap_model.specs.declared.types.Operation.TheVariants.{End as end};
+ghost use Rattle.fap_model.specs.Decks.{blocks_for, reach_of};
+ghost use Rattle.fap_assemble.specs.Wholes.{whole_in, whole_of_tables, is_start_outside, names_seen};
 
-use crate::field::{Said, read};
+use crate::field::Said;
 use crate::literals::Literals;
-use crate::place::fault;
 use crate::symbols::Symbols;
 use crate::tables::{Tables, reach_of};
-use ctss_types::NoMemory;
 use fap_model::Operation;
-use fap_read::{is_bad, is_comment, operation};
-use std::alloc::Global;
 
 /// What all cards together tell: the symbols, the literals, the place behind the last card before END, the blocks.
 #[derive(Drop)]
@@ -81,35 +75,6 @@ fn looks_back(op: Operation) -> bool
     }
 }
 
-/// The fault of the END card.
-
-fn end_fault(
-    alloc: Global,
-    text: &[u8],
-    whole: &Whole,
-    visible: usize,
-    place: u64,
-) -> Result<u8, NoMemory>
-    requires { whole.now.blocks < 2 ^ 30 }
-    ensures { IfOk result (λ f. f ≡ fault_by (Some end) (whole_in whole.now)
-        (known_at whole.now.symbols visible place) text.now) }
-{
-    let symbols = &whole.symbols;
-    let said = read(alloc, Operation::End, text, symbols, symbols.len(), place)?;
-    let more = whole.literals.len();
-    let wrong = is_start_outside(whole.blocks, &said);
-    Ok(fault(
-        Operation::End,
-        text,
-        &said,
-        symbols,
-        visible,
-        place,
-        more,
-        wrong,
-    ))
-}
-
 /// How many symbols a field may use.
 pub(crate) fn names_seen(op: Operation, symbols: &Symbols, visible: usize) -> usize
     ensures { result ≡ names_seen op symbols.now visible }
@@ -118,61 +83,5 @@ pub(crate) fn names_seen(op: Operation, symbols: &Symbols, visible: usize) -> us
         visible
     } else {
         symbols.len()
-    }
-}
-
-/// The fault of a card with an operation that isn't END.
-fn card_fault(
-    alloc: Global,
-    op: Operation,
-    text: &[u8],
-    symbols: &Symbols,
-    visible: usize,
-    place: u64,
-) -> Result<u8, NoMemory>
-    ensures { IfOk result (λ f. f ≡ card_fault op symbols.now visible place text.now) }
-{
-    let names = names_seen(op, symbols, visible);
-    let said = read(alloc, op, text, symbols, names, place)?;
-    Ok(fault(op, text, &said, symbols, visible, place, 0, false))
-}
-
-/// The fault of a card with an operation.
-
-fn fault_by(
-    alloc: Global,
-    op: Operation,
-    text: &[u8],
-    whole: &Whole,
-    visible: usize,
-    place: u64,
-) -> Result<u8, NoMemory>
-    requires { whole.now.blocks < 2 ^ 30 }
-    ensures { IfOk result (λ f. f ≡ fault_by (Some op) (whole_in whole.now) (known_at whole.now.symbols visible place)
-        text.now) }
-{
-    match op {
-        Operation::End => end_fault(alloc, text, whole, visible, place),
-        _ => card_fault(alloc, op, text, &whole.symbols, visible, place),
-    }
-}
-
-/// The least fault of a card, 0 where there is none.
-pub(crate) fn fault_of(
-    alloc: Global,
-    text: &[u8],
-    whole: &Whole,
-    visible: usize,
-    place: u64,
-) -> Result<u8, NoMemory>
-    requires { whole.now.blocks < 2 ^ 30 }
-    ensures { IfOk result (λ f. f ≡ fault_of (whole_in whole.now) (known_at whole.now.symbols visible place) text.now) }
-{
-    if is_comment(text) {
-        return Ok(if is_bad(text) { 2 } else { 0 });
-    }
-    match operation(text) {
-        Some(op) => fault_by(alloc, op, text, whole, visible, place),
-        None => Ok(1),
     }
 }

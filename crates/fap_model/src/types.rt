@@ -69,6 +69,24 @@ pub enum FaultCause {
     PastEnd,
 }
 
+impl FaultCause {
+    ghost use Rattle.std.specs.Prelude.{◌≡◌};
+    ghost use Rattle.fap_model.specs.Causes.{number_of};
+
+    /// The number of the fault.
+    pub fn number(self) -> u8
+        ensures { result ≡ number_of self }
+    {
+        match self {
+            FaultCause::NoOperation => 1,
+            FaultCause::Undefined => 3,
+            FaultCause::Repeated => 4,
+            FaultCause::PastEnd => 5,
+            _ => 2,
+        }
+    }
+}
+
 /// What a card comes to: its place, why it is at fault and at which column, if it is, and its words, of which a card at fault
 /// has none. Columns are numbered from 1.
 #[derive(Debug, Drop)]

@@ -70,7 +70,7 @@ pub fn symbol_text(text: &[u8]) -> &[u8]
 
 /// Columns 8 to 15 up to a blank.
 #[tactic(auto, using(crate::proofs::Blanks::operation_seen))]
-fn operation_columns(text: &[u8]) -> &[u8]
+pub fn operation_columns(text: &[u8]) -> &[u8]
     ensures value { result.now ≡ operation_columns text.now }
     ensures most { length result.now ≤ 8 }
 {
@@ -101,6 +101,14 @@ pub fn operation_text(text: &[u8]) -> &[u8]
     } else {
         columns
     }
+}
+
+/// How many bytes there are before the first that is none of the 48 characters.
+pub fn character_count(text: &[u8]) -> usize
+    ensures value { result ≡ prefix_len is_character text.now }
+    ensures within { result ≤ length text.now }
+{
+    text.iter().take_while(|b| is_character(**b)).count()
 }
 
 /// Whether all are of the 48 characters.

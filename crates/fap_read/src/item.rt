@@ -1,4 +1,4 @@
-ghost use Rattle.std.specs.Prelude.{◌≡◌, ◌<◌, ◌≤◌, ◌∷◌, ◌==◌, [], IfSome, get_or, length, not};
+ghost use Rattle.std.specs.Prelude.{◌≡◌, ◌+◌, ◌<◌, ◌≤◌, ◌∷◌, ◌==◌, [], IfSome, get_or, length, not};
 ghost use Rattle.std.specs.Option.{option_map};
 ghost use Rattle.std.specs.List.{prefix_len};
 ghost use Rattle.fap_model.specs.Terms.{items_of};
@@ -17,6 +17,7 @@ fn item_len(text: &[u8]) -> usize
 pub fn first_item(field: &[u8]) -> (&[u8], Option<&[u8]>)
     ensures items { items_of field.now ≡ result.0.now ∷ items_behind (option_map (λ rest. rest.now) result.1) }
     ensures shorter { IfSome result.1 (λ rest. length rest.now < length field.now) }
+    ensures lengths { IfSome result.1 (λ rest. length field.now ≡ length result.0.now + (1 + length rest.now)) }
 {
     let n = item_len(field);
     let first = field.split_at(n).0;

@@ -16,7 +16,8 @@ mod words;
 
 pub use card::{Card, Cards, Fields, cards_of_text, cards_of_words};
 pub use columns::{
-    field, flag, has_bad_symbol, has_symbol, is_bad, is_comment, operation_text, symbol,
+    character_count, field, flag, has_bad_symbol, has_symbol, is_bad, is_comment,
+    operation_columns, operation_text, symbol,
 };
 pub use digits::is_symbol;
 pub use item::{first_item, item_at, item_count};

@@ -43,7 +43,7 @@ end_cause_is whole visible place card =
     (cause_is whole.names (length whole.literals) (start_is_outside whole (known_at whole.names visible place) (says.field_for end card)) (known_at whole.names visible place) end card
     (says.field_for end card) (λ h. absurd (no_back h)))
 
-names_case : (whole : Whole) (visible : ℕ) (b : Bool) → take (if b then visible else length whole.names) whole.names ≡ (if b then take visible whole.names else whole.names)
+pub names_case : (whole : Whole) (visible : ℕ) (b : Bool) → take (if b then visible else length whole.names) whole.names ≡ (if b then take visible whole.names else whole.names)
 names_case whole visible true = refl
 names_case whole visible false = take_all (length whole.names) whole.names (omega arith)
 

@@ -6,6 +6,9 @@ pub mod Fields
 pub mod Places
 pub mod Passes
 pub mod Causes
+pub mod Columns
+pub mod Mentions
+pub mod Listings
 pub mod Follows
 pub mod CardWords
 pub mod Reading

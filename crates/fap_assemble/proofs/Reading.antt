@@ -144,7 +144,7 @@ here_case : (c : Card) (cards : List Card) (b : Bool) → is_end (operation_in c
 here_case c cards true e ih = rw e (λ h. refl)
 here_case c cards false e ih = rw e (λ h. ih (omega arith))
 
-has_here : (cards : List Card) → end_index cards < length cards → has_end (texts cards) ≡ true
+pub has_here : (cards : List Card) → end_index cards < length cards → has_end (texts cards) ≡ true
 has_here [] h = absurd (omega arith)
 has_here (c ∷ cards) h = here_case c cards (is_end (operation_in c.text)) refl (has_here cards) h
 
@@ -283,3 +283,17 @@ pub faulty_said : (cards : List (List ℕ)) (fs : List (ℕ × ℕ)) → fs ≡ 
 unfolding assembled
 faulty_said cards [] f h = absurd (omega arith)
 faulty_said cards (x ∷ fs) f h = rw (sym f) refl
+
+-- without an END no start is said
+
+no_start_from : (whole : Whole) (k : Known) (cards : List Card) → has_end (texts cards) ≡ false → start_from whole k (texts cards) ≡ 0
+no_start_from whole k [] h = refl
+no_start_from whole k (c ∷ cards) h = start_case whole k c cards (is_end (operation_in c.text)) refl h (no_start_from whole (known_behind k c.text) cards)
+  where
+    start_case : (whole : Whole) (k : Known) (c : Card) (cards : List Card) (b : Bool) → is_end (operation_in c.text) ≡ b → has_end (texts (c ∷ cards)) ≡ false
+        → (has_end (texts cards) ≡ false → start_from whole (known_behind k c.text) (texts cards) ≡ 0) → start_from whole k (texts (c ∷ cards)) ≡ 0
+    start_case whole k c cards true e h ih = absurd (true≢false (rw e at h))
+    start_case whole k c cards false e h ih = rw e (ih (rw e at h))
+
+pub no_start : (whole : Whole) (cards : List Card) (index : ℕ) → index ≡ end_index cards → length cards ≤ index → 0 ≡ start_from whole nothing_known (texts cards)
+no_start whole cards index e h = sym (no_start_from whole nothing_known cards (has_none cards (omega (arith, e, h))))

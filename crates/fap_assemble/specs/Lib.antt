@@ -8,6 +8,9 @@ pub mod Steps
 pub mod Passes
 pub mod Wholes
 pub mod Causes
+pub mod Columns
+pub mod Mentions
+pub mod Listings
 pub mod Follows
 pub mod CardWords
 pub mod Answers

@@ -71,7 +71,7 @@ pub(crate) fn cards_read(cards: &[Card], end: usize) -> &[Card]
 }
 
 /// What all cards together tell, from those that are read.
-fn whole_of(alloc: Global, cards: &[Card], read: &[Card]) -> Result<Whole, NoMemory>
+pub(crate) fn whole_of(alloc: Global, cards: &[Card], read: &[Card]) -> Result<Whole, NoMemory>
     requires read { texts read.now ≡ cards_read (texts cards.now) }
     requires few { length read.now < 2 ^ 32 }
     ensures value { IfOk result (λ w. whole_in w ≡ whole_of (texts cards.now)) }
@@ -123,7 +123,7 @@ fn faults_of(
 }
 
 /// The start that the END card says.
-fn start(alloc: Global, cards: &[Card], end: usize, whole: &Whole) -> Result<u16, NoMemory>
+pub(crate) fn start(alloc: Global, cards: &[Card], end: usize, whole: &Whole) -> Result<u16, NoMemory>
     requires end { end ≡ end_index cards.now }
     requires within { end < length cards.now }
     requires whole { whole_in whole.now ≡ whole_of (texts cards.now) }

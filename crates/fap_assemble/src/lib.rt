@@ -4,12 +4,15 @@
 mod assembler;
 mod cause;
 mod cells;
+mod column;
 mod expression;
 mod fault;
 mod field;
 mod judge;
 mod kind;
+mod listing;
 mod literals;
+mod mention;
 mod module_assembler;
 mod module_cards;
 mod module_judge;
@@ -27,5 +30,6 @@ mod words;
 
 pub use assembler::{Deck, assemble};
 pub use fault::{AsmFault, CardFault, FaultList};
+pub use listing::list;
 pub use module_assembler::assemble_module;
 pub use module_cards::is_module;

@@ -1,7 +1,7 @@
 ghost use Rattle.std.specs.Prelude.{◌≡◌, ◌+◌, ◌≤◌, [], Some, length, OnOk, IfOk};
 ghost use Rattle.fap_model.specs.Decks.{with_literal, index_from};
 
-use ctss_types::NoMemory;
+use ctss_types::{NoMemory, Sequence, WordList};
 use indexmap::IndexSet;
 use std::alloc::Global;
 use std::marker::Model;
@@ -65,5 +65,13 @@ impl Literals {
         ensures { result.now ≡ self.now }
     {
         self.words.as_slice()
+    }
+
+    /// The literals in a list.
+    pub(crate) fn to_list(&self, alloc: Global) -> Result<WordList, NoMemory>
+        ensures { IfOk result (λ list. list ≡ self.now) }
+    {
+        let words = self.words.as_slice().to_vec(alloc)?;
+        Ok(Sequence::from_vec(words))
     }
 }

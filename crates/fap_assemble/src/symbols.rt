@@ -1,8 +1,10 @@
-ghost use Rattle.std.specs.Prelude.{◌≡◌, [], length, take, OnOk, IfOk};
+ghost use Rattle.std.specs.Prelude.{◌≡◌, [], length, map, take, OnOk, IfOk};
+ghost use Rattle.fap_model.specs.Listed.{symbol_value};
 ghost use Rattle.fap_model.specs.Places.{value_in};
 ghost use Rattle.fap_assemble.specs.Tables.{defined};
 
-use ctss_types::NoMemory;
+use ctss_types::{NoMemory, Sequence};
+use fap_model::SymbolValue;
 use indexmap::IndexMap;
 use std::alloc::Global;
 use std::marker::Model;
@@ -57,5 +59,19 @@ impl Symbols {
             self.values.insert(name, value)?;
         }
         Ok(())
+    }
+
+    /// The symbols in a list.
+    pub(crate) fn to_list(&self, alloc: Global) -> Result<Sequence<SymbolValue>, NoMemory>
+        ensures { IfOk result (λ list. list ≡ map symbol_value self.now) }
+    {
+        let mut list = Sequence::new(alloc);
+        for (name, value) in self.values.iter() {
+            list.push(SymbolValue {
+                name: *name,
+                value: *value,
+            })?;
+        }
+        Ok(list)
     }
 }

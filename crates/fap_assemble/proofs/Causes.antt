@@ -5,7 +5,6 @@ use Rattle.fap_model.specs.declared.types.Operation.{Operation}
 use Rattle.fap_model.specs.declared.types.Operation.TheVariants.{Machine as machine, Pze as pze, Org as org, Bss as bss, Equ as equ, Dec as dec, Oct as oct, Bci as bci, End as end}
 use Rattle.fap_model.specs.Statements as says
 use Rattle.fap_model.specs.Places.{Known, looks_back}
-use Rattle.fap_model.specs.declared.types.FaultCause.{FaultCause}
 use Rattle.fap_model.specs.Causes.{cause_with, cause_by}
 use Rattle.fap_model.specs.Decks.{Whole, names_for, start_is_outside}
 use Rattle.fap_assemble.specs.Fields.{said, known_at}

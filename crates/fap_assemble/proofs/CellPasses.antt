@@ -1,15 +1,13 @@
 -- The places of a module's cards, card by card.
-use Rattle.std.proofs.Common.{◌≡◌, ℕ, suc, ◌+◌, ◌<◌, ◌≤◌, Bool, true, false, List, [], ◌∷◌, ◌++◌, length, get_or, take, drop, map, replicate, Option, Some, None, refl, sym, ap, ◌∙◌, subst, arith, append_assoc, if◌then◌else◌}
+use Rattle.std.proofs.Common.{◌≡◌, ℕ, suc, ◌+◌, ◌<◌, List, [], ◌∷◌, ◌++◌, length, get_or, take, drop, sym, ap, ◌∙◌, arith, append_assoc}
 use Rattle.fap_read.specs.declared.card.Card.{Card}
-use Rattle.fap_model.specs.Decks.{fault_entry}
 use Rattle.link_model.specs.declared.types.ModulePlace.{ModulePlace}
-use Rattle.link_model.specs.Moves.{Moved, nothing_moved, module_operation, moved_behind}
-use Rattle.link_model.specs.ModuleCards.{Relocated, module_fault, module_faults_from, cells_by, cells_from, cell}
+use Rattle.link_model.specs.Moves.{Moved, module_operation, moved_behind}
+use Rattle.link_model.specs.ModuleCards.{Relocated, module_fault, module_faults_from, cells_by, cells_from}
 use Rattle.fap_assemble.specs.Steps.{texts}
 use Rattle.fap_assemble.specs.declared.relocated.Relocated.{Relocated as Held}
 use Rattle.fap_assemble.specs.declared.relocated.Spot.{Spot}
-use Rattle.fap_assemble.specs.declared.past.Past.{Past}
-use Rattle.fap_assemble.specs.Judging.{relocated_in, moved_at, past_of, module_fault_by}
+use Rattle.fap_assemble.specs.Judging.{relocated_in, moved_at, past_of}
 use Rattle.fap_assemble.specs.ModuleFollows.{Stands, moved_by_cards}
 use Rattle.fap_assemble.specs.CellWords.{IsSound}
 use Rattle.fap_assemble.proofs.Passes.{texts_at}

@@ -1,9 +1,8 @@
 -- The places of a module's card are the definition's, and a card without a fault has a right field.
-use Rattle.std.proofs.Common.{◌≡◌, ◌≢◌, ℕ, suc, ◌+◌, ◌<◌, ◌≤◌, ◌^◌, Bool, true, false, not, ◌||◌, List, [], ◌∷◌, ◌++◌, length, take, drop, map, Option, Some, None, is_none, refl, sym, ap, ◌∙◌, subst, arith, nat_lt, nat_eq, nat_le, true≢false, if◌then◌else◌, bytes_eq, codes, append_assoc}
-use Rattle.std.proofs.lemmas.Bool.Decides.{nat_tests}
+use Rattle.std.proofs.Common.{◌≡◌, ◌≢◌, ℕ, ◌+◌, Bool, true, false, not, ◌||◌, List, [], ◌∷◌, length, map, Option, Some, None, is_none, refl, sym, ap, ◌∙◌, subst, arith, nat_lt, if◌then◌else◌, bytes_eq, codes}
 use Rattle.std.proofs.lemmas.Slice.Eq.{bytes_eq-Decides}
 use Rattle.std.specs.Option.{option_map}
-use Rattle.fap_model.specs.Cards.{is_comment, is_bad, flag_of, operation_of, field_of, symbol_of}
+use Rattle.fap_model.specs.Cards.{is_comment, is_bad, flag_of, operation_of, symbol_of}
 use Rattle.fap_model.specs.declared.types.Operation.{Operation}
 use Rattle.fap_model.specs.declared.types.Operation.TheVariants.{Machine as machine, Pze as pze, Org as org, Bss as bss, Equ as equ, Dec as dec, Oct as oct, Bci as bci, End as end}
 use Rattle.opcode_table.specs.declared.op.Op.{Op}
@@ -11,8 +10,7 @@ use Rattle.fap_model.specs.Statements as says
 use Rattle.fap_model.specs.Places.{Known, max_place, count_of, field_is_wrong, field_is_defined, fault_with, symbol_is_known, or_zero}
 use Rattle.fap_model.specs.Decks.{Whole, operation_in, start_is_outside}
 use Rattle.fap_model.specs.Decks as decks
-use Rattle.link_model.specs.declared.types.ModulePlace.{ModulePlace}
-use Rattle.link_model.specs.Moves.{Moved, without_org, module_operation, moved_size}
+use Rattle.link_model.specs.Moves.{Moved, without_org, module_operation}
 use Rattle.link_model.specs.ModuleCards.{Relocated, card_kind, names_of, cells_by, cell}
 use Rattle.fap_assemble.specs.declared.field.Said.{Said}
 use Rattle.fap_assemble.specs.declared.field.Said.TheVariants.{Placed, Half, Nothing, Value, Words}

@@ -1,5 +1,5 @@
 -- The faults of a module's cards by what was read of them are the definition's.
-use Rattle.std.proofs.Common.{◌≡◌, ◌≢◌, ℕ, zero, suc, ◌+◌, ◌<◌, ◌≤◌, ◌^◌, Bool, true, false, not, ◌&&◌, ◌||◌, List, [], ◌∷◌, ◌++◌, length, take, take_all, count_by, Option, Some, None, is_none, is_some, refl, sym, ap, ◌∙◌, arith, nat_lt, nat_le, nat_eq, true≢false, if◌then◌else◌, codes, append_assoc}
+use Rattle.std.proofs.Common.{◌≡◌, ◌≢◌, ℕ, zero, suc, ◌+◌, ◌<◌, ◌≤◌, ◌^◌, Bool, true, false, not, ◌&&◌, ◌||◌, List, [], ◌∷◌, ◌++◌, length, take, take_all, count_by, Option, Some, None, is_none, is_some, refl, sym, ap, ◌∙◌, arith, nat_lt, nat_le, nat_eq, true≢false, if◌then◌else◌, codes}
 use Rattle.std.proofs.lemmas.Bool.Decides.{nat_tests}
 use Rattle.std.specs.Option.{option_map, option_and_then}
 use Rattle.std.specs.List.{list_all}
@@ -17,8 +17,8 @@ use Rattle.fap_model.specs.Statements as says
 use Rattle.fap_model.specs.Places.{Known, value_in, term_value, with_term, value_from, value_of, or_zero, max_place, count_of, looks_back, field_is_wrong, field_is_defined, symbol_is_known, fault_with}
 use Rattle.link_model.specs.Weights.{with_externs, is_among, names_extern, externs_in, weight_of, is_light, kind_of}
 use Rattle.link_model.specs.Moves.{Moved, without_org}
-use Rattle.link_model.specs.ModuleCards.{Relocated, has_operation, field_symbol, named_by, with_named, card_kind, names_of, weights_of, module_fault, plain_fault}
-use Rattle.fap_assemble.specs.Fields.{said, known_at, is_misshapen, least, fault_known}
+use Rattle.link_model.specs.ModuleCards.{Relocated, has_operation, field_symbol, named_by, with_named, card_kind, names_of, module_fault, plain_fault}
+use Rattle.fap_assemble.specs.Fields.{said, is_misshapen, least, fault_known}
 use Rattle.fap_assemble.specs.Wholes.{names_seen, is_start_outside}
 use Rattle.fap_assemble.proofs.Causes.{outside_is}
 use Rattle.fap_model.specs.Decks.{start_is_outside}

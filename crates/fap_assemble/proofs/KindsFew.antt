@@ -1,5 +1,5 @@
 -- Kinds are few where externs are, and a module without a fault has few externs.
-use Rattle.std.proofs.Common.{◌≡◌, ℕ, suc, ◌+◌, ◌<◌, ◌≤◌, Bool, true, false, ◌&&◌, ◌||◌, List, [], ◌∷◌, ◌++◌, length, count_by, Option, Some, None, refl, sym, ap, ◌∙◌, subst, arith, nat_le, nat_lt, nat_eq, true≢false, if◌then◌else◌, bytes_eq, codes, append_assoc, is_none, not}
+use Rattle.std.proofs.Common.{◌≡◌, ℕ, suc, ◌+◌, ◌<◌, ◌≤◌, Bool, true, false, ◌&&◌, ◌||◌, List, [], ◌∷◌, ◌++◌, length, count_by, Option, Some, None, refl, sym, subst, arith, nat_le, nat_eq, true≢false, if◌then◌else◌, bytes_eq, codes, append_assoc, is_none, not}
 use Rattle.std.proofs.lemmas.List.{append-nil}
 use Rattle.std.proofs.lemmas.Bool.Decides.{nat_tests}
 use Rattle.std.proofs.lemmas.Slice.Eq.{bytes_eq-Decides}
@@ -11,10 +11,9 @@ use Rattle.fap_model.specs.declared.types.Operation.{Operation}
 use Rattle.fap_model.specs.declared.types.Operation.TheVariants.{Machine as machine, Pze as pze, Org as org, Bss as bss, Equ as equ, Dec as dec, Oct as oct, Bci as bci, End as end}
 use Rattle.fap_model.specs.Statements as says
 use Rattle.fap_model.specs.Places.{or_zero, max_place, value_in}
-use Rattle.fap_model.specs.Decks.{fault_entry}
 use Rattle.link_model.specs.Weights.{weight_of, externs_in, added_kind, plain_kind, address_kind, is_light, most_weight, kind_of}
 use Rattle.link_model.specs.Moves.{Moved, without_org, moved_behind}
-use Rattle.link_model.specs.ModuleCards.{Relocated, is_marked, field_symbol, has_operation, with_named, named_by, seen, is_over, rel_fault, entry_fault, extern_fault, extern_fault_of, plain_fault, module_fault, module_faults_from}
+use Rattle.link_model.specs.ModuleCards.{Relocated, is_marked, field_symbol, has_operation, with_named, named_by, seen, rel_fault, entry_fault, extern_fault, extern_fault_of, plain_fault, module_fault, module_faults_from}
 use Rattle.fap_assemble.specs.Judging.{one_if}
 use Rattle.fap_assemble.proofs.Lookup.{index_within}
 use Rattle.fap_assemble.proofs.Follows.{no_entry}

@@ -4,8 +4,6 @@ use Rattle.std.proofs.lemmas.Bool.Decides.{nat_tests}
 use Rattle.fap_read.specs.declared.card.Card.{Card}
 use Rattle.fap_model.specs.declared.types.CardRow.{CardRow}
 use Rattle.fap_model.specs.declared.types.FaultCause.{FaultCause}
-use Rattle.fap_model.specs.declared.types.SymbolValue.{SymbolValue}
-use Rattle.fap_model.specs.declared.types.Mention.{Mention}
 use Rattle.fap_model.specs.declared.types.Listed.{Listed}
 use Rattle.fap_model.specs.Places.{Known, nothing_known, known_behind}
 use Rattle.fap_model.specs.Decks.{Whole, cards_read, has_end, whole_of, fault_of, start_from}

@@ -1,6 +1,5 @@
 -- A module's END takes no place, and what the passes come to is the definition's module.
-use Rattle.std.proofs.Common.{◌≡◌, ℕ, suc, ◌+◌, ◌<◌, ◌≤◌, Bool, true, false, List, [], ◌∷◌, ◌++◌, length, get_or, take, map, Option, Some, None, is_none, refl, sym, ap, ◌∙◌, subst, arith, nat_lt, if◌then◌else◌, true≢false, take_all, codes}
-use Rattle.std.proofs.lemmas.List.{append-nil}
+use Rattle.std.proofs.Common.{◌≡◌, ℕ, suc, ◌+◌, ◌<◌, ◌≤◌, Bool, true, false, List, [], ◌∷◌, ◌++◌, length, get_or, map, Option, Some, None, is_none, refl, sym, ap, ◌∙◌, arith, nat_lt, if◌then◌else◌, true≢false, codes}
 use Rattle.std.proofs.lemmas.Bool.Decides.{nat_tests}
 use Rattle.std.specs.Option.{option_map}
 use Rattle.fap_read.specs.declared.card.Card.{Card}
@@ -15,14 +14,12 @@ use Rattle.link_model.specs.declared.types.Module.{Module}
 use Rattle.link_model.specs.declared.types.ModulePlace.{ModulePlace}
 use Rattle.link_model.specs.declared.types.ModuleEntry.{ModuleEntry}
 use Rattle.link_model.specs.Moves.{Moved, nothing_moved, without_org, module_operation, early_kind, moved_size, moved_with, moved_behind, moved_after}
-use Rattle.link_model.specs.ModuleCards.{Relocated, relocated_of, named_by, module_faults_from, module_faults, cells_by, cells_from, cell, entries_of, module_start, module_of_cards, relocatable, faulty, module_by, module_made}
+use Rattle.link_model.specs.ModuleCards.{Relocated, relocated_of, named_by, module_faults_from, module_faults, cells_by, cells_from, cell, entries_of, module_start, module_of_cards, relocatable, faulty, module_made}
 use Rattle.fap_assemble.specs.declared.field.Said.{Said}
 use Rattle.fap_assemble.specs.Fields.{said, number}
 use Rattle.fap_assemble.specs.Steps.{texts}
 use Rattle.fap_assemble.specs.Answers.{end_index, missing_end}
-use Rattle.fap_assemble.specs.Judging.{relocated_in}
-use Rattle.fap_assemble.specs.ModuleFollows.{TellsAll, told_by}
-use Rattle.fap_assemble.specs.declared.relocated.Relocated.{Relocated as Held}
+use Rattle.fap_assemble.specs.ModuleFollows.{told_by}
 use Rattle.fap_assemble.proofs.Reading.{no_both, end_needed, has_none, texts_length, said_start}
 use Rattle.fap_assemble.proofs.KindsFew.{externs_few}
 

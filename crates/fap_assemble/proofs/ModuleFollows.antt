@@ -1,14 +1,12 @@
 -- What is known before a card of a module is the first of what all its cards tell.
-use Rattle.std.proofs.Common.{◌≡◌, ℕ, zero, suc, ◌+◌, ◌<◌, Bool, true, false, List, [], ◌∷◌, ◌++◌, length, get_or, take, drop, map, Option, Some, None, is_none, refl, sym, ap, ◌∙◌, subst, arith, append_assoc, length-append, codes, if◌then◌else◌}
+use Rattle.std.proofs.Common.{◌≡◌, ℕ, zero, suc, ◌+◌, ◌<◌, Bool, true, false, List, [], ◌∷◌, ◌++◌, length, get_or, take, drop, None, refl, sym, ap, ◌∙◌, subst, arith, append_assoc, codes, if◌then◌else◌}
 use Rattle.std.proofs.lemmas.List.{append-nil}
 use Rattle.fap_read.specs.declared.card.Card.{Card}
 use Rattle.fap_model.specs.Cards.{is_comment, symbol_of}
-use Rattle.fap_model.specs.Places.{Known}
 use Rattle.fap_model.specs.Decks.{fault_entry, literals_with, blocks_for}
 use Rattle.link_model.specs.Weights.{with_externs}
-use Rattle.link_model.specs.Moves.{Moved, nothing_moved, module_operation, moved_size, worth, moved_with, moved_behind, moved_after}
+use Rattle.link_model.specs.Moves.{Moved, nothing_moved, module_operation, worth, moved_with, moved_behind, moved_after}
 use Rattle.link_model.specs.ModuleCards.{Relocated, named_by, module_fault, module_faults_from}
-use Rattle.fap_assemble.specs.Fields.{known_at}
 use Rattle.fap_assemble.specs.Steps.{definition, new_symbols, texts}
 use Rattle.fap_assemble.specs.Passes.{symbol_entered}
 use Rattle.fap_assemble.specs.declared.relocated.Relocated.{Relocated as Held}
@@ -16,7 +14,7 @@ use Rattle.fap_assemble.specs.declared.relocated.Spot.{Spot}
 use Rattle.fap_assemble.specs.declared.past.Past.{Past}
 use Rattle.fap_assemble.specs.Judging.{moved_at, relocated_in, past_of, module_fault_by}
 use Rattle.fap_assemble.proofs.Judging.{fault_same}
-use Rattle.fap_assemble.specs.ModuleFollows.{IsSpot, Stands, moved_by_cards, relocated_from, TellsAll}
+use Rattle.fap_assemble.specs.ModuleFollows.{Stands, moved_by_cards, relocated_from, TellsAll}
 use Rattle.fap_assemble.specs.declared.moves.Moves.{Moves}
 use Rattle.fap_assemble.specs.Moving.{moves_in}
 use Rattle.fap_assemble.proofs.Follows.{Grows, entered_grows, grows_on, entered_length, front_of}

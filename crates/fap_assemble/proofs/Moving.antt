@@ -1,12 +1,11 @@
 -- What a card of a module does to what is known.
-use Rattle.std.proofs.Common.{◌≡◌, ◌≢◌, ℕ, zero, suc, ◌+◌, ◌<◌, ◌≤◌, ◌%◌, ◌^◌, Bool, true, false, ◌||◌, not, List, [], ◌∷◌, ◌++◌, length, get_or, take, drop, take_all, append_assoc, Option, Some, None, is_none, refl, sym, ap, ◌∙◌, subst, arith, nat_lt, nat_eq, true≢false, if◌then◌else◌}
-use Rattle.std.proofs.lemmas.Bool.Decides.{nat_tests}
+use Rattle.std.proofs.Common.{◌≡◌, ℕ, ◌+◌, ◌<◌, ◌%◌, ◌^◌, Bool, true, false, List, [], ◌∷◌, ◌++◌, length, get_or, take, drop, take_all, append_assoc, Option, Some, None, is_none, refl, sym, ap, ◌∙◌, arith, true≢false, if◌then◌else◌}
 use Rattle.std.specs.Option.{option_map}
 use Rattle.fap_model.specs.Cards.{is_comment, symbol_of}
 use Rattle.fap_model.specs.declared.types.Operation.{Operation}
 use Rattle.fap_model.specs.declared.types.Operation.TheVariants.{Machine as machine, Pze as pze, Org as org, Bss as bss, Equ as equ, Dec as dec, Oct as oct, Bci as bci, End as end}
 use Rattle.fap_model.specs.Statements as says
-use Rattle.fap_model.specs.Places.{Known, count_of, with_symbol}
+use Rattle.fap_model.specs.Places.{Known, with_symbol}
 use Rattle.fap_model.specs.Decks.{operation_in, literal_by, with_literal, literals_with}
 use Rattle.link_model.specs.ModuleCards.{has_operation, field_symbol, with_named, named_by}
 use Rattle.fap_read.specs.declared.card.Card.{Card}

@@ -3,7 +3,7 @@ use Rattle.std.proofs.Common.{◌≡◌, ℕ, suc, ◌+◌, ◌<◌, Bool, true,
 use Rattle.std.proofs.lemmas.Bool.Decides.{nat_tests}
 use Rattle.std.specs.Option.{option_map, option_and_then}
 use Rattle.fap_model.specs.declared.types.Term.{Term}
-use Rattle.fap_model.specs.declared.types.Term.TheVariants.{Named, Number, Here}
+use Rattle.fap_model.specs.declared.types.Term.TheVariants.{Named}
 use Rattle.fap_model.specs.Terms.{Signed, term_of, signed_all, expression}
 use Rattle.fap_model.specs.Decks.{index_from}
 use Rattle.link_model.specs.Weights.{weight_from, weight_of, names_extern, is_among, externs_in, added_kind, plain_kind, is_light}
@@ -12,7 +12,7 @@ use Rattle.fap_assemble.specs.declared.weigh.Heft.{Heft}
 use Rattle.fap_assemble.specs.declared.weigh.Found.{Found}
 use Rattle.fap_assemble.specs.declared.weigh.Found.TheVariants.{Nothing as no_extern, One as one_extern, More as more_externs}
 use Rattle.fap_assemble.specs.Rosters.{number_in}
-use Rattle.fap_assemble.specs.Weighing.{kind_found, found_with, found_from, heft_with, heft_from, no_heft, heft_of, weight_taken, weighed, is_no_extern, is_light_heft, kind_with, heft_kind}
+use Rattle.fap_assemble.specs.Weighing.{kind_found, found_from, heft_with, heft_from, no_heft, heft_of, weight_taken, weighed, is_no_extern, is_light_heft, kind_with, heft_kind}
 
 mapped_on : (externs : List ℕ) (weights : List (ℕ × ℕ)) (sum : Heft) (minus : Bool) (t : Term) (all : Option (List Signed))
     → option_map (λ ts. heft_from externs weights (heft_with externs weights sum minus t) ts) all

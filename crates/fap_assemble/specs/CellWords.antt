@@ -1,5 +1,5 @@
 -- proof: the places of a module's card, by what was read of it.
-use Rattle.std.specs.Prelude.{◌≡◌, ℕ, List, map, Option, Some, None}
+use Rattle.std.specs.Prelude.{◌≡◌, ℕ, List, map, Some}
 use Rattle.fap_model.specs.declared.types.Operation.{Operation}
 use Rattle.fap_model.specs.Decks.{words_by}
 use Rattle.fap_model.specs.Places.{or_zero}

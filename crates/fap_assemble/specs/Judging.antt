@@ -1,5 +1,5 @@
 -- proof: the faults of a module's cards, as the code holds what stood before them.
-use Rattle.std.specs.Prelude.{ℕ, ◌+◌, Bool, true, not, ◌&&◌, ◌||◌, nat_lt, nat_le, if◌then◌else◌, List, [], ◌∷◌, ◌++◌, length, take, count_by, Option, Some, None, is_none, bytes_eq, codes}
+use Rattle.std.specs.Prelude.{ℕ, ◌+◌, Bool, not, ◌&&◌, ◌||◌, nat_lt, nat_le, if◌then◌else◌, List, [], ◌∷◌, ◌++◌, length, take, count_by, Option, Some, None, is_none, bytes_eq, codes}
 use Rattle.std.specs.List.{list_all}
 use Rattle.fap_model.specs.Cards.{is_comment, is_bad, operation_of, field_of}
 use Rattle.fap_model.specs.declared.types.Operation.{Operation}

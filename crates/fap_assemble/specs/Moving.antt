@@ -1,7 +1,7 @@
 -- proof: what a card of a module does, as the code holds it.
 use Rattle.std.specs.Prelude.{ℕ, ◌+◌, List, [], take, Option}
 use Rattle.fap_model.specs.declared.types.Operation.{Operation}
-use Rattle.fap_model.specs.Places.{Known, with_symbol}
+use Rattle.fap_model.specs.Places.{with_symbol}
 use Rattle.link_model.specs.Moves.{Moved, table_with, equs_with}
 use Rattle.fap_assemble.specs.Fields.{known_at}
 use Rattle.fap_assemble.specs.declared.moves.Before.{Before}

@@ -1,12 +1,9 @@
 -- proof: the weight of an expression and its externs, part by part.
-use Rattle.std.specs.Prelude.{ℕ, ◌+◌, Bool, true, false, ◌&&◌, List, [], ◌∷◌, Option, Some, None, nat_eq, nat_le, if◌then◌else◌}
-use Rattle.std.specs.Option.{option_map}
+use Rattle.std.specs.Prelude.{ℕ, Bool, true, false, ◌&&◌, List, [], ◌∷◌, Option, Some, None, nat_eq, nat_le, if◌then◌else◌}
 use Rattle.fap_model.specs.declared.types.Term.{Term}
-use Rattle.fap_model.specs.declared.types.Term.TheVariants.{Named, Number, Here}
 use Rattle.fap_model.specs.Terms.{Signed, term_of}
 use Rattle.fap_model.specs.Places.{with_term}
-use Rattle.link_model.specs.Weights.{term_weight, weight_of, names_extern, added_kind}
-use Rattle.fap_assemble.specs.Rosters.{number_in}
+use Rattle.link_model.specs.Weights.{term_weight, names_extern, added_kind}
 use Rattle.fap_assemble.specs.declared.weigh.Heft.{Heft}
 use Rattle.fap_assemble.specs.declared.weigh.Found.{Found}
 use Rattle.fap_assemble.specs.declared.weigh.Found.TheVariants.{Nothing as no_extern, One as one_extern, More as more_externs}

@@ -1,13 +1,11 @@
 -- A listing shows the deck and the faults of its cards.
-use Rattle.std.proofs.Common.{◌≡◌, ℕ, zero, suc, ◌+◌, ◌≤◌, Bool, true, false, not, ◌&&◌, ◌||◌, nat_eq, nat_lt, if◌then◌else◌, List, [], ◌∷◌, ◌++◌, length, map, take, drop, replicate, Option, Some, None, is_none, refl, sym, ap, ◌∙◌, subst, arith, true≢false}
-use Rattle.std.proofs.lemmas.List.{append-nil}
-use Rattle.std.proofs.lemmas.Bool.Decides.{nat_tests}
+use Rattle.std.proofs.Common.{◌≡◌, ℕ, zero, suc, ◌+◌, Bool, true, false, not, ◌&&◌, ◌||◌, nat_eq, nat_lt, if◌then◌else◌, List, [], ◌∷◌, ◌++◌, length, Option, Some, None, is_none, refl, sym, ap, ◌∙◌, arith, true≢false}
 use Rattle.fap_model.specs.Cards.{is_comment, is_bad, has_bad_symbol, flag_of, symbol_text, symbol_of, operation_of}
 use Rattle.fap_model.specs.Statements.{Operation, machine, pze, org, bss, equ, dec, oct, bci, end, operation_named, Field, field_for}
 use Rattle.fap_model.specs.Places.{Known, nothing_known, takes_flag, is_equ, field_is_wrong, field_is_defined, symbol_is_known, max_place, count_of, fault_with, known_behind}
-use Rattle.fap_model.specs.Decks.{Whole, Segment, operation_in, is_end, cards_read, cards_before_end, has_end, whole_of, names_for, start_is_outside, fault_by, fault_of, fault_entry, faults_from, faults_of, words_by, add_words, segments_from, segments_of}
-use Rattle.fap_model.specs.Causes.{FaultCause, NoOperation, Characters, BadSymbol, Flag, NoSymbol, BadForm, HighTag, Start, Undefined, Repeated, PastEnd, number_of, fault_number, cause_with, cause_by, cause_of}
-use Rattle.fap_model.specs.Listed.{CardRow, sound_words, row_of, rows_from, listed, faults_shown, laid}
+use Rattle.fap_model.specs.Decks.{Whole, Segment, operation_in, is_end, cards_read, cards_before_end, whole_of, names_for, start_is_outside, fault_by, fault_of, fault_entry, faults_from, words_by, add_words, segments_from}
+use Rattle.fap_model.specs.Causes.{FaultCause, NoOperation, Characters, BadSymbol, Flag, NoSymbol, BadForm, HighTag, Start, Undefined, Repeated, PastEnd, fault_number, cause_with, cause_by, cause_of}
+use Rattle.fap_model.specs.Listed.{sound_words, rows_from, listed, faults_shown, laid}
 use Rattle.fap_model.specs.Listings.{ShowsFaults, ShowsDeck}
 
 -- the number of the first cause is the least fault

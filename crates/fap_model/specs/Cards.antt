@@ -1,5 +1,5 @@
 -- claim: what stands where on a card. A card is its text; columns are numbered from 1, and those that it doesn't have are blank.
-use Rattle.std.specs.Prelude.{ℕ, zero, suc, ◌+◌, ◌-◌, Bool, true, false, not, ◌&&◌, ◌||◌, ◌==◌, nat_eq, nat_lt, nat_le, if◌then◌else◌, List, [], ◌∷◌, ◌++◌, length, take, drop, replicate, Option, Some, None, bytes_eq}
+use Rattle.std.specs.Prelude.{ℕ, zero, suc, ◌-◌, Bool, false, not, ◌&&◌, ◌||◌, ◌==◌, nat_eq, nat_lt, nat_le, if◌then◌else◌, List, [], ◌∷◌, ◌++◌, length, take, drop, replicate, Option, Some, None, bytes_eq}
 use Rattle.std.specs.List.{list_all, prefix_len}
 use Rattle.bcd48.specs.Characters.{is_character}
 use Rattle.bcd48.specs.Words.{characters_of}

@@ -1,5 +1,5 @@
 -- claim: why a card is at fault, and at which of its columns.
-use Rattle.std.specs.Prelude.{ℕ, zero, suc, ◌+◌, Bool, true, false, not, ◌&&◌, nat_eq, nat_lt, if◌then◌else◌, List, [], ◌∷◌, length, Option, Some, None, is_none}
+use Rattle.std.specs.Prelude.{ℕ, suc, ◌+◌, Bool, true, false, not, ◌&&◌, nat_eq, nat_lt, if◌then◌else◌, List, [], ◌∷◌, length, Option, Some, None, is_none}
 use Rattle.std.specs.List.{prefix_len}
 use Rattle.bcd48.specs.Characters.{is_character}
 use Rattle.fap_model.specs.Cards.{is_comment, is_bad, flag_of, operation_of, operation_columns, field_of, symbol_of, symbol_text, has_bad_symbol}

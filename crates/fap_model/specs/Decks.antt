@@ -1,11 +1,11 @@
 -- claim: the deck of a list of cards, or the faults of its cards.
-use Rattle.std.specs.Prelude.{ℕ, zero, suc, ◌+◌, ◌-◌, ◌*◌, ◌/◌, ◌%◌, ◌^◌, max, Bool, true, false, not, ◌&&◌, ◌||◌, nat_eq, nat_lt, nat_le, if◌then◌else◌, List, [], ◌∷◌, ◌++◌, length, Option, Some, None}
+use Rattle.std.specs.Prelude.{ℕ, zero, suc, ◌+◌, ◌*◌, ◌/◌, ◌%◌, ◌^◌, max, Bool, true, false, ◌&&◌, nat_eq, nat_lt, nat_le, if◌then◌else◌, List, [], ◌∷◌, ◌++◌, length, Option, Some, None}
 use Rattle.std.specs.List.{list_any}
 use Rattle.opcode_table.specs.Words.{encoded}
 use Rattle.opcode_table.specs.declared.op.Op.{Op}
 use Rattle.opcode_table.specs.declared.op.Instr.{Instr}
 use Rattle.fap_model.specs.Cards.{is_comment, is_bad, flag_of, operation_of, field_of}
-use Rattle.fap_model.specs.Statements.{Operation, machine, pze, org, bss, equ, dec, oct, bci, end, operation_named, Address, plain, literal, Field, placed, half, nothing, value, words, form_of, field_for, literal_in}
+use Rattle.fap_model.specs.Statements.{Operation, machine, pze, dec, oct, bci, end, operation_named, Address, plain, literal, Field, placed, half, value, words, form_of, field_for, literal_in}
 use Rattle.fap_model.specs.Places.{Known, nothing_known, value_of, or_zero, size_of, looks_back, fault_with, known_behind, known_after}
 
 abbrev pub operation_in : List ℕ → Option Operation

@@ -1,5 +1,5 @@
 -- claim: what the cards of a program come to, as a listing shows it.
-use Rattle.std.specs.Prelude.{ℕ, zero, suc, Bool, true, false, List, [], ◌∷◌, ◌++◌, map, if◌then◌else◌, Option, Some, None}
+use Rattle.std.specs.Prelude.{ℕ, suc, Bool, true, false, List, [], ◌∷◌, ◌++◌, map, if◌then◌else◌, Option, Some, None}
 use Rattle.std.specs.List.{flat_map}
 use Rattle.fap_model.specs.Cards.{is_comment, field_of, symbol_of}
 use Rattle.fap_model.specs.Terms.{begins_literal, term_of, items_of, signed_texts}

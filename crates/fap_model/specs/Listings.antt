@@ -1,10 +1,10 @@
 -- claim: that a listing shows the deck and the faults of its cards.
-use Rattle.std.specs.Prelude.{◌≡◌, ℕ, ◌≤◌, ◌+◌, ◌++◌, [], ◌∷◌, List, length, Bool, true, false, if◌then◌else◌, nat_eq, Option, Some, map}
+use Rattle.std.specs.Prelude.{◌≡◌, ℕ, ◌≤◌, ◌+◌, ◌++◌, [], ◌∷◌, List, length, if◌then◌else◌, nat_eq, Option, Some, map}
 use Rattle.std.specs.List.{IsDistinct}
-use Rattle.fap_model.specs.Places.{Known, nothing_known}
-use Rattle.fap_model.specs.Decks.{Whole, cards_read, cards_before_end, has_end, whole_of, faults_of, segments_of, add_words}
+use Rattle.fap_model.specs.Places.{Known}
+use Rattle.fap_model.specs.Decks.{Whole, faults_of, segments_of, add_words}
 use Rattle.fap_model.specs.Causes.{FaultCause, cause_of, column_of}
-use Rattle.fap_model.specs.Listed.{CardRow, Listed, SymbolValue, listed, rows_from, faults_shown, laid}
+use Rattle.fap_model.specs.Listed.{SymbolValue, listed, faults_shown, laid}
 use Rattle.fap_model.specs.Statements.{Operation}
 
 -- the faults that the rows show, with the missing END's, are those of the cards

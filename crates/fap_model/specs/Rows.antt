@@ -1,5 +1,5 @@
 -- claim: worked rows: nine cards and their deck, and three cards that are at fault.
-use Rattle.std.specs.Prelude.{◌≡◌, ℕ, List, [], ◌∷◌, ◌++◌, codes}
+use Rattle.std.specs.Prelude.{◌≡◌, ℕ, List, [], ◌∷◌, codes}
 use Rattle.fap_model.specs.Decks.{assembled, deck, faulty}
 
 abbrev pub greeting : List (List ℕ)

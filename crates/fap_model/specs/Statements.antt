@@ -1,9 +1,8 @@
 -- claim: what a card says by itself: its operation and its field.
-use Rattle.std.specs.Prelude.{ℕ, zero, suc, ◌+◌, ◌-◌, ◌*◌, ◌/◌, ◌%◌, ◌^◌, Bool, true, false, not, ◌&&◌, ◌||◌, ◌==◌, nat_eq, nat_lt, nat_le, if◌then◌else◌, List, [], ◌∷◌, ◌++◌, length, get_or, take, drop, replicate, Option, Some, None, bytes_eq, codes}
+use Rattle.std.specs.Prelude.{ℕ, zero, suc, ◌-◌, ◌*◌, ◌&&◌, nat_eq, nat_le, if◌then◌else◌, List, [], ◌∷◌, ◌++◌, length, get_or, take, drop, replicate, Option, Some, None, bytes_eq, codes}
 use Rattle.std.specs.Option.{option_map, option_and_then}
 use Rattle.ctss_types.specs.Words.{name_of}
 use Rattle.opcode_table.specs.Table.{op_with_name, class_of, kind_of}
-use Rattle.opcode_table.specs.declared.op.Op.{Op}
 use Rattle.opcode_table.specs.declared.op.Class.{Class}
 use Rattle.opcode_table.specs.declared.op.Class.TheVariants as class
 use Rattle.opcode_table.specs.declared.op.Kind.{Kind}
@@ -12,7 +11,7 @@ pub use Rattle.fap_model.specs.declared.types.Operation.{Operation}
 pub use Rattle.fap_model.specs.declared.types.Operation.TheVariants.{Machine as machine, Pze as pze, Org as org, Bss as bss, Equ as equ, Dec as dec, Oct as oct, Bci as bci, End as end}
 pub use Rattle.fap_model.specs.declared.types.Form.{Form}
 pub use Rattle.fap_model.specs.declared.types.Form.TheVariants.{Parts as parts, OctalHalf as octal_half, Empty as empty, OneValue as one_value, Decimals as decimals, Octals as octals, Characters as characters}
-use Rattle.fap_model.specs.Cards.{columns, operation_of, field_of}
+use Rattle.fap_model.specs.Cards.{columns, field_of}
 use Rattle.fap_model.specs.Terms.{Signed, expression, decimal_word, octal_number, literal_word, items_of, all_words}
 
 abbrev pub machine_named : List ℕ → Option Operation

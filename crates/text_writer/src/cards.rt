@@ -14,7 +14,7 @@ use word36::Word;
 const WORDS: usize = 5;
 
 /// Adds the last octal digits of a number, so many.
-fn add_digits<K: Sink>(out: &mut TextWriter<'_, K>, count: u8, number: u64)
+pub fn add_digits<K: Sink>(out: &mut TextWriter<'_, K>, count: u8, number: u64)
     ensures { Adds K.Sink (octal_digits count number) out.old out.new }
 {
     if count > 0 {

@@ -1,7 +1,6 @@
-use Rattle.std.proofs.Common.{rules, arith, ◌+◌, ◌∙◌, ◌++◌, ◌∷◌, [], take, drop, sym, ap, refl, List, ℕ}
+use Rattle.std.proofs.Common.{arith, ◌+◌, ◌∙◌, ◌++◌, ◌∷◌, [], take, sym, ap, List, ℕ}
 use Rattle.fap_assemble.specs.Steps.{texts}
-use Rattle.fap_assemble.specs.Judging.{relocated_in, moved_at}
-use Rattle.fap_assemble.specs.ModuleFollows.{moved_by_cards}
+use Rattle.fap_assemble.specs.Judging.{relocated_in}
 use Rattle.fap_assemble.proofs.ModuleFollows.{moved_taken, stands_taken, texts_taken}
 use Rattle.fap_assemble.proofs.CellPasses.{sound_at, sound_rest, cells_rest}
 use Rattle.fap_assemble.proofs.cells.cells_of.Goals as goal

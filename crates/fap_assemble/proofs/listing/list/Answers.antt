@@ -1,4 +1,4 @@
-use Rattle.std.proofs.Common.{ap, refl, sym, ◌∙◌, List, ℕ, nat_lt, length}
+use Rattle.std.proofs.Common.{ap, refl, ◌∙◌, List, ℕ, nat_lt, length}
 use Rattle.fap_model.specs.declared.types.Listed.{Listed}
 use Rattle.fap_model.specs.Listed.{defined_on, used_on, mentions_from, rows_from}
 use Rattle.fap_model.specs.Places.{nothing_known}

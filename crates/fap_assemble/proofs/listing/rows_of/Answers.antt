@@ -1,4 +1,4 @@
-use Rattle.std.proofs.Common.{rules, arith, ◌+◌}
+use Rattle.std.proofs.Common.{rules, arith}
 use Rattle.fap_assemble.specs.Fields.{known_at}
 use Rattle.fap_assemble.specs.Wholes.{whole_in}
 use Rattle.fap_assemble.proofs.Follows.{follows_at, seen_at}

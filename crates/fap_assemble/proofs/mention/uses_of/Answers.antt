@@ -1,4 +1,4 @@
-use Rattle.std.proofs.Common.{rules, arith, ◌+◌, ◌++◌, Option, ap, ◌∙◌}
+use Rattle.std.proofs.Common.{arith, ◌+◌, ◌++◌, Option, ap, ◌∙◌}
 use Rattle.fap_model.specs.Listed.{used_by, used_on}
 use Rattle.fap_model.specs.declared.types.Operation.{Operation}
 use Rattle.fap_assemble.proofs.Mentions.{card_noted}

@@ -1,4 +1,4 @@
-use Rattle.std.proofs.Common.{arith, refl}
+use Rattle.std.proofs.Common.{arith}
 use Rattle.fap_assemble.specs.Steps.{texts}
 use Rattle.fap_assemble.specs.Judging.{relocated_in}
 use Rattle.fap_assemble.proofs.ModuleEnds.{told_is, sound_end, sound_cards, few_externs, module_is}

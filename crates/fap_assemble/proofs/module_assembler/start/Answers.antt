@@ -1,4 +1,4 @@
-use Rattle.std.proofs.Common.{◌∙◌, sym, ap, ◌≡◌, ℕ, List, subst, length, take, take_all, arith}
+use Rattle.std.proofs.Common.{◌∙◌, sym, ap, ℕ, List}
 use Rattle.std.specs.Option.{option_map}
 use Rattle.fap_read.specs.declared.card.Card.{Card}
 use Rattle.fap_model.specs.Statements as says

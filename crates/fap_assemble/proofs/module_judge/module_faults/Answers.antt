@@ -1,11 +1,10 @@
-use Rattle.std.proofs.Common.{rules, arith, ◌+◌, ◌∙◌, ◌++◌, ◌∷◌, [], take, drop, sym, ap, refl, List, ℕ}
-use Rattle.link_model.specs.Moves.{Moved}
+use Rattle.std.proofs.Common.{arith, ◌+◌, ◌∙◌, ◌++◌, ◌∷◌, [], take, sym, ap, refl, List, ℕ}
 use Rattle.fap_assemble.specs.Steps.{texts}
 use Rattle.fap_assemble.specs.Follows.{numbered}
 use Rattle.fap_assemble.specs.Judging.{past_of, relocated_in, moved_at, module_fault_by}
 use Rattle.fap_assemble.specs.ModuleFollows.{moved_by_cards}
-use Rattle.fap_assemble.proofs.Judging.{past_next, fault_same, past_entries, past_entry_cards, past_externs, past_extern_cards}
-use Rattle.fap_assemble.proofs.ModuleFollows.{seen_moved, faults_rest, moved_taken, stands_taken, texts_taken, fault_here}
+use Rattle.fap_assemble.proofs.Judging.{past_next, past_entries, past_entry_cards, past_externs, past_extern_cards}
+use Rattle.fap_assemble.proofs.ModuleFollows.{faults_rest, moved_taken, stands_taken, texts_taken, fault_here}
 use Rattle.fap_assemble.proofs.module_judge.module_faults.Goals as goal
 
 pub with-requires-clause-entries : goal.with-requires-clause-entries

@@ -1,4 +1,4 @@
-use Rattle.std.proofs.Common.{refl, ap, ◌∙◌, ℕ, Option}
+use Rattle.std.proofs.Common.{refl, ap, ◌∙◌, Option}
 use Rattle.fap_model.specs.declared.types.Operation.{Operation}
 use Rattle.link_model.specs.Moves.{moved_size, worth}
 use Rattle.fap_assemble.specs.Moving.{moves_in}

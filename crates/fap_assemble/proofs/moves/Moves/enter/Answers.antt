@@ -1,4 +1,4 @@
-use Rattle.std.proofs.Common.{rules, arith, ◌∙◌, ◌+◌, max}
+use Rattle.std.proofs.Common.{rules, arith, ◌∙◌}
 use Rattle.fap_assemble.specs.Moving.{moves_in}
 use Rattle.fap_assemble.proofs.Moving.{taken_is}
 use Rattle.fap_assemble.proofs.moves.Moves.enter.Goals as goal

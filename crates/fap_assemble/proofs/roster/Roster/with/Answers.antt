@@ -1,4 +1,3 @@
-use Rattle.std.proofs.Common.{rules, ◌++◌, ◌∷◌, []}
 use Rattle.fap_assemble.proofs.Rosters.{numbers_grown}
 use Rattle.fap_assemble.proofs.roster.Roster.with.Goals as goal
 

@@ -1,0 +1,16 @@
+//! The listing of a program: FAP cards come in, and each goes out with its place, its words and its faults, and behind them the
+//! literals, the symbols and the figures.
+//!
+//! The definitions stand in fap_model `Listed` and `Causes`, and here in `specs/`: `Words` and `Faults` (what is shown of a
+//! card), `Listing` (the whole text), `Answer` (what the program answers).
+#![tactic(auto)]
+
+mod answer;
+mod card;
+mod fault;
+mod listing;
+mod symbol;
+mod word;
+
+pub use answer::{ListCards, write_listing};
+pub use script_show::run;

@@ -4,8 +4,7 @@ use Rattle.std.specs.List.{flat_map}
 use Rattle.std.specs.Fmt.{decimal}
 use Rattle.word36.specs.Octal.{octal_digits}
 use Rattle.bcd48.specs.Words.{characters_of}
-use Rattle.text_model.specs.Parts.{line, number}
-use Rattle.picture_model.specs.Columns.{column}
+use Rattle.text_model.specs.Parts.{line, number, column}
 use Rattle.fap_model.specs.declared.types.CardRow.{CardRow}
 use Rattle.fap_model.specs.declared.types.SymbolValue.{SymbolValue}
 use Rattle.fap_model.specs.declared.types.Mention.{Mention}

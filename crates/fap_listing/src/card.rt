@@ -8,12 +8,12 @@ ghost use Rattle.fap_listing.specs.Rows.{shown_bytes};
 ghost use Rattle.text_writer.specs.Writing.{Adds};
 
 use crate::fault::{add_fault, add_looks};
-use crate::word::{add_blanks, add_first_word, add_place, add_word_lines, next_place, split_of};
+use crate::word::{add_gap, add_first_word, add_place, add_word_lines, next_place, split_of};
 use ctss_io::Sink;
 use fap_model::{CardRow, Operation};
 use fap_read::{Card, is_comment, operation};
-use schedule_figures::add_column;
 use text_writer::TextWriter;
+use text_writer::columns::add_column;
 use word36::Word;
 
 /// The operation of a card that isn't a comment.
@@ -61,11 +61,11 @@ fn add_card<K: Sink>(out: &mut TextWriter<'_, K>, number: u64, row: &CardRow, te
 {
     let op = operation_in(text);
     add_column(out, 4, number);
-    add_blanks(out, 2);
+    add_gap(out, 2);
     add_place(out, op, row.place);
-    add_blanks(out, 2);
+    add_gap(out, 2);
     add_first_word(out, split_of(op), row.words.as_slice());
-    add_blanks(out, 2);
+    add_gap(out, 2);
     add_text(out, text);
     out.end_line();
 }

@@ -4,12 +4,12 @@ ghost use Rattle.std.specs.List.{list_all, prefix_len};
 ghost use Rattle.fap_listing.specs.Faults.{at_column, dark_column, early_column, fault_lines, field_wanted, form_wanted, is_blank, is_early, is_numbered, is_numeral, late_column, look_lines, looks, mark, part, wanted};
 ghost use Rattle.text_writer.specs.Writing.{Adds};
 
-use crate::word::add_blanks;
+use crate::word::add_gap;
 use ctss_io::Sink;
 use fap_model::{FaultCause, Form, Operation};
 use fap_read::{form, is_comment, operation_columns};
-use schedule_figures::add_number;
 use text_writer::TextWriter;
+use text_writer::columns::add_number;
 
 /// What a form wants.
 fn form_wanted(form: Form) -> &'static [u8]
@@ -86,7 +86,7 @@ fn wanted(op: Option<Operation>, cause: FaultCause) -> &'static [u8]
 fn add_mark<K: Sink>(out: &mut TextWriter<'_, K>, column: u8)
     ensures { Adds K.Sink (mark column) out.old out.new }
 {
-    add_blanks(out, 29 + u16::from(column));
+    add_gap(out, 29 + u16::from(column));
     out.add(b"^");
     out.end_line();
 }
@@ -113,7 +113,7 @@ pub(crate) fn add_fault<K: Sink>(
 {
     if let Some(cause) = cause {
         add_mark(out, column);
-        add_blanks(out, 30);
+        add_gap(out, 30);
         out.add(b"FAULT ");
         add_number(out, cause.number());
         add_at_column(out, column, wanted(op, cause));
@@ -205,7 +205,7 @@ fn add_look<K: Sink>(out: &mut TextWriter<'_, K>, column: u8, text: &[u8])
 {
     if column != 0 {
         add_mark(out, column);
-        add_blanks(out, 30);
+        add_gap(out, 30);
         out.add(b"LOOK");
         add_at_column(out, column, text);
         out.end_line();

@@ -7,12 +7,12 @@ ghost use Rattle.text_writer.specs.Writing.{Adds};
 
 use crate::card::add_rows;
 use crate::symbol::{add_literals, add_symbols};
-use crate::word::add_blanks;
+use crate::word::add_gap;
 use ctss_io::Sink;
 use fap_model::{CardRow, Listed};
 use fap_read::Card;
-use schedule_figures::add_number;
 use text_writer::cards::add_digits;
+use text_writer::columns::add_number;
 use text_writer::{Text, TextWriter};
 
 /// How many rows are at fault.
@@ -88,7 +88,7 @@ fn add_end<K: Sink>(out: &mut TextWriter<'_, K>, has_end: bool, count: usize)
     ensures { Adds K.Sink (end_text has_end count) out.old out.new }
 {
     if !has_end {
-        add_blanks(out, 30);
+        add_gap(out, 30);
         out.add(b"CARD ");
         add_number(out, count + 1);
         out.line(b" FAULT 6: THERE IS NO END");

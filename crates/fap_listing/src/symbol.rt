@@ -4,11 +4,11 @@ ghost use Rattle.std.specs.List.{flat_map};
 ghost use Rattle.fap_listing.specs.Listing.{literals_text, mention_number, mention_numbers, symbol_line, symbols_text};
 ghost use Rattle.text_writer.specs.Writing.{Adds};
 
-use crate::word::{Split, add_blanks, add_word_lines};
+use crate::word::{Split, add_gap, add_word_lines};
 use ctss_io::Sink;
 use fap_model::{Mention, SymbolValue};
-use schedule_figures::add_characters;
 use text_writer::TextWriter;
+use text_writer::columns::add_characters;
 use text_writer::cards::add_digits;
 use word36::Word;
 
@@ -41,7 +41,7 @@ fn add_symbol<K: Sink>(
     ensures { Adds K.Sink (symbol_line definitions.now uses.now symbol.now) out.old out.new }
 {
     add_characters(out, symbol.name);
-    add_blanks(out, 2);
+    add_gap(out, 2);
     add_digits(out, 5, u64::from(symbol.value));
     out.add(b"  CARD");
     add_mentions(out, symbol.name, definitions);
@@ -87,7 +87,7 @@ pub(crate) fn add_literals<K: Sink>(out: &mut TextWriter<'_, K>, place: u64, lit
     ensures { Adds K.Sink (literals_text place literals.now) out.old out.new }
 {
     if let [_, ..] = literals {
-        add_blanks(out, 30);
+        add_gap(out, 30);
         out.line(b"LITERALS");
         add_word_lines(out, Split::Data, place, literals);
     }

@@ -25,7 +25,7 @@ pub(crate) enum Split {
 }
 
 /// Adds so many blanks.
-pub(crate) fn add_blanks<K: Sink>(out: &mut TextWriter<'_, K>, count: u16)
+pub(crate) fn add_gap<K: Sink>(out: &mut TextWriter<'_, K>, count: u16)
     requires { count ≤ 284 }
     ensures { Adds K.Sink (blanks count) out.old out.new }
 {
@@ -62,18 +62,18 @@ pub(crate) fn add_word<K: Sink>(out: &mut TextWriter<'_, K>, split: Split, word:
     match split {
         Split::Prefixed => {
             add_digits(out, 1, bits / 0o100000000000);
-            add_blanks(out, 1);
+            add_gap(out, 1);
             add_digits(out, 5, bits / 0o1000000);
-            add_blanks(out, 1);
+            add_gap(out, 1);
             add_digits(out, 1, bits / 0o100000);
-            add_blanks(out, 1);
+            add_gap(out, 1);
             add_digits(out, 5, bits);
         }
         Split::Addressed => {
             add_digits(out, 5, bits / 0o10000000);
-            add_blanks(out, 1);
+            add_gap(out, 1);
             add_digits(out, 2, bits / 0o100000);
-            add_blanks(out, 1);
+            add_gap(out, 1);
             add_digits(out, 5, bits);
         }
         Split::Data => add_digits(out, 12, bits),
@@ -97,10 +97,10 @@ pub(crate) fn add_first_word<K: Sink>(out: &mut TextWriter<'_, K>, split: Split,
     ensures { Adds K.Sink (first_word split words.now) out.old out.new }
 {
     match words {
-        [] => add_blanks(out, 15),
+        [] => add_gap(out, 15),
         [word, ..] => {
             add_word(out, split, *word);
-            add_blanks(out, gap(split));
+            add_gap(out, gap(split));
         }
     }
 }
@@ -109,9 +109,9 @@ pub(crate) fn add_first_word<K: Sink>(out: &mut TextWriter<'_, K>, split: Split,
 fn add_word_line<K: Sink>(out: &mut TextWriter<'_, K>, split: Split, place: u64, word: Word)
     ensures { Adds K.Sink (word_line split place word) out.old out.new }
 {
-    add_blanks(out, 6);
+    add_gap(out, 6);
     add_digits(out, 5, place);
-    add_blanks(out, 2);
+    add_gap(out, 2);
     add_word(out, split, word);
     out.end_line();
 }
@@ -156,6 +156,6 @@ pub(crate) fn add_place<K: Sink>(out: &mut TextWriter<'_, K>, op: Option<Operati
     if has_place(op) {
         add_digits(out, 5, place);
     } else {
-        add_blanks(out, 5);
+        add_gap(out, 5);
     }
 }

@@ -7,9 +7,8 @@ use Rattle.ctss_types.specs.declared.script.Script.{Script}
 use Rattle.ctss_types.specs.declared.script.Account.{Account}
 use Rattle.ctss_types.specs.declared.history.Record.{Record}
 use Rattle.ctss_types.specs.declared.history.Entry.{Entry}
-use Rattle.text_model.specs.Parts.{line}
+use Rattle.text_model.specs.Parts.{line, column}
 use Rattle.picture_model.specs.declared.request.Track.TheVariants.{Fresh}
-use Rattle.picture_model.specs.Columns.{column}
 use Rattle.picture_model.specs.FigureLines.{all_levels, time_line}
 use Rattle.picture_model.specs.Folds.{places_in, tick_at}
 use Rattle.picture_model.specs.Marks.{served_row, event_row, level_row, cells}

@@ -1,15 +1,8 @@
--- claim: texts and numbers in columns.
-use Rattle.std.specs.Prelude.{ℕ, zero, suc, ◌-◌, ◌*◌, ◌/◌, ◌%◌, List, ◌∷◌, ◌++◌, length, replicate, sum, codes}
+-- claim: means in columns.
+use Rattle.std.specs.Prelude.{ℕ, zero, suc, ◌*◌, ◌/◌, ◌%◌, List, ◌∷◌, ◌++◌, length, sum, codes}
 use Rattle.std.specs.Fmt.{decimal}
+use Rattle.text_model.specs.Parts.{in_places, column}
 use Rattle.picture_model.specs.Figures.{greatest}
-
--- a text right in so many places; a longer one stands whole
-abbrev pub in_places : ℕ → List ℕ → List ℕ
-in_places places text = replicate (places - length text) 32 ++ text
-
--- a number right in so many places
-abbrev pub column : ℕ → ℕ → List ℕ
-column places n = in_places places (decimal n)
 
 -- a number of tenths
 abbrev pub tenths : ℕ → List ℕ

@@ -5,8 +5,7 @@ use Rattle.ctss_types.specs.declared.script.Script.{Script}
 use Rattle.ctss_types.specs.declared.history.Record.{Record}
 use Rattle.ctss_types.specs.declared.history.Entry.{Entry}
 use Rattle.ctss_types.specs.declared.history.Entry.TheVariants.{Swap}
-use Rattle.text_model.specs.Parts.{line}
-use Rattle.picture_model.specs.Columns.{column}
+use Rattle.text_model.specs.Parts.{line, column}
 use Rattle.picture_model.specs.Chart.{chart_of}
 use Rattle.picture_model.specs.Cores.{owners_in}
 use Rattle.picture_model.specs.CorePanel.{begins_at, stretch_from, first_owners, owners_after}

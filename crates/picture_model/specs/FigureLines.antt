@@ -13,7 +13,8 @@ use Rattle.ctss_types.specs.declared.history.Entry.{Entry}
 use Rattle.record_laws.specs.Spans.{served_in, swapping_in, idle_in}
 use Rattle.picture_model.specs.Requests.{visits}
 use Rattle.picture_model.specs.Figures.{line_of, service_of, served_of, load_of, dumped_of, read_of, total, highest_level, wait_of, responses, turnarounds, service_at, ticks_at}
-use Rattle.picture_model.specs.Columns.{in_places, column, mean_columns}
+use Rattle.text_model.specs.Parts.{in_places, column}
+use Rattle.picture_model.specs.Columns.{mean_columns}
 
 abbrev pub user_head : List ℕ
 user_head =

@@ -4,12 +4,12 @@ use Rattle.ctss_types.specs.declared.history.Cause.TheVariants as cause
 use Rattle.ctss_types.specs.declared.history.EventKind.TheVariants as kind
 use Rattle.ctss_types.specs.declared.history.Entry.{Entry}
 use Rattle.ctss_types.specs.declared.history.Entry.TheVariants.{Taken, Idle, Swap, Serve}
-use Rattle.text_model.specs.Parts.{line}
+use Rattle.text_model.specs.Parts.{line, column}
 use Rattle.picture_model.specs.declared.request.Track.TheVariants.{Fresh}
 use Rattle.picture_model.specs.declared.request.Visit.{Visit}
 use Rattle.picture_model.specs.Requests.{visits}
 use Rattle.picture_model.specs.Figures.{wait_of, responses, turnarounds, total, line_of, served_of, highest_level, ticks_at}
-use Rattle.picture_model.specs.Columns.{mean, column}
+use Rattle.picture_model.specs.Columns.{mean}
 use Rattle.picture_model.specs.Folds.{all_cut, tick_at}
 use Rattle.picture_model.specs.Marks.{cells, served_row, event_row, level_row}
 use Rattle.picture_model.specs.Chart.{places_each, column_count}

@@ -13,8 +13,9 @@ use crate::ruler::add_ruler;
 use crate::users::add_users;
 use ctss_io::Sink;
 use ctss_types::{Record, Script};
-use schedule_figures::{add_number, add_time_line};
+use schedule_figures::add_time_line;
 use text_writer::TextWriter;
+use text_writer::columns::add_number;
 
 /// How the rows are read, behind the ticks of a column.
 const HOW_READ: &[u8] =

@@ -8,8 +8,8 @@ ghost use Rattle.text_writer.specs.Writing.{Adds};
 use crate::owners::{begins_at, maps_after, owner_at, stretch_from};
 use ctss_io::Sink;
 use ctss_types::Entry;
-use schedule_figures::{add_column, add_number};
 use text_writer::TextWriter;
+use text_writer::columns::{add_column, add_number};
 
 /// A load: when it began, whose it was, and how many blocks were dumped, read and cleared for it.
 #[derive(Clone, Copy)]

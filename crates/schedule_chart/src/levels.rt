@@ -7,8 +7,8 @@ use crate::columns::Columns;
 use crate::rows::add_level_row;
 use ctss_io::Sink;
 use ctss_types::Entry;
-use schedule_figures::add_number;
 use text_writer::TextWriter;
+use text_writer::columns::add_number;
 
 /// Adds the line of a level.
 fn add_level<K: Sink>(out: &mut TextWriter<'_, K>, columns: Columns, entries: &[Entry], level: u8)

@@ -4,8 +4,8 @@ ghost use Rattle.text_writer.specs.Writing.{Adds};
 
 use ctss_io::Sink;
 use itoa::Buffer;
-use schedule_figures::add_blanks;
 use text_writer::TextWriter;
+use text_writer::columns::add_blanks;
 
 /// Adds a number left in 10 places; a longer one stands whole.
 pub fn add_left<K: Sink>(out: &mut TextWriter<'_, K>, n: u128)

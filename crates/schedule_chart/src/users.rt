@@ -6,8 +6,8 @@ use crate::columns::Columns;
 use crate::rows::{add_event_row, add_served_row};
 use ctss_io::Sink;
 use ctss_types::{Account, Entry};
-use schedule_figures::{add_characters, add_column};
 use text_writer::TextWriter;
+use text_writer::columns::{add_characters, add_column};
 
 /// Adds the two rows of a user: what came to it, and how it waited and was served.
 fn add_user<K: Sink>(

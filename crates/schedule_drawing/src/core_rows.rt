@@ -12,8 +12,8 @@ use crate::stretch::{Span, add_places};
 use ctss_io::Sink;
 use ctss_types::Entry;
 use schedule_chart::{cut_of, maps_after, place_of};
-use schedule_figures::add_number;
 use text_writer::TextWriter;
+use text_writer::columns::add_number;
 
 /// How many blocks were dumped, read and cleared for a load.
 #[derive(Clone, Copy)]

@@ -17,8 +17,9 @@ use crate::wait::add_users;
 use ctss_io::Sink;
 use ctss_types::{Account, Entry, Record, Script};
 use schedule_chart::places_in;
-use schedule_figures::{add_figures, add_number, add_time_line};
+use schedule_figures::{add_figures, add_time_line};
 use text_writer::TextWriter;
+use text_writer::columns::add_number;
 
 /// Adds the first lines of a picture of so many places.
 fn begin_sheet<K: Sink>(out: &mut TextWriter<'_, K>, sheet: Sheet, places: u64)

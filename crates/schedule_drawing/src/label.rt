@@ -8,8 +8,8 @@ use crate::shape::{Point, add_number_at, begin_text};
 use crate::sheet::Sheet;
 use ctss_io::Sink;
 use ctss_types::Cause;
-use schedule_figures::add_number;
 use text_writer::TextWriter;
+use text_writer::columns::add_number;
 
 /// The letter of why a service ended.
 pub(crate) fn cause_letter(cause: Cause) -> u8

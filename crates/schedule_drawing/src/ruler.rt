@@ -9,8 +9,8 @@ use crate::sheet::Sheet;
 use ctss_io::Sink;
 use ctss_types::Entry;
 use schedule_chart::tick_at;
-use schedule_figures::add_number;
 use text_writer::TextWriter;
+use text_writer::columns::add_number;
 
 /// Adds a line across all rows at a place, and the tick there.
 fn add_mark<K: Sink>(out: &mut TextWriter<'_, K>, sheet: Sheet, place: u64, entries: &[Entry])

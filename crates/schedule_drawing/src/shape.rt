@@ -7,8 +7,8 @@ use ctss_io::Sink;
 use ctss_types::Entry;
 use itoa::Integer;
 use report_text::add_entry;
-use schedule_figures::add_number;
 use text_writer::TextWriter;
+use text_writer::columns::add_number;
 
 /// Where a rectangle lies: its upper left corner, and how wide and how high it is.
 #[derive(Clone, Copy)]

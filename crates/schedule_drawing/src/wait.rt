@@ -12,8 +12,8 @@ use ctss_io::Sink;
 use ctss_types::{Account, Entry};
 use picture_model::Track;
 use schedule_chart::{cut_of, place_of};
-use schedule_figures::{add_characters, add_number};
 use text_writer::TextWriter;
+use text_writer::columns::{add_characters, add_number};
 
 /// Adds a time in a queue, from one tick to another, if there is any.
 #[tactic(auto, using(text_writer::proofs::Added::adds_none))]

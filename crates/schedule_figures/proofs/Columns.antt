@@ -3,7 +3,8 @@ use Rattle.std.specs.Prelude.{codes}
 use Rattle.std.proofs.Common.{◌≡◌, ℕ, zero, suc, ◌+◌, ◌-◌, ◌*◌, ◌/◌, ◌%◌, ◌<◌, ◌^◌, List, [], ◌∷◌, ◌++◌, length, replicate, refl, sym, ap, ◌∙◌, arith, length-append}
 use Rattle.std.specs.Fmt.{decimal}
 use Rattle.std.proofs.lemmas.Fmt.{decimal_digit, decimal_step_wide}
-use Rattle.picture_model.specs.Columns.{in_places, tenths, mean}
+use Rattle.text_model.specs.Parts.{in_places}
+use Rattle.picture_model.specs.Columns.{tenths, mean}
 
 -- a whole number, a point and a digit, behind so many blanks
 pub tenths_placed : (n k : ℕ) (whole tenth : List ℕ) → whole ≡ decimal (n / 10) → tenth ≡ decimal (n % 10) → k ≡ 10 - (length whole + 1 + length tenth)

@@ -5,7 +5,7 @@ use Rattle.picture_model.specs.Figures.{highest_level, level_of, load_of, dumped
 use Rattle.schedule_figures.specs.Lines.{load_columns}
 use Rattle.schedule_figures.specs.Work.{top, IsWork}
 use Rattle.schedule_figures.specs.declared.work.Work.{Work}
-use Rattle.picture_model.specs.Columns.{column}
+use Rattle.text_model.specs.Parts.{column}
 
 -- what is left from the element before a place on is that element and what is left from the place on
 pub entry_dropped : {X : Type 0} (xs : List X) (n : ℕ) (x : X) → 0 < n → n ≤ length xs → x ≡ get_or xs (n - 1) x → drop (n - 1) xs ≡ x ∷ drop n xs

@@ -2,7 +2,7 @@
 use Rattle.std.specs.Prelude.{ℕ, List}
 use Rattle.ctss_types.specs.declared.history.Cause.{Cause}
 use Rattle.ctss_types.specs.declared.history.Entry.{Entry}
-use Rattle.picture_model.specs.Columns.{column}
+use Rattle.text_model.specs.Parts.{column}
 use Rattle.picture_model.specs.Figures.{service_at, ticks_at, total}
 use Rattle.picture_model.specs.FigureLines.{between, level_services, level_ticks}
 

@@ -3,7 +3,8 @@ use Rattle.std.specs.Prelude.{ℕ, List, ◌++◌, sum, map}
 use Rattle.ctss_types.specs.declared.history.Entry.{Entry}
 use Rattle.picture_model.specs.Requests.{visits}
 use Rattle.picture_model.specs.Figures.{line_of, service_of, served_of, load_of, dumped_of, read_of, total, highest_level, wait_of, responses, turnarounds}
-use Rattle.picture_model.specs.Columns.{column, mean_columns}
+use Rattle.text_model.specs.Parts.{column}
+use Rattle.picture_model.specs.Columns.{mean_columns}
 use Rattle.schedule_figures.specs.declared.work.Work.{Work}
 
 -- the highest level, loads and blocks

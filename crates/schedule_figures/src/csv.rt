@@ -6,11 +6,11 @@ ghost use Rattle.text_model.specs.Parts.{line};
 ghost use Rattle.picture_model.specs.Csv.{comma, csv_of, csv_row};
 ghost use Rattle.text_writer.specs.Writing.{Adds};
 
-use crate::column::add_number;
 use ctss_io::Sink;
 use ctss_types::{Cause, Entry, Record, Script};
 use itoa::Integer;
 use text_writer::TextWriter;
+use text_writer::columns::add_number;
 
 /// The blocks that a load dumped, read and cleared.
 #[derive(Clone, Copy)]

@@ -6,10 +6,10 @@ ghost use Rattle.picture_model.specs.FigureLines.{level_services, level_ticks};
 ghost use Rattle.schedule_figures.specs.Levels.{service_line, services_column, tick_line, ticks_column};
 ghost use Rattle.text_writer.specs.Writing.{Adds};
 
-use crate::column::add_column;
 use ctss_io::Sink;
 use ctss_types::{Cause, Entry};
 use text_writer::TextWriter;
+use text_writer::columns::add_column;
 
 /// What stands over the levels' lines.
 pub(crate) const HEAD: &[u8] =

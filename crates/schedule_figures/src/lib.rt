@@ -13,7 +13,6 @@ mod time;
 mod users;
 mod work;
 
-pub use column::{add_blanks, add_characters, add_column, add_number};
 pub use csv::add_csv;
 use ctss_io::Sink;
 use ctss_types::{Record, Script};

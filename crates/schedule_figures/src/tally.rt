@@ -4,9 +4,10 @@ ghost use Rattle.picture_model.specs.Columns.{mean_columns};
 ghost use Rattle.schedule_figures.specs.Tallies.{IsTally, IsTallyOfFew};
 ghost use Rattle.text_writer.specs.Writing.{Adds};
 
-use crate::column::{add_column, add_mean};
+use crate::column::add_mean;
 use ctss_io::Sink;
 use text_writer::TextWriter;
+use text_writer::columns::add_column;
 
 /// What a line of figures says of some numbers.
 #[derive(Clone, Copy)]

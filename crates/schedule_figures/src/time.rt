@@ -6,10 +6,10 @@ ghost use Rattle.picture_model.specs.FigureLines.{time_line};
 ghost use Rattle.schedule_figures.specs.Time.{idle_of, moved_of, served_of};
 ghost use Rattle.text_writer.specs.Writing.{Adds};
 
-use crate::column::add_number;
 use ctss_io::Sink;
 use ctss_types::{Entry, Record};
 use text_writer::TextWriter;
+use text_writer::columns::add_number;
 
 /// The ticks of a service.
 fn served_of(entry: &Entry) -> u64

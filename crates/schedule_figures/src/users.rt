@@ -3,12 +3,12 @@ ghost use Rattle.picture_model.specs.FigureLines.{user_line, user_lines};
 ghost use Rattle.schedule_figures.specs.Lines.{figure_columns, load_columns};
 ghost use Rattle.text_writer.specs.Writing.{Adds};
 
-use crate::column::{add_characters, add_column};
 use crate::requests::requests_of;
 use crate::work::{Work, work_of};
 use ctss_io::Sink;
 use ctss_types::{Account, Entry};
 use text_writer::TextWriter;
+use text_writer::columns::{add_characters, add_column};
 
 /// What stands over the users' lines.
 pub(crate) const HEAD: &[u8] =

@@ -3,6 +3,7 @@
 #![tactic(auto)]
 
 pub mod cards;
+pub mod columns;
 mod digits;
 mod parts;
 mod piece;

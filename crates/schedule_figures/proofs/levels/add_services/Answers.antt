@@ -1,5 +1,5 @@
 use Rattle.std.proofs.Common.{ap}
-use Rattle.picture_model.specs.Columns.{column}
+use Rattle.text_model.specs.Parts.{column}
 use Rattle.schedule_figures.specs.Levels.{services_column}
 use Rattle.text_writer.proofs.Added.{adds_is, adds_none, adds_next, adds_all}
 use Rattle.schedule_figures.proofs.levels.add_services.Goals as goal

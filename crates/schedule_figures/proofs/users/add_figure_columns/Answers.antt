@@ -1,5 +1,5 @@
 use Rattle.std.proofs.Common.{ap}
-use Rattle.picture_model.specs.Columns.{column}
+use Rattle.text_model.specs.Parts.{column}
 use Rattle.picture_model.specs.Figures.{responses, turnarounds}
 use Rattle.picture_model.specs.Requests.{visits}
 use Rattle.text_writer.proofs.Added.{◌⨾◌, adds_is}

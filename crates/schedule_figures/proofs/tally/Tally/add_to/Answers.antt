@@ -1,5 +1,6 @@
 use Rattle.std.proofs.Common.{ℕ, ap, ◌∙◌, length}
-use Rattle.picture_model.specs.Columns.{in_places, column, mean}
+use Rattle.text_model.specs.Parts.{in_places, column}
+use Rattle.picture_model.specs.Columns.{mean}
 use Rattle.text_writer.proofs.Added.{◌⨾◌, adds_is}
 use Rattle.schedule_figures.proofs.tally.Tally.add_to.Goals as goal
 

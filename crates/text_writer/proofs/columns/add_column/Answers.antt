@@ -1,7 +1,7 @@
 use Rattle.std.proofs.Common.{ap, ◌∙◌}
-use Rattle.picture_model.specs.Columns.{in_places}
+use Rattle.text_model.specs.Parts.{in_places}
 use Rattle.text_writer.proofs.Added.{adds_is}
-use Rattle.schedule_figures.proofs.column.add_column.Goals as goal
+use Rattle.text_writer.proofs.columns.add_column.Goals as goal
 
 pub returns : goal.returns
 returns g c = adds_is (ap (in_places c.args.places) (c.as_bytes.ensures.value ∙ c.format.ensures.text)) c.add_in_places.ensures

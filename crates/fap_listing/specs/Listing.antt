@@ -1,5 +1,5 @@
 -- claim: the listing of a program: its cards with their places, words and faults, and then its literals, its symbols and its figures.
-use Rattle.std.specs.Prelude.{ℕ, zero, suc, ◌+◌, Bool, ◌&&◌, nat_eq, nat_le, is_some, if◌then◌else◌, List, [], ◌∷◌, ◌++◌, length, map, drop, sum, count_by, Option, Some, None, codes}
+use Rattle.std.specs.Prelude.{ℕ, ◌+◌, Bool, ◌&&◌, nat_eq, nat_le, is_some, if◌then◌else◌, List, [], ◌∷◌, ◌++◌, length, map, drop, count_by, codes}
 use Rattle.std.specs.List.{flat_map}
 use Rattle.std.specs.Fmt.{decimal}
 use Rattle.word36.specs.Octal.{octal_digits}
@@ -78,8 +78,12 @@ row_faults rows = count_by (λ (row : CardRow). is_some row.cause) rows
 abbrev pub fault_count : Listed → ℕ
 fault_count l = row_faults l.rows + (if l.has_end then 0 else 1)
 
+abbrev pub row_words : List CardRow → ℕ
+row_words [] = 0
+row_words (row ∷ rows) = length row.words + row_words rows
+
 abbrev pub word_count : Listed → ℕ
-word_count l = sum (map (λ (row : CardRow). length row.words) l.rows) + length l.literals
+word_count l = row_words l.rows + length l.literals
 
 abbrev pub deck_figures : Listed → List ℕ
 deck_figures l =
@@ -87,10 +91,12 @@ deck_figures l =
     ++ (codes "   LITERALS " ++ (decimal (length l.literals) ++ codes "   ")))))))
 
 -- start, blocks and words are told of a program without a fault
+abbrev pub first_figures : Listed → List ℕ
+first_figures l = if nat_eq (fault_count l) 0 then deck_figures l else []
+
 abbrev pub figures_line : Listed → List ℕ
 figures_line l =
-    line ((if nat_eq (fault_count l) 0 then deck_figures l else [])
-    ++ (codes "CARDS " ++ (decimal (length l.rows) ++ (codes "   FAULTS " ++ decimal (fault_count l)))))
+    line (first_figures l ++ (codes "CARDS " ++ (decimal (length l.rows) ++ (codes "   FAULTS " ++ decimal (fault_count l)))))
 
 -- the listing of cards that come to this
 unfoldable pub listing_text : Listed → List (List ℕ) → List ℕ

@@ -6,7 +6,7 @@ use Rattle.opcode_table.specs.declared.op.Class.{Class}
 use Rattle.opcode_table.specs.declared.op.Class.TheVariants as class
 use Rattle.text_model.specs.Parts.{line}
 use Rattle.fap_model.specs.declared.types.Operation.{Operation}
-use Rattle.fap_model.specs.declared.types.Operation.TheVariants.{Machine as machine, Pze as pze, Org as org, Bss as bss, Equ as equ, Dec as dec, Oct as oct, Bci as bci, End as end}
+use Rattle.fap_model.specs.declared.types.Operation.TheVariants.{Machine as machine, Pze as pze, Org as org, Equ as equ}
 use Rattle.fap_listing.specs.declared.word.Split.{Split}
 use Rattle.fap_listing.specs.declared.word.Split.TheVariants.{Prefixed, Addressed, Data}
 

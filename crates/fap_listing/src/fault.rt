@@ -1,6 +1,7 @@
 //! Cards at fault, and what stands on a card and isn't read.
-ghost use Rattle.std.specs.Prelude.{◌≡◌, ◌≤◌, ◌+◌, length};
+ghost use Rattle.std.specs.Prelude.{◌≡◌, ◌≤◌, ◌+◌, drop, length};
 ghost use Rattle.std.specs.List.{list_all, prefix_len};
+ghost use Rattle.fap_model.specs.declared.types.FaultCause.TheVariants.{Undefined};
 ghost use Rattle.fap_listing.specs.Faults.{at_column, dark_column, early_column, fault_lines, field_wanted, form_wanted, is_blank, is_early, is_numbered, is_numeral, late_column, look_lines, looks, mark, part, wanted};
 ghost use Rattle.text_writer.specs.Writing.{Adds};
 
@@ -149,12 +150,19 @@ fn dark_column(from: u8, text: &[u8]) -> u8
     }
 }
 
+/// A card's columns behind the first.
+fn behind(text: &[u8], count: usize) -> &[u8]
+    ensures { result.now ≡ drop count text.now }
+{
+    text.split_at(count.min(text.len())).1
+}
+
 /// So many of a card's columns behind others.
-fn part(text: &[u8], behind: usize, count: usize) -> &[u8]
-    ensures value { result.now ≡ part behind count text.now }
+fn part(text: &[u8], before: usize, count: usize) -> &[u8]
+    ensures value { result.now ≡ part before count text.now }
     ensures few { length result.now ≤ count }
 {
-    let rest = text.split_at(behind.min(text.len())).1;
+    let rest = behind(text, before);
     rest.split_at(count.min(rest.len())).0
 }
 
@@ -184,7 +192,7 @@ fn is_number(text: &[u8]) -> bool
 fn is_numbered(text: &[u8]) -> bool
     ensures { result ≡ is_numbered text.now }
 {
-    is_number(text.split_at(text.len().min(72)).1) && is_blank_text(part(text, 71, 1))
+    is_number(behind(text, 72)) && is_blank_text(part(text, 71, 1))
 }
 
 /// The column of what stands behind column 72.

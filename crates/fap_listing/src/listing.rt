@@ -1,8 +1,7 @@
 //! The listing as a text.
-ghost use Rattle.std.specs.Prelude.{◌≡◌, ◌+◌, ◌*◌, ◌^◌, ◌<◌, ◌≤◌, is_some, length, map, sum, count_by};
+ghost use Rattle.std.specs.Prelude.{◌≡◌, ◌*◌, ◌^◌, ◌<◌, ◌≤◌, length};
 ghost use Rattle.fap_assemble.specs.Steps.{texts};
-ghost use Rattle.fap_model.specs.declared.types.CardRow.{CardRow as Row};
-ghost use Rattle.fap_listing.specs.Listing.{deck_figures, end_text, fault_count, figures_line, listing_text, row_faults, word_count};
+ghost use Rattle.fap_listing.specs.Listing.{deck_figures, end_text, fault_count, figures_line, first_figures, listing_text, row_faults, row_words, word_count};
 ghost use Rattle.text_writer.specs.Writing.{Adds};
 
 use crate::card::add_rows;
@@ -33,7 +32,7 @@ pub(crate) fn fault_count(listed: &Listed) -> usize
 
 /// How many words rows have.
 fn row_words(rows: &[CardRow]) -> u128
-    ensures value { result ≡ sum (map (λ (row : Row). length row.words) rows.now) }
+    ensures value { result ≡ row_words rows.now }
     ensures within { result ≤ 2 ^ 64 * length rows.now }
 {
     let mut words = 0;
@@ -65,15 +64,23 @@ fn add_deck_figures<K: Sink>(out: &mut TextWriter<'_, K>, listed: &Listed)
     out.add(b"   ");
 }
 
-/// Adds the figures.
+/// Adds the same, if there is no fault.
 #[tactic(auto, using(text_writer::proofs::Added::adds_none))]
+fn add_first_figures<K: Sink>(out: &mut TextWriter<'_, K>, listed: &Listed, faults: usize)
+    requires { faults ≡ fault_count listed.now }
+    ensures { Adds K.Sink (first_figures listed.now) out.old out.new }
+{
+    if faults == 0 {
+        add_deck_figures(out, listed);
+    }
+}
+
+/// Adds the figures.
 fn add_figures<K: Sink>(out: &mut TextWriter<'_, K>, listed: &Listed)
     ensures { Adds K.Sink (figures_line listed.now) out.old out.new }
 {
     let faults = fault_count(listed);
-    if faults == 0 {
-        add_deck_figures(out, listed);
-    }
+    add_first_figures(out, listed, faults);
     out.add(b"CARDS ");
     add_number(out, listed.rows.len());
     out.add(b"   FAULTS ");
@@ -91,7 +98,8 @@ fn add_end<K: Sink>(out: &mut TextWriter<'_, K>, has_end: bool, count: usize)
         add_gap(out, 30);
         out.add(b"CARD ");
         add_number(out, count + 1);
-        out.line(b" FAULT 6: THERE IS NO END");
+        out.add(b" FAULT 6: THERE IS NO END");
+        out.end_line();
     }
 }
 

@@ -2,3 +2,4 @@ pub mod Words
 pub mod Faults
 pub mod Listing
 pub mod Rows
+pub mod Answer

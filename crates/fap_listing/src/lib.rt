@@ -5,9 +5,12 @@
 //! card), `Listing` (the whole text), `Answer` (what the program answers).
 #![tactic(auto)]
 
+mod answer;
 mod card;
 mod fault;
 mod listing;
 mod symbol;
 mod word;
 
+pub use answer::{ListCards, write_listing};
+pub use script_show::run;

@@ -1,0 +1,137 @@
+//! What the program answers.
+ghost use Rattle.std.specs.Prelude.{◌≡◌, ◌≤◌, ℕ, List, IfOk, length};
+ghost use Rattle.std.specs.Str.Lines.{lines};
+ghost use Rattle.ctss_modes.specs.Devices.{output_seen};
+ghost use Rattle.fap_assemble.specs.Steps.{texts};
+ghost use Rattle.fap_model.specs.Listed.{listed as listed_of};
+ghost use Rattle.fap_listing.specs.Answer.{is_asked, status_by, status_of, text_of, IsAnswer};
+ghost use Rattle.script_show.specs.Input.{ShowsBytes};
+ghost use Rattle.script_show.specs.Seen.{streams};
+
+use crate::listing::{Listing, fault_count};
+use ctss_io::{Sink, Source};
+use ctss_modes::{Outcome, refuse_words};
+use ctss_types::NoMemory;
+use fap_assemble::list;
+use fap_model::Listed;
+use fap_read::{Cards, cards_of_text};
+use script_show::{ArgList, InputShow, ShowProgram, show_input};
+use std::alloc::Global;
+use text_writer::{TextFault, write_text};
+
+/// Cards and what they come to.
+#[derive(Drop)]
+struct CardsListed {
+    cards: Cards,
+    listed: Listed,
+}
+
+/// The cards of a text, a line each, and what they come to.
+fn listed(alloc: Global, bytes: &[u8]) -> Result<CardsListed, NoMemory>
+    requires { length bytes.now ≤ 4194304 }
+    ensures cards { IfOk result (λ made. texts made.cards ≡ lines bytes.now) }
+    ensures listed { IfOk result (λ made. made.listed ≡ listed_of (lines bytes.now)) }
+{
+    let cards = cards_of_text(alloc, bytes)?;
+    let listed = list(alloc, cards.as_slice())?;
+    Ok(CardsListed { cards, listed })
+}
+
+/// The status of cards that come to this.
+fn status(listed: &Listed) -> u8
+    ensures { result ≡ status_by listed.now }
+{
+    if fault_count(listed) == 0 { 0 } else { 9 }
+}
+
+/// Writes a listing.
+fn write<K: Sink>(alloc: Global, listing: &Listing<'_>, output: &mut K) -> Outcome
+    ensures { (bytes : List ℕ) → texts listing.now.cards.now ≡ lines bytes
+        → listing.now.listed.now ≡ listed_of (lines bytes)
+        → ShowsBytes text_of status_of bytes (output_seen K.Sink output.old) (output_seen K.Sink output.new) result }
+{
+    match write_text(alloc, output, listing) {
+        Ok(()) => Outcome::bare(alloc, status(listing.listed), 0, 0),
+        Err(TextFault::Write) => Outcome::bare(alloc, 4, 0, 0),
+        Err(TextFault::NoMemory) => Outcome::bare(alloc, 8, 0, 0),
+    }
+}
+
+/// Writes the listing of the cards of a text.
+fn write_cards<K: Sink>(alloc: Global, bytes: &[u8], output: &mut K) -> Outcome
+    requires { length bytes.now ≤ 4194304 }
+    ensures { ShowsBytes text_of status_of bytes.now
+        (output_seen K.Sink output.old) (output_seen K.Sink output.new) result }
+{
+    match listed(alloc, bytes) {
+        Ok(made) => {
+            let listing = Listing {
+                listed: &made.listed,
+                cards: made.cards.as_slice(),
+            };
+            write(alloc, &listing, output)
+        }
+        Err(_) => Outcome::bare(alloc, 8, 0, 0),
+    }
+}
+
+/// Cards are shown by their listing.
+#[derive(Clone, Copy)]
+struct CardsShown;
+
+impl InputShow for CardsShown {
+    ghost use Rattle.fap_listing.specs.Answer.{status_of, text_of};
+
+    ghost text = { λ _. text_of };
+
+    ghost status = { λ _. status_of };
+
+    fn show<K: Sink>(&self, alloc: Global, bytes: &[u8], sink: &mut K) -> Outcome {
+        write_cards(alloc, bytes, sink)
+    }
+}
+
+/// Whether words ask for a listing: one word, `list`.
+fn is_asked(words: &ArgList) -> bool
+    ensures { result ≡ is_asked words.now }
+{
+    match words.words() {
+        [word] => word.as_str() == "list",
+        _ => false,
+    }
+}
+
+/// The listing of the cards that come in is written, where the words ask for it; other words are refused, and nothing is read.
+pub fn write_listing<S: Source, K: Sink>(
+    alloc: Global,
+    words: &ArgList,
+    input: &mut S,
+    output: &mut K,
+) -> Outcome
+    ensures { IsAnswer (is_asked words.now)
+        (streams S.Source K.Sink input.old output.old) (streams S.Source K.Sink input.new output.new) result }
+{
+    if is_asked(words) {
+        show_input(alloc, &CardsShown, input, output)
+    } else {
+        refuse_words(alloc, output)
+    }
+}
+
+/// The program, but for its `main`.
+pub struct ListCards {}
+
+impl ShowProgram for ListCards {
+    fn usage() -> &'static [u8] {
+        b"words refused: list is wanted, and FAP cards behind <"
+    }
+
+    fn answer<S: Source, K: Sink>(
+        alloc: Global,
+        words: &ArgList,
+        input: &mut S,
+        output: &mut K,
+    ) -> Outcome {
+        write_listing(alloc, words, input, output)
+    }
+}

@@ -1,1 +1,2 @@
 mod Shows
+mod Bytes

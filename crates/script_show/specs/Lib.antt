@@ -1,3 +1,4 @@
 pub mod Shown
 pub mod Seen
 pub mod Asked
+pub mod Input

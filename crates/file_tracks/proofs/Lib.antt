@@ -22,3 +22,5 @@ pub mod Anyhow
 pub mod Zeros
 pub mod Known
 pub mod After
+pub mod Leaves
+pub mod Calls

@@ -17,6 +17,7 @@ use Rattle.track_store.specs.Tracks.{count_taken}
 use Rattle.track_store.specs.Words.{record_at, with_words}
 use Rattle.file_tracks.specs.Places.{count_in, bit}
 use Rattle.file_tracks.specs.Stored.{content, body_on, files_on, occurs, HasTracks, HasMode, IsWhole, MayBe, IsDirectory, StandBeside, LeavesOthers}
+use Rattle.file_tracks.specs.Written.{CanRetake}
 use Rattle.file_tracks.specs.declared.table.Filed.{Filed}
 use Rattle.file_tracks.proofs.Joined.{set_all, with_words_is}
 use Rattle.file_tracks.proofs.Tables.{used_at, used-set, occurs_at, occurs-set, tracks_are, content-length, names_differ, names_set}
@@ -30,8 +31,17 @@ module _ (contents : Option (List (List ℕ))) (taken : List Bool) (quota used :
   pub old_bits : (i : ℕ) (d : Filed) → i < length fs → (t : ℕ) → count_in t (get_or fs i d).tracks.items ≤ bit taken t
   old_bits i d low t = let a = occurs_at t fs i d low in let b = h.once t in omega (arith, a, b)
 
-  pub room_for_more : (now before after : ℕ) → now + before ≡ used + after → now ≤ quota → count_taken taken + after ≤ length taken + before
-  room_for_more now before after e few = let a = h.room in omega (arith, a, e, few)
+  -- the tracks of a file hold its words, and are no more than the quota
+  pub words_on : (i : ℕ) (f : Filed) → i < length fs → f ≡ get_or fs i f → (f.words ≤ 432 * length f.tracks.items) × (length f.tracks.items ≤ quota)
+  words_on i f low is =
+      let has : HasTracks f = subst HasTracks (sym is) (All-get_or HasTracks fs i f low h.tracked) in
+      let a = within_used i f low in
+      let b = ap (λ (x : Filed). length x.tracks.items) is in
+      let few = h.few in
+      (omega (arith, has), omega (arith, a, b, few))
+
+  pub can_retake : (i : ℕ) (d : Filed) → i < length fs → (now after : ℕ) → now + length (get_or fs i d).tracks.items ≡ used + after → now ≤ quota → CanRetake taken (get_or fs i d).tracks.items after
+  can_retake i d low now after e few = record { bits = old_bits i d low; free = (let a = h.room in omega (arith, a, e, few)) }
 
 pub no_rows : (ts ws : List ℕ) → with_words None ts ws ≡ None
 no_rows [] ws = refl

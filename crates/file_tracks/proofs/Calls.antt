@@ -23,9 +23,6 @@ use Rattle.file_tracks.proofs.After.{not_yes, after_read, after_naming, serves_s
 abbrev pub IsOver : Tracked → TrackTable → Bool → Type 0
 IsOver s d failed = IsPort s.contents s.count s.each s.taken d failed
 
-pub ready_of : (s : Tracked) (d : TrackTable) (failed : Bool) → IsOver s d failed → IsReady s d
-ready_of s d failed usable = record { directory = usable.directory; serves = usable.serves; small = usable.small; well = refl }
-
 -- a call that may write
 module _ (s s' : Tracked) (d d' : TrackTable) (failed failed' : Bool) (usable : IsOver s d failed) (told : List FileBody → Result (List FileBody) Refusal) (result : Result (Unit {0}) PortFault)
     (w : Writes told result s s' d d') where

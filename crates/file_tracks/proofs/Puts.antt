@@ -120,9 +120,6 @@ module _ (o : Option (List (List ℕ))) (taken taken' : List Bool) (quota used n
         (put_done name ws quota (files_on contents fs) (body_on contents f) (found_is contents) not_kept (files_on contents' (set fs i g)) now after
         (record { count = w.counted ∙ sym (tracks_are contents' (set fs i g) w.tracked whole); most = fits }))
 
-    pub put_is_done : WhereTold o (λ was. WhereTold (with_words o v.items padded) (λ after. put name ws quota (files_on was fs) ≡ Ok (files_on after (set fs i g))))
-    put_is_done = done_so o reaches h put_works
-
     may_be : (o : Option (List (List ℕ))) (was : List (List ℕ)) → MayBe o was → MayBe (with_words o v.items padded) (set_all was v.items padded)
     may_be None was m = subst (λ (p : Option (List (List ℕ))). MayBe p (set_all was v.items padded)) (sym (no_rows v.items padded)) tt
     may_be (Some contents) was m =

@@ -27,14 +27,6 @@ pub any_refused : (told : List FileBody → Result (List FileBody) Refusal) (r :
     → ((contents : List (List ℕ)) → All (IsWhole contents) fs → told (files_on contents fs) ≡ Err r) → LeavesAny {T = Unit {0}} (Err (Refused r)) told o o n fs fs
 any_refused told r o n fs h = λ was may few whole. (was, (may, (whole, (h was whole, refl))))
 
--- a call for which memory lacked
-pub any_none : (told : List FileBody → Result (List FileBody) Refusal) (o : Option (List (List ℕ))) (n : ℕ) (fs : List Filed) → LeavesAny {T = Unit {0}} (Err NoMemory) told o o n fs fs
-any_none told o n fs = λ was may few whole. (was, (may, (whole, refl)))
-
--- the same where the disk was read
-pub any_same : (told : List FileBody → Result (List FileBody) Refusal) (o o' : Option (List (List ℕ))) (n : ℕ) (fs : List Filed) → o' ≡ o → LeavesAny {T = Unit {0}} (Err NoMemory) told o o' n fs fs
-any_same told o o' n fs same = λ was may few whole. (was, (subst (λ (p : Option (List (List ℕ))). MayBe p was) (sym same) may, (whole, refl)))
-
 -- another definition that tells the same
 pub any_told : (result : Result (Unit {0}) PortFault) (told told' : List FileBody → Result (List FileBody) Refusal) (o o' : Option (List (List ℕ))) (n : ℕ) (fs fs' : List Filed)
     → ((contents : List (List ℕ)) → All (IsWhole contents) fs → told' (files_on contents fs) ≡ told (files_on contents fs)) → LeavesAny result told o o' n fs fs' → LeavesAny result told' o o' n fs fs'

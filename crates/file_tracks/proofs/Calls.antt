@@ -13,7 +13,7 @@ use Rattle.track_store.specs.declared.store.TrackStore.{TrackStore}
 use Rattle.file_tracks.specs.Stored.{files_on, IsDirectory}
 use Rattle.file_tracks.specs.Seen.{tells_of, seen}
 use Rattle.file_tracks.specs.Kept.{IsPort, Goes}
-use Rattle.file_tracks.specs.Tracked.{Tracked, tracked, files_in, IsReady, Writes, Frees, Retells, KeepsTracks}
+use Rattle.file_tracks.specs.Tracked.{Tracked, tracked, files_in, Writes, Frees, Retells, KeepsTracks}
 use Rattle.file_tracks.specs.declared.table.TrackTable.{TrackTable}
 use Rattle.file_tracks.proofs.Refusals.{reaches}
 use Rattle.file_tracks.proofs.Known.{leaves_seen, with_both}

@@ -22,7 +22,8 @@ use Rattle.file_tracks.specs.Written.{AreRetaken, AreWritten, AreWrittenOver, fr
 use Rattle.file_tracks.specs.Tracked.{Tracked, tracked, IsReady, Writes, Retakes}
 use Rattle.file_tracks.specs.declared.table.Filed.{Filed}
 use Rattle.file_tracks.specs.declared.table.TrackTable.{TrackTable}
-use Rattle.file_tracks.proofs.Refusals.{any_refused, any_told, reaches, tells_still}
+use Rattle.file_tracks.proofs.Refusals.{any_refused, any_told, reaches}
+use Rattle.file_tracks.proofs.Rows.{tells_still}
 use Rattle.file_tracks.proofs.Puts.{put_works, put_others, put_any}
 use Rattle.file_tracks.proofs.Made.{made_works, made_others, made_any}
 use Rattle.file_tracks.proofs.Wrote.{write_works, write_others, write_any}

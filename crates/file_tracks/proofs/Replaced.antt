@@ -16,7 +16,7 @@ use Rattle.file_tracks.specs.Places.{count_in, bit}
 use Rattle.file_tracks.specs.Stored.{body_on, files_on, occurs, IsWhole}
 use Rattle.file_tracks.specs.declared.table.Filed.{Filed}
 use Rattle.file_tracks.proofs.Joined.{set_all, joined_same, other_row, whole_rows}
-use Rattle.file_tracks.proofs.Tables.{files_set, change_at, occurs_at, occurs_two, occurs-set}
+use Rattle.file_tracks.proofs.Tables.{files_set, change_at, occurs_at, occurs_two}
 
 pub bit_le : (taken : List Bool) (t : ℕ) → bit taken t ≤ 1
 bit_le taken t = by_bit (is_taken taken t)

@@ -54,7 +54,7 @@ abbrev pub IsReady : Tracked → TrackTable → Type 0
 IsReady s d = IsPort s.contents s.count s.each s.taken d false
 
 -- what a call on a directory leaves that may write: unless the disk failed, its files are left as the definition tells, the directory is
--- ready again, and what stands elsewhere is left
+-- ready again, and what stands elsewhere is left; the disk's count of faults never falls, and rose where it failed
 pub record Writes {T : Type 0} (told : List FileBody → Result (List FileBody) Refusal) (result : Result T PortFault) (old new : Tracked) (d d' : TrackTable) : Type 0 where
   pub any : ¬ IsErrOf result Disk → LeavesAny result told old.contents new.contents (length old.taken) d.files.items d'.files.items
   pub ready : ¬ IsErrOf result Disk → IsReady new d'
@@ -80,8 +80,8 @@ pub record Retells (d d' : TrackTable) : Type 0 where
   pub quota : d'.quota ≡ d.quota
   pub used : d'.used ≡ d.used
 
--- what a call on a store leaves that takes no track and gives none back: the tracks, and a disk that serves them, which has failed no more
--- often than it counts
+-- what a call on a store leaves that takes no track and gives none back: the tracks, and a disk that serves them, whose count of faults
+-- never falls, and rose where the call failed
 pub record KeepsTracks {F : Type 0} (g : Ghosts F) (failed : Type 0) (old new : TrackStore F) : Type 0 where
   pub same : new.disk.ghost_name ≡ old.disk.ghost_name
   pub tracks : new.tracks ≡ old.tracks
@@ -89,8 +89,8 @@ pub record KeepsTracks {F : Type 0} (g : Ghosts F) (failed : Type 0) (old new : 
   pub faults : (tracked g old).faults ≤ (tracked g new).faults
   pub cause : failed → Rose (tracked g old).faults (tracked g new).faults
 
--- what a call on a store leaves that may take tracks and give them back: as many tracks in all, and a disk that serves them, which has
--- failed no more often than it counts; want of memory changes nothing
+-- what a call on a store leaves that may take tracks and give them back: as many tracks in all, and a disk that serves them, whose count
+-- of faults never falls, and rose where the disk failed; want of memory changes nothing
 pub record Retakes {F : Type 0} (g : Ghosts F) {T : Type 0} (result : Result T StepFault) (old new : TrackStore F) : Type 0 where
   pub same : new.disk.ghost_name ≡ old.disk.ghost_name
   pub many : length new.tracks.taken.items ≡ length old.tracks.taken.items

@@ -1,13 +1,14 @@
 -- What a port is after a call of its directory.
 use Rattle.std.specs.Prelude.{Bool, true, false, Option, None}
-use Rattle.std.proofs.Common.{◌≡◌, ℕ, ◌+◌, ◌≤◌, List, length, refl, sym, ap, subst, arith}
+use Rattle.std.proofs.Common.{◌≡◌, ℕ, ◌+◌, ◌≤◌, List, length, refl, sym, ◌∙◌, ap, subst, arith}
 use Rattle.faults.specs.Faults.{WhereTold}
 use Rattle.track_store.specs.Tracks.{count_taken, Serves}
 use Rattle.track_store.specs.Words.{record_at}
 use Rattle.file_tracks.specs.Stored.{occurs, IsDirectory, StandBeside, LeavesOthers}
 use Rattle.file_tracks.specs.Directories.{IsOne}
 use Rattle.file_tracks.specs.Seen.{tells_of}
-use Rattle.file_tracks.specs.Kept.{IsAfter, held_still}
+use Rattle.file_tracks.specs.Kept.{IsAfter, held_still, after_none, after_both}
+use Rattle.file_tracks.specs.Tracked.{Tracked, IsOn, Frees}
 use Rattle.file_tracks.specs.declared.table.Filed.{Filed}
 use Rattle.file_tracks.specs.declared.table.TrackTable.{TrackTable}
 
@@ -55,6 +56,18 @@ pub after_naming : (o : Option (List (List ℕ))) (taken : List Bool) (d d' : Tr
 after_naming o taken d d' used places =
     after_taking o o taken taken d d' refl refl (ap (λ (n : ℕ). count_taken taken + n) (sym used))
     (λ others beside t. (let a = beside t in let b = places t in omega (arith, a, b)))
+
+-- a call of the store that does nothing, and two calls
+pub frees_none : (s : Tracked) (d : TrackTable) → IsOn s d → Frees s s d d
+frees_none s d on = record { on = on; after = after_none s.contents s.taken d; quota = refl; less = omega arith }
+
+pub frees_both : {r s t : Tracked} {d e f : TrackTable} → Frees r s d e → Frees s t e f → Frees r t d f
+frees_both one two = record {
+  on = two.on;
+  after = after_both one.after two.after;
+  quota = two.quota ∙ one.quota;
+  less = (let a = one.less in let b = two.less in omega (arith, a, b));
+}
 
 -- a disk that serves still does
 pub serves_still : (o o' : Option (List (List ℕ))) (count count' each each' n n' : ℕ) → Serves o count each n → o' ≡ o → count' ≡ count → each' ≡ each → n' ≡ n → Serves o' count' each' n'

@@ -38,10 +38,6 @@ joined_other contents contents' (x ∷ ts) h =
     let here = head_here x ts in
     (λ j. h x (omega (arith, here)) j ++ joined_other contents contents' ts (λ t some. h t (let k = in_rest x t ts in omega (arith, k, some))) j)
 
-pub set_all-length : (contents : List (List ℕ)) (ts ws : List ℕ) → length (set_all contents ts ws) ≡ length contents
-set_all-length contents [] ws = refl
-set_all-length contents (t ∷ ts) ws = set_all-length (slice_set contents t (take 432 ws)) ts (drop 432 ws) ∙ length-set contents t (take 432 ws)
-
 -- the rest of a list of tracks that differ
 rest_once : (x : ℕ) (ts : List ℕ) → ((t : ℕ) → count_in t (x ∷ ts) ≤ 1) → count_in x ts ≡ 0
 rest_once x ts once = let a = once x in let b = head_here x ts in omega (arith, a, b)

@@ -2,6 +2,7 @@ pub mod Told
 pub mod Gives
 pub mod Bits
 pub mod Joined
+pub mod Rows
 pub mod Tables
 pub mod Replaced
 pub mod Found
@@ -22,3 +23,5 @@ pub mod Anyhow
 pub mod Zeros
 pub mod Known
 pub mod After
+pub mod Leaves
+pub mod Calls

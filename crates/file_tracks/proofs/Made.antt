@@ -1,8 +1,8 @@
 -- A file that is made behind the others.
-use Rattle.std.specs.Prelude.{Bool, false, Option, Some, None, Ok, Err, Vec, take}
+use Rattle.std.specs.Prelude.{Bool, false, Option, None, Ok, Err, Vec, take}
 use Rattle.std.specs.declared.alloc.Global.{Global}
 use Rattle.std.specs.List.{All, IsDistinct, AllByRecursion}
-use Rattle.std.proofs.Common.{◌≡◌, ℕ, ◌+◌, ◌*◌, ◌<◌, ◌≤◌, List, [], ◌∷◌, ◌++◌, map, length, refl, sym, ◌∙◌, ap, subst, arith, lit≤}
+use Rattle.std.proofs.Common.{◌≡◌, ℕ, ◌+◌, ◌*◌, ◌<◌, ◌≤◌, List, [], ◌∷◌, ◌++◌, map, length, refl, sym, ◌∙◌, ap, arith, lit≤}
 use Rattle.std.proofs.lemmas.List.Elements.{All-push}
 use Rattle.std.proofs.lemmas.Map.Keys.{IsDistinct-head, IsDistinct-tail, IsDistinct-cons}
 use Rattle.faults.specs.Faults.{WhereTold}
@@ -19,10 +19,11 @@ use Rattle.track_store.specs.Words.{record_at, joined, with_words}
 use Rattle.file_tracks.specs.Places.{count_in, bit}
 use Rattle.file_tracks.specs.Stored.{body_on, files_on, occurs, used_by, HasTracks, HasMode, IsWhole, MayBe, IsDirectory, StandBeside, LeavesOthers}
 use Rattle.file_tracks.specs.declared.table.Filed.{Filed}
-use Rattle.file_tracks.proofs.Joined.{set_all, with_words_is, joined_same, other_row, whole_rows}
+use Rattle.file_tracks.proofs.Told.{told_all, told_map, told_both}
+use Rattle.file_tracks.proofs.Joined.{set_all, joined_same, other_row, whole_rows}
+use Rattle.file_tracks.proofs.Rows.{told_words, both_words, may_words}
 use Rattle.file_tracks.proofs.Tables.{files_same, occurs_at, occurs-append, tracks_are}
 use Rattle.file_tracks.proofs.Replaced.{bit_le, bit_taken}
-use Rattle.file_tracks.proofs.Puts.{no_rows}
 
 pub used-append : (fs gs : List Filed) → used_by (fs ++ gs) ≡ used_by fs + used_by gs
 used-append [] gs = omega arith
@@ -107,13 +108,6 @@ module _ (o : Option (List (List ℕ))) (taken taken' : List Bool) (quota used n
   long : length padded ≡ 432 * length v.items
   long = plen ∙ ap (λ (k : ℕ). 432 * k) (sym len)
 
-  whole_so : (o : Option (List (List ℕ))) → WhereTold o (λ contents. length taken ≤ length contents) → ((t : ℕ) → occurs t fs ≤ bit taken t) → WhereTold o (λ contents. All (IsWhole contents) fs)
-      → WhereTold (with_words o v.items padded) (λ contents. All (IsWhole contents) (fs ++ made ∷ []))
-  whole_so None e once all = subst (λ (p : Option (List (List ℕ))). WhereTold p (λ contents. All (IsWhole contents) (fs ++ made ∷ []))) (sym (no_rows v.items padded)) tt
-  whole_so (Some contents) e once all =
-      subst (λ (p : Option (List (List ℕ))). WhereTold p (λ contents. All (IsWhole contents) (fs ++ made ∷ []))) (sym (with_words_is contents v.items padded))
-      (made_whole contents taken taken' fs made padded once bits (reach_le contents e) long all)
-
   pub made_works : IsDirectory (with_words o v.items padded) taken' quota now (fs ++ made ∷ [])
   made_works = record {
     once = λ t. (let a = h.once t in let b = bits t in let s = occurs-append t fs (made ∷ []) in omega (arith, a, b, s));
@@ -123,26 +117,18 @@ module _ (o : Option (List (List ℕ))) (taken taken' : List Bool) (quota used n
     tracked = All-push HasTracks fs made h.tracked (len ∙ tracks);
     modes = All-push HasMode fs made h.modes (lit≤ tt);
     differ = names_push fs made h.differ (absent []);
-    whole = whole_so o reaches h.once h.whole;
+    whole =
+        told_words o v.items padded (λ contents. All (IsWhole contents) (fs ++ made ∷ []))
+        (told_both o _ _ _ (λ contents e all. made_whole contents taken taken' fs made padded h.once bits (reach_le contents e) long all) reaches h.whole);
   }
-
-  others_so : (o : Option (List (List ℕ))) → WhereTold o (λ contents. length taken ≤ length contents) → ((t : ℕ) → occurs t fs ≤ bit taken t) → (others : ℕ → ℕ) → StandBeside others taken fs
-      → WhereTold o (λ was. WhereTold (with_words o v.items padded) (λ now. (t : ℕ) → 1 ≤ others t → record_at now t ≡ record_at was t))
-  others_so None e once others beside = tt
-  others_so (Some contents) e once others beside =
-      subst (λ (p : Option (List (List ℕ))). WhereTold p (λ now. (t : ℕ) → 1 ≤ others t → record_at now t ≡ record_at contents t)) (sym (with_words_is contents v.items padded))
-      (made_elsewhere contents taken taken' fs made padded once bits (reach_le contents e) long others beside)
 
   pub made_others : (others : ℕ → ℕ) → StandBeside others taken fs → LeavesOthers o (with_words o v.items padded) taken taken' fs (fs ++ made ∷ []) others
   made_others others beside = record {
     beside = λ t. (let a = beside t in let e = bits t in let s = occurs-append t fs (made ∷ []) in omega (arith, a, e, s));
-    held = others_so o reaches h.once others beside;
+    held =
+        both_words o v.items padded (λ was now. (t : ℕ) → 1 ≤ others t → record_at now t ≡ record_at was t)
+        (told_map o _ _ (λ contents e. made_elsewhere contents taken taken' fs made padded h.once bits (reach_le contents e) long others beside) reaches);
   }
-
-  may_be : (o : Option (List (List ℕ))) (was : List (List ℕ)) → MayBe o was → MayBe (with_words o v.items padded) (set_all was v.items padded)
-  may_be None was m = subst (λ (p : Option (List (List ℕ))). MayBe p (set_all was v.items padded)) (sym (no_rows v.items padded)) tt
-  may_be (Some contents) was m =
-      subst (λ (p : Option (List (List ℕ))). MayBe p (set_all was v.items padded)) (sym (with_words_is contents v.items padded)) (ap (λ (x : List (List ℕ)). set_all x v.items padded) m)
 
   -- whatever contents the disk had, it may have others now that hold the new words
   pub made_any : (was : List (List ℕ)) → MayBe o was → length taken ≤ length was → All (IsWhole was) fs
@@ -155,7 +141,7 @@ module _ (o : Option (List (List ℕ))) (taken taken' : List Bool) (quota used n
       ∙ ap (λ (zs : List ℕ). with_new name zs (files_on was fs)) cut in (
         new,
         (
-          may_be o was may,
+          may_words o v.items padded padded was may (told_all o _ (λ r. refl)),
           (
             all,
             fits quota (with_new name ws (files_on was fs)) (files_on new (fs ++ made ∷ [])) now is

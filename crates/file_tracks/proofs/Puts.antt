@@ -1,8 +1,8 @@
 -- What a call that puts words into a file may count on, and leaves.
-use Rattle.std.specs.Prelude.{Bool, false, Option, Some, None, Ok, Err, Vec, take, drop, nat_le}
+use Rattle.std.specs.Prelude.{Bool, false, Option, Some, Ok, Err, Vec, take, nat_le}
 use Rattle.std.specs.declared.alloc.Global.{Global}
 use Rattle.std.specs.List.{All, IsDistinct}
-use Rattle.std.proofs.Common.{◌≡◌, ℕ, ◌+◌, ◌*◌, ◌<◌, ◌≤◌, List, [], ◌∷◌, set, length, get_or, refl, sym, ◌∙◌, ap, subst, arith}
+use Rattle.std.proofs.Common.{◌≡◌, ℕ, ◌+◌, ◌*◌, ◌<◌, ◌≤◌, List, set, length, get_or, refl, sym, ◌∙◌, ap, subst, arith}
 use Rattle.std.proofs.lemmas.Bool.Decides.{nat_tests}
 use Rattle.std.proofs.lemmas.List.Elements.{All-set, All-get_or}
 use Rattle.faults.specs.Faults.{WhereTold}
@@ -16,9 +16,12 @@ use Rattle.file_map.proofs.Counts.{too_many}
 use Rattle.track_store.specs.Tracks.{count_taken}
 use Rattle.track_store.specs.Words.{record_at, with_words}
 use Rattle.file_tracks.specs.Places.{count_in, bit}
-use Rattle.file_tracks.specs.Stored.{content, body_on, files_on, occurs, HasTracks, HasMode, IsWhole, MayBe, IsDirectory, StandBeside, LeavesOthers}
+use Rattle.file_tracks.specs.Stored.{content, body_on, files_on, HasTracks, HasMode, IsWhole, MayBe, IsDirectory, StandBeside, LeavesOthers}
+use Rattle.file_tracks.specs.Written.{CanRetake}
 use Rattle.file_tracks.specs.declared.table.Filed.{Filed}
-use Rattle.file_tracks.proofs.Joined.{set_all, with_words_is}
+use Rattle.file_tracks.proofs.Told.{told_all, told_map, told_both}
+use Rattle.file_tracks.proofs.Joined.{set_all}
+use Rattle.file_tracks.proofs.Rows.{told_words, both_words, may_words}
 use Rattle.file_tracks.proofs.Tables.{used_at, used-set, occurs_at, occurs-set, tracks_are, content-length, names_differ, names_set}
 use Rattle.file_tracks.proofs.Found.{is_found}
 use Rattle.file_tracks.proofs.Replaced.{Swaps, whole_still, elsewhere, replaced}
@@ -30,12 +33,17 @@ module _ (contents : Option (List (List ℕ))) (taken : List Bool) (quota used :
   pub old_bits : (i : ℕ) (d : Filed) → i < length fs → (t : ℕ) → count_in t (get_or fs i d).tracks.items ≤ bit taken t
   old_bits i d low t = let a = occurs_at t fs i d low in let b = h.once t in omega (arith, a, b)
 
-  pub room_for_more : (now before after : ℕ) → now + before ≡ used + after → now ≤ quota → count_taken taken + after ≤ length taken + before
-  room_for_more now before after e few = let a = h.room in omega (arith, a, e, few)
+  -- the tracks of a file hold its words, and are no more than the quota
+  pub words_on : (i : ℕ) (f : Filed) → i < length fs → f ≡ get_or fs i f → (f.words ≤ 432 * length f.tracks.items) × (length f.tracks.items ≤ quota)
+  words_on i f low is =
+      let has : HasTracks f = subst HasTracks (sym is) (All-get_or HasTracks fs i f low h.tracked) in
+      let a = within_used i f low in
+      let b = ap (λ (x : Filed). length x.tracks.items) is in
+      let few = h.few in
+      (omega (arith, has), omega (arith, a, b, few))
 
-pub no_rows : (ts ws : List ℕ) → with_words None ts ws ≡ None
-no_rows [] ws = refl
-no_rows (t ∷ ts) ws = no_rows ts (drop 432 ws)
+  pub can_retake : (i : ℕ) (d : Filed) → i < length fs → (now after : ℕ) → now + length (get_or fs i d).tracks.items ≡ used + after → now ≤ quota → CanRetake taken (get_or fs i d).tracks.items after
+  can_retake i d low now after e few = record { bits = old_bits i d low; free = (let a = h.room in omega (arith, a, e, few)) }
 
 -- other words for the file at a place, in other tracks
 module _ (o : Option (List (List ℕ))) (taken taken' : List Bool) (quota used now n : ℕ) (fs : List Filed) (i : ℕ) (f : Filed) (v : Vec ℕ Global) (ws padded : List ℕ)
@@ -55,12 +63,6 @@ module _ (o : Option (List (List ℕ))) (taken taken' : List Bool) (quota used n
   long : length padded ≡ 432 * length v.items
   long = plen ∙ ap (λ (k : ℕ). 432 * k) (sym len)
 
-  whole_so : (o : Option (List (List ℕ))) → WhereTold o (λ contents. length taken ≤ length contents) → ((t : ℕ) → occurs t fs ≤ bit taken t) → WhereTold o (λ contents. All (IsWhole contents) fs) → WhereTold (with_words o v.items padded) (λ contents. All (IsWhole contents) (set fs i g))
-  whole_so None e once all = subst (λ (p : Option (List (List ℕ))). WhereTold p (λ contents. All (IsWhole contents) (set fs i g))) (sym (no_rows v.items padded)) tt
-  whole_so (Some contents) e once all =
-      subst (λ (p : Option (List (List ℕ))). WhereTold p (λ contents. All (IsWhole contents) (set fs i g))) (sym (with_words_is contents v.items padded))
-      (whole_still contents taken taken' fs i f g padded low once swaps_at (many_le contents e) long all)
-
   pub put_works : IsDirectory (with_words o v.items padded) taken' quota now (set fs i g)
   put_works = record {
     once = λ t. let a = h.once t in let e = swaps_at.bits t in let s = occurs-set t fs i g f low in let p = occurs_at t fs i f low in omega (arith, a, e, s, p);
@@ -70,20 +72,17 @@ module _ (o : Option (List (List ℕ))) (taken taken' : List Bool) (quota used n
     tracked = All-set HasTracks fs i g (len ∙ tracks) h.tracked;
     modes = All-set HasMode fs i g (subst HasMode (sym is) (All-get_or HasMode fs i f low h.modes)) h.modes;
     differ = subst (λ (ns : List NamePair). IsDistinct same_name ns) (sym (names_set fs i g f low (ap (λ (x : Filed). x.name) is))) h.differ;
-    whole = whole_so o reaches h.once h.whole;
+    whole =
+        told_words o v.items padded (λ contents. All (IsWhole contents) (set fs i g))
+        (told_both o _ _ _ (λ contents e all. whole_still contents taken taken' fs i f g padded low h.once swaps_at (many_le contents e) long all) reaches h.whole);
   }
-
-  others_so : (o : Option (List (List ℕ))) → WhereTold o (λ contents. length taken ≤ length contents) → ((t : ℕ) → occurs t fs ≤ bit taken t) → (others : ℕ → ℕ) → StandBeside others taken fs
-      → WhereTold o (λ was. WhereTold (with_words o v.items padded) (λ now. (t : ℕ) → 1 ≤ others t → record_at now t ≡ record_at was t))
-  others_so None e once others beside = tt
-  others_so (Some contents) e once others beside =
-      subst (λ (p : Option (List (List ℕ))). WhereTold p (λ now. (t : ℕ) → 1 ≤ others t → record_at now t ≡ record_at contents t)) (sym (with_words_is contents v.items padded))
-      (elsewhere contents taken taken' fs i f g padded low once swaps_at (many_le contents e) long others beside)
 
   pub put_others : (others : ℕ → ℕ) → StandBeside others taken fs → LeavesOthers o (with_words o v.items padded) taken taken' fs (set fs i g) others
   put_others others beside = record {
     beside = λ t. let a = beside t in let e = swaps_at.bits t in let s = occurs-set t fs i g f low in omega (arith, a, e, s);
-    held = others_so o reaches h.once others beside;
+    held =
+        both_words o v.items padded (λ was now. (t : ℕ) → 1 ≤ others t → record_at now t ≡ record_at was t)
+        (told_map o _ _ (λ contents e. elsewhere contents taken taken' fs i f g padded low h.once swaps_at (many_le contents e) long others beside) reaches);
   }
 
   module _ (name : NamePair) (found : (contents : List (List ℕ)) (d : Filed) → file_named name (files_on contents fs) ≡ Some (body_on contents (get_or fs i d))) (free : f.mode < 2) where
@@ -96,42 +95,23 @@ module _ (o : Option (List (List ℕ))) (taken taken' : List Bool) (quota used n
         test : (m : ℕ) → m < 2 → false ≡ nat_le 2 m
         test m k = grind (arith, nat_tests)
 
-    done_so : (o : Option (List (List ℕ))) → WhereTold o (λ contents. length taken ≤ length contents) → IsDirectory o taken quota used fs → IsDirectory (with_words o v.items padded) taken' quota now (set fs i g)
-        → WhereTold o (λ was. WhereTold (with_words o v.items padded) (λ after. put name ws quota (files_on was fs) ≡ Ok (files_on after (set fs i g))))
-    done_so None e d w = tt
-    done_so (Some contents) e d w =
-        let contents' : List (List ℕ) = set_all contents v.items padded in
-        let whole : All (IsWhole contents') (set fs i g) = subst (λ (p : Option (List (List ℕ))). WhereTold p (λ contents. All (IsWhole contents) (set fs i g))) (with_words_is contents v.items padded) w.whole in
-        let after : files_on contents' (set fs i g) ≡ with_change name (λ (x : FileBody). record x { words = ws }) (files_on contents fs) =
-        replaced contents taken taken' fs i f g padded low d.once swaps_at (many_le contents e) long name (names_differ contents fs d.differ)
-        (is_found name (files_on contents fs) (body_on contents (get_or fs i f)) (found contents f)) (ap (λ (x : Filed). x.name) is) (ap (λ (x : Filed). x.mode) is)
-        ∙ ap (λ (zs : List ℕ). with_change name (λ (x : FileBody). record x { words = zs }) (files_on contents fs)) cut in
-        subst (λ (p : Option (List (List ℕ))). WhereTold p (λ after. put name ws quota (files_on contents fs) ≡ Ok (files_on after (set fs i g)))) (sym (with_words_is contents v.items padded))
-        (put_done name ws quota (files_on contents fs) (body_on contents f) (found_is contents) not_kept (files_on contents' (set fs i g)) now after
-        (record { count = w.counted ∙ sym (tracks_are contents' (set fs i g) w.tracked whole); most = fits }))
-
-    pub put_is_done : WhereTold o (λ was. WhereTold (with_words o v.items padded) (λ after. put name ws quota (files_on was fs) ≡ Ok (files_on after (set fs i g))))
-    put_is_done = done_so o reaches h put_works
-
-    may_be : (o : Option (List (List ℕ))) (was : List (List ℕ)) → MayBe o was → MayBe (with_words o v.items padded) (set_all was v.items padded)
-    may_be None was m = subst (λ (p : Option (List (List ℕ))). MayBe p (set_all was v.items padded)) (sym (no_rows v.items padded)) tt
-    may_be (Some contents) was m =
-        subst (λ (p : Option (List (List ℕ))). MayBe p (set_all was v.items padded)) (sym (with_words_is contents v.items padded)) (ap (λ (x : List (List ℕ)). set_all x v.items padded) m)
-
     -- whatever contents the disk had, it may have others now that hold the new words
     pub put_any : (was : List (List ℕ)) → MayBe o was → length taken ≤ length was → All (IsWhole was) fs
         → (after : List (List ℕ)) × (MayBe (with_words o v.items padded) after × (All (IsWhole after) (set fs i g) × (put name ws quota (files_on was fs) ≡ Ok (files_on after (set fs i g)))))
     put_any was may few whole =
-        let d : IsDirectory (Some was) taken quota used fs =
-        record { once = h.once; few = h.few; room = h.room; counted = h.counted; tracked = h.tracked; modes = h.modes; differ = h.differ; whole = whole } in
-        let w : IsDirectory (with_words (Some was) v.items padded) taken' quota now (set fs i g) =
-        record { once = put_works.once; few = put_works.few; room = put_works.room; counted = put_works.counted; tracked = put_works.tracked; modes = put_works.modes; differ = put_works.differ; whole = whole_so (Some was) few h.once whole } in (
-          set_all was v.items padded,
+        let now' : List (List ℕ) = set_all was v.items padded in
+        let all : All (IsWhole now') (set fs i g) = whole_still was taken taken' fs i f g padded low h.once swaps_at (many_le was few) long whole in
+        let after : files_on now' (set fs i g) ≡ with_change name (λ (x : FileBody). record x { words = ws }) (files_on was fs) =
+        replaced was taken taken' fs i f g padded low h.once swaps_at (many_le was few) long name (names_differ was fs h.differ)
+        (is_found name (files_on was fs) (body_on was (get_or fs i f)) (found was f)) (ap (λ (x : Filed). x.name) is) (ap (λ (x : Filed). x.mode) is)
+        ∙ ap (λ (zs : List ℕ). with_change name (λ (x : FileBody). record x { words = zs }) (files_on was fs)) cut in (
+          now',
           (
-            may_be o was may,
+            may_words o v.items padded padded was may (told_all o _ (λ r. refl)),
             (
-              subst (λ (p : Option (List (List ℕ))). WhereTold p (λ contents. All (IsWhole contents) (set fs i g))) (with_words_is was v.items padded) w.whole,
-              subst (λ (p : Option (List (List ℕ))). WhereTold p (λ after. put name ws quota (files_on was fs) ≡ Ok (files_on after (set fs i g)))) (with_words_is was v.items padded) (done_so (Some was) few d w),
+              all,
+              put_done name ws quota (files_on was fs) (body_on was f) (found_is was) not_kept (files_on now' (set fs i g)) now after
+                  (record { count = put_works.counted ∙ sym (tracks_are now' (set fs i g) put_works.tracked all); most = fits }),
             ),
           ),
         )

@@ -12,28 +12,16 @@ use Rattle.ctss_types.specs.declared.file.Refusal.{Refusal}
 use Rattle.ctss_types.specs.declared.file.Refusal.TheVariants.{NoFile, ReadOnly, PastEnd}
 use Rattle.file_model.specs.Files.{file_named, put, put_of, written, written_of, appended, end_of, if_they_fit, with_new}
 use Rattle.file_map.specs.declared.fault.PortFault.{PortFault}
-use Rattle.file_map.specs.declared.fault.PortFault.TheVariants.{Refused, NoMemory}
+use Rattle.file_map.specs.declared.fault.PortFault.TheVariants.{Refused}
 use Rattle.file_map.specs.Answers.{Leaves}
-use Rattle.track_store.specs.Words.{with_words}
-use Rattle.file_tracks.specs.Stored.{files_on, IsWhole, MayBe, LeavesAny}
-use Rattle.file_tracks.specs.Seen.{tells_of}
+use Rattle.file_tracks.specs.Stored.{files_on, IsWhole, LeavesAny}
 use Rattle.file_tracks.specs.declared.table.Filed.{Filed}
-use Rattle.file_tracks.proofs.Puts.{no_rows}
-use Rattle.file_tracks.proofs.Joined.{with_words_is}
 use Rattle.file_tracks.proofs.Told.{told_map}
 
 -- a refused call
 pub any_refused : (told : List FileBody → Result (List FileBody) Refusal) (r : Refusal) (o : Option (List (List ℕ))) (n : ℕ) (fs : List Filed)
     → ((contents : List (List ℕ)) → All (IsWhole contents) fs → told (files_on contents fs) ≡ Err r) → LeavesAny {T = Unit {0}} (Err (Refused r)) told o o n fs fs
 any_refused told r o n fs h = λ was may few whole. (was, (may, (whole, (h was whole, refl))))
-
--- a call for which memory lacked
-pub any_none : (told : List FileBody → Result (List FileBody) Refusal) (o : Option (List (List ℕ))) (n : ℕ) (fs : List Filed) → LeavesAny {T = Unit {0}} (Err NoMemory) told o o n fs fs
-any_none told o n fs = λ was may few whole. (was, (may, (whole, refl)))
-
--- the same where the disk was read
-pub any_same : (told : List FileBody → Result (List FileBody) Refusal) (o o' : Option (List (List ℕ))) (n : ℕ) (fs : List Filed) → o' ≡ o → LeavesAny {T = Unit {0}} (Err NoMemory) told o o' n fs fs
-any_same told o o' n fs same = λ was may few whole. (was, (subst (λ (p : Option (List (List ℕ))). MayBe p was) (sym same) may, (whole, refl)))
 
 -- another definition that tells the same
 pub any_told : (result : Result (Unit {0}) PortFault) (told told' : List FileBody → Result (List FileBody) Refusal) (o o' : Option (List (List ℕ))) (n : ℕ) (fs fs' : List Filed)
@@ -45,12 +33,6 @@ any_told result told told' o o' n fs fs' same h = λ was may few whole.
 -- the told records reach to the last track
 pub reaches : (o : Option (List (List ℕ))) (count n : ℕ) → HasShape o count → n ≤ count → WhereTold o (λ contents. n ≤ length contents)
 reaches o count n shape within = told_map o (λ contents. length contents ≡ count) (λ contents. n ≤ length contents) (λ contents is. omega (arith, is, within)) shape
-
--- a disk that is written tells as before
-pub tells_still : (o : Option (List (List ℕ))) (ts ws : List ℕ) → tells_of (with_words o ts ws) ≡ tells_of o
-unfolding tells_of
-tells_still None ts ws = ap tells_of (no_rows ts ws)
-tells_still (Some contents) ts ws = ap tells_of (with_words_is contents ts ws)
 
 kept : (m : ℕ) → 2 ≤ m → nat_le 2 m ≡ true
 kept m h = grind (arith, nat_tests)

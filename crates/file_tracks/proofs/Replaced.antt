@@ -16,7 +16,7 @@ use Rattle.file_tracks.specs.Places.{count_in, bit}
 use Rattle.file_tracks.specs.Stored.{body_on, files_on, occurs, IsWhole}
 use Rattle.file_tracks.specs.declared.table.Filed.{Filed}
 use Rattle.file_tracks.proofs.Joined.{set_all, joined_same, other_row, whole_rows}
-use Rattle.file_tracks.proofs.Tables.{files_set, change_at, occurs_at, occurs_two, occurs-set}
+use Rattle.file_tracks.proofs.Tables.{files_set, change_at, occurs_at, occurs_two}
 
 pub bit_le : (taken : List Bool) (t : ℕ) → bit taken t ≤ 1
 bit_le taken t = by_bit (is_taken taken t)
@@ -76,12 +76,6 @@ module _ (contents : List (List ℕ)) (taken taken' : List Bool) (fs : List File
   elsewhere others beside t some =
       other_row contents g.tracks.items padded t
       (let a = beside t in let b = bit_le taken t in let c = bit_le taken' t in let e = swaps.bits t in let o = occurs_at t fs i d inside in omega (arith, a, b, c, e, o, some))
-
-  pub beside_still : (others : ℕ → ℕ) → ((t : ℕ) → others t + occurs t fs ≡ bit taken t) → (t : ℕ) → others t + occurs t (set fs i g) ≡ bit taken' t
-  beside_still others beside t = let a = beside t in let e = swaps.bits t in let s = occurs-set t fs i g d inside in omega (arith, a, e, s)
-
-  pub once_still : (t : ℕ) → occurs t (set fs i g) ≤ bit taken' t
-  once_still t = let a = once t in let e = swaps.bits t in let s = occurs-set t fs i g d inside in let o = occurs_at t fs i d inside in omega (arith, a, e, s, o)
 
   module _ (name : NamePair) (differ : NamesDiffer (files_on contents fs)) (named : is_named name (body_on contents (get_or fs i d)) ≡ true)
       (same_name : g.name ≡ (get_or fs i d).name) (same_mode : g.mode ≡ (get_or fs i d).mode) where

@@ -1,6 +1,6 @@
 -- What is said where a medium tells.
 use Rattle.std.specs.Prelude.{Option, None, Some, drop}
-use Rattle.std.proofs.Common.{◌≡◌, ℕ, ◌+◌, ◌<◌, ◌≤◌, List, [], ◌∷◌, ◌++◌, length, get_or, refl, sym, ap, subst, ◌∙◌, append_assoc}
+use Rattle.std.proofs.Common.{◌≡◌, ℕ, ◌+◌, ◌<◌, ◌≤◌, List, [], ◌∷◌, ◌++◌, length, get_or, refl, sym, ap, ◌∙◌, append_assoc}
 use Rattle.std.proofs.lemmas.List.{drop_more, drop_all}
 use Rattle.faults.specs.Faults.{WhereTold}
 use Rattle.track_store.specs.Words.{record_at, joined}
@@ -32,8 +32,3 @@ append-nil (x ∷ xs) = ap (λ (ys : List ℕ). x ∷ ys) (append-nil xs)
 
 pub joined_end : (contents : List (List ℕ)) (ts : List ℕ) (i : ℕ) (xs : List ℕ) → length ts ≤ i → joined contents ts ≡ xs ++ joined contents (drop i ts) → xs ≡ joined contents ts
 joined_end contents ts i xs past is = sym (is ∙ ap (λ (us : List ℕ). xs ++ joined contents us) (drop_all i ts past) ∙ append-nil xs)
-
--- what holds with some contents that a disk may have holds with those that it tells
-pub where_told : (o : Option (List (List ℕ))) (Q P : List (List ℕ) → Type 0) → ((contents : List (List ℕ)) × (WhereTold o (λ r. r ≡ contents) × (Q contents × P contents))) → WhereTold o P
-where_told None Q P a = tt
-where_told (Some r) Q P a = subst P (sym a.1.0) a.1.1.1

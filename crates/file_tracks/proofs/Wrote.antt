@@ -1,8 +1,8 @@
 -- What a call that writes words into a file leaves.
-use Rattle.std.specs.Prelude.{Bool, false, Option, Some, None, Ok, Err, Vec, take, drop, max, min, replicate, nat_le}
+use Rattle.std.specs.Prelude.{Bool, false, Option, Some, None, Ok, Err, Vec, take, drop, max, nat_le}
 use Rattle.std.specs.declared.alloc.Global.{Global}
 use Rattle.std.specs.List.{All, IsDistinct}
-use Rattle.std.proofs.Common.{◌≡◌, ℕ, ◌+◌, ◌-◌, ◌*◌, ◌/◌, ◌<◌, ◌≤◌, List, ◌++◌, set, length, get_or, refl, sym, ◌∙◌, ap, subst, arith, inl, inr}
+use Rattle.std.proofs.Common.{◌≡◌, ℕ, ◌+◌, ◌-◌, ◌*◌, ◌/◌, ◌<◌, ◌≤◌, List, set, length, get_or, refl, sym, ◌∙◌, ap, subst, arith, inl, inr}
 use Rattle.std.proofs.lemmas.Bool.{cases_eq}
 use Rattle.std.proofs.lemmas.Bool.Decides.{nat_tests}
 use Rattle.std.proofs.lemmas.List.{get_or-map, length-map}
@@ -17,17 +17,19 @@ use Rattle.file_map.proofs.Operations.{written_done, written_over, length-overwr
 use Rattle.file_map.proofs.Counts.{too_many}
 use Rattle.track_store.specs.Tracks.{count_taken}
 use Rattle.track_store.proofs.Taken.{taken_below}
-use Rattle.track_store.specs.Words.{record_at, joined, with_words}
+use Rattle.track_store.specs.Words.{record_at, with_words}
 use Rattle.file_tracks.specs.Places.{count_in, bit}
-use Rattle.file_tracks.specs.Stored.{content, body_on, files_on, HasTracks, HasMode, IsWhole, MayBe, IsDirectory, StandBeside, LeavesOthers}
+use Rattle.file_tracks.specs.Written.{held}
+use Rattle.file_tracks.specs.Stored.{content, body_on, files_on, used_by, HasTracks, HasMode, IsWhole, MayBe, IsDirectory, StandBeside, LeavesOthers}
 use Rattle.file_tracks.specs.declared.table.Filed.{Filed}
-use Rattle.file_tracks.proofs.Joined.{set_all, with_words_is, other_row, whole_rows}
+use Rattle.file_tracks.proofs.Told.{told_map, told_both}
+use Rattle.file_tracks.proofs.Joined.{set_all, other_row, whole_rows}
+use Rattle.file_tracks.proofs.Rows.{told_words, both_words, may_words}
 use Rattle.file_tracks.proofs.Tables.{used-set, occurs_at, occurs-set, tracks_are, content-length, names_differ, names_set, change_at}
 use Rattle.file_tracks.proofs.Found.{is_found}
 use Rattle.file_tracks.proofs.Replaced.{Swaps, bit_le, bit_taken}
 use Rattle.file_tracks.proofs.Changes.{changed_elsewhere, changed_whole, changed_file, count_take, count_drop}
 use Rattle.file_tracks.proofs.Writes.{written_content, in_part, b_once, b_within, b_long, patch_long}
-use Rattle.file_tracks.proofs.Puts.{no_rows}
 
 module _ (o : Option (List (List ℕ))) (taken taken' : List Bool) (quota used now n : ℕ) (fs : List Filed) (i : ℕ) (f : Filed) (v : Vec ℕ Global) (ws patch : List ℕ) (place from to : ℕ)
     (h : IsDirectory o taken quota used fs) (low : i < length fs) (is : f ≡ get_or fs i f) (reaches : WhereTold o (λ contents. length taken ≤ length contents))
@@ -36,7 +38,7 @@ module _ (o : Option (List (List ℕ))) (taken taken' : List Bool) (quota used n
     (front : take (length f.tracks.items) v.items ≡ f.tracks.items)
     (below : place ≤ f.words) (first : from ≡ place / 432) (last : to ≡ (place + length ws + 431) / 432)
     (long : length patch ≡ 432 * (to - from))
-    (told : WhereTold o (λ contents. patch ≡ overwritten (place - 432 * from) ws (joined contents (take (min to (length f.tracks.items) - from) (drop from f.tracks.items)) ++ replicate (432 * (to - from) - 432 * length (take (min to (length f.tracks.items) - from) (drop from f.tracks.items))) 0)))
+    (told : WhereTold o (λ contents. patch ≡ overwritten (place - 432 * from) ws (held contents f.tracks.items from to)))
     (sum : now + length f.tracks.items ≡ used + n) (fits : now ≤ quota) (counts : count_taken taken' + length f.tracks.items ≡ count_taken taken + n) where
   abbrev pub g : Filed
   g = record { name = f.name; mode = f.mode; words = max f.words (place + length ws); tracks = v }
@@ -61,7 +63,7 @@ module _ (o : Option (List (List ℕ))) (taken taken' : List Bool) (quota used n
 
   -- for records that are told
   module _ (contents : List (List ℕ)) (reach : length taken ≤ length contents) (whole : All (IsWhole contents) fs)
-      (patch_is : patch ≡ overwritten (place - 432 * from) ws (joined contents (take (min to (length f.tracks.items) - from) (drop from f.tracks.items)) ++ replicate (432 * (to - from) - 432 * length (take (min to (length f.tracks.items) - from) (drop from f.tracks.items))) 0)) where
+      (patch_is : patch ≡ overwritten (place - 432 * from) ws (held contents f.tracks.items from to)) where
     abbrev contents' : List (List ℕ)
     contents' = set_all contents b patch
 
@@ -110,67 +112,49 @@ module _ (o : Option (List (List ℕ))) (taken taken' : List Bool) (quota used n
         ∙ ap (λ (x : FileBody). set (files_on contents fs) i (record x { words = overwritten place ws x.words })) (sym at)
         ∙ sym (change_at name (λ (x : FileBody). record x { words = overwritten place ws x.words }) (files_on contents fs) i (body_on contents f) inside (names_differ contents fs h.differ) (ap (is_named name) at ∙ named))
 
-  whole_so : (p : Option (List (List ℕ))) → p ≡ o → WhereTold (with_words p b patch) (λ contents. All (IsWhole contents) (set fs i g))
-  whole_so None e = subst (λ (q : Option (List (List ℕ))). WhereTold q (λ contents. All (IsWhole contents) (set fs i g))) (sym (no_rows b patch)) tt
-  whole_so (Some contents) e =
-      subst (λ (q : Option (List (List ℕ))). WhereTold q (λ contents. All (IsWhole contents) (set fs i g))) (sym (with_words_is contents b patch))
-      (all_whole contents (subst (λ (q : Option (List (List ℕ))). WhereTold q (λ contents. length taken ≤ length contents)) (sym e) reaches) (subst (λ (q : Option (List (List ℕ))). WhereTold q (λ contents. All (IsWhole contents) fs)) (sym e) h.whole)
-      (subst (λ (q : Option (List (List ℕ))). WhereTold q (λ contents. patch ≡ overwritten (place - 432 * from) ws (joined contents (take (min to (length f.tracks.items) - from) (drop from f.tracks.items)) ++ replicate (432 * (to - from) - 432 * length (take (min to (length f.tracks.items) - from) (drop from f.tracks.items))) 0))) (sym e) told))
+  counted_now : now ≡ used_by (set fs i g)
+  counted_now = let a = h.counted in let s = used-set fs i g f low in let l = ap (λ (x : Filed). length x.tracks.items) is in omega (arith, a, s, l, len, sum)
+
+  tracked_now : All HasTracks (set fs i g)
+  tracked_now = All-set HasTracks fs i g new_len h.tracked
+
+  facts : WhereTold o (λ contents. (length taken ≤ length contents) × (All (IsWhole contents) fs × (patch ≡ overwritten (place - 432 * from) ws (held contents f.tracks.items from to))))
+  facts = told_both o _ _ _ (λ contents e x. (e, x)) reaches (told_both o _ _ _ (λ contents a t. (a, t)) h.whole told)
 
   pub write_works : IsDirectory (with_words o b patch) taken' quota now (set fs i g)
   write_works = record {
     once = λ t. let a = h.once t in let e = swaps_at.bits t in let s = occurs-set t fs i g f low in let p = occurs_at t fs i f low in omega (arith, a, e, s, p);
     few = fits;
     room = (let r = h.room in omega (arith, r, counts, sum, many));
-    counted = (let a = h.counted in let s = used-set fs i g f low in let l = ap (λ (x : Filed). length x.tracks.items) is in omega (arith, a, s, l, len, sum));
-    tracked = All-set HasTracks fs i g new_len h.tracked;
+    counted = counted_now;
+    tracked = tracked_now;
     modes = All-set HasMode fs i g (subst HasMode (sym is) (All-get_or HasMode fs i f low h.modes)) h.modes;
     differ = subst (λ (ns : List NamePair). IsDistinct same_name ns) (sym (names_set fs i g f low (ap (λ (x : Filed). x.name) is))) h.differ;
-    whole = whole_so o refl;
+    whole = told_words o b patch (λ contents. All (IsWhole contents) (set fs i g)) (told_map o _ _ (λ contents x. all_whole contents x.0 x.1.0 x.1.1) facts);
   }
-
-  reach_of : (contents : List (List ℕ)) → Some contents ≡ o → length taken ≤ length contents
-  reach_of contents e = subst (λ (q : Option (List (List ℕ))). WhereTold q (λ contents. length taken ≤ length contents)) (sym e) reaches
-
-  whole_of : (contents : List (List ℕ)) → Some contents ≡ o → All (IsWhole contents) fs
-  whole_of contents e = subst (λ (q : Option (List (List ℕ))). WhereTold q (λ contents. All (IsWhole contents) fs)) (sym e) h.whole
-
-  others_so : (p : Option (List (List ℕ))) → p ≡ o → (others : ℕ → ℕ) → StandBeside others taken fs → WhereTold p (λ was. WhereTold (with_words p b patch) (λ after. (t : ℕ) → 1 ≤ others t → record_at after t ≡ record_at was t))
-  others_so None e others beside = tt
-  others_so (Some contents) e others beside =
-      subst (λ (q : Option (List (List ℕ))). WhereTold q (λ after. (t : ℕ) → 1 ≤ others t → record_at after t ≡ record_at contents t)) (sym (with_words_is contents b patch))
-      (elsewhere_too contents (reach_of contents e) (whole_of contents e) (patch_of contents e) others beside)
-    where
-      patch_of : (contents : List (List ℕ)) → Some contents ≡ o → patch ≡ overwritten (place - 432 * from) ws (joined contents (take (min to (length f.tracks.items) - from) (drop from f.tracks.items)) ++ replicate (432 * (to - from) - 432 * length (take (min to (length f.tracks.items) - from) (drop from f.tracks.items))) 0)
-      patch_of contents e = subst (λ (q : Option (List (List ℕ))). WhereTold q (λ contents. patch ≡ overwritten (place - 432 * from) ws (joined contents (take (min to (length f.tracks.items) - from) (drop from f.tracks.items)) ++ replicate (432 * (to - from) - 432 * length (take (min to (length f.tracks.items) - from) (drop from f.tracks.items))) 0))) (sym e) told
 
   pub write_others : (others : ℕ → ℕ) → StandBeside others taken fs → LeavesOthers o (with_words o b patch) taken taken' fs (set fs i g) others
   write_others others beside = record {
     beside = λ t. let a = beside t in let e = swaps_at.bits t in let s = occurs-set t fs i g f low in omega (arith, a, e, s);
-    held = others_so o refl others beside;
+    held =
+        both_words o b patch (λ was after. (t : ℕ) → 1 ≤ others t → record_at after t ≡ record_at was t)
+        (told_map o _ _ (λ contents x. elsewhere_too contents x.0 x.1.0 x.1.1 others beside) facts);
   }
 
+  -- with told records the call is done
   pub write_is_done : (name : NamePair) → ((contents : List (List ℕ)) (d : Filed) → file_named name (files_on contents fs) ≡ Some (body_on contents (get_or fs i d))) → f.mode < 2
-      → WhereTold o (λ was. WhereTold (with_words o b patch) (λ after. written name place ws quota (files_on was fs) ≡ Ok (files_on after (set fs i g))))
-  write_is_done name found free = done_so o refl write_works
+      → (contents : List (List ℕ)) → length taken ≤ length contents → All (IsWhole contents) fs → patch ≡ overwritten (place - 432 * from) ws (held contents f.tracks.items from to)
+      → written name place ws quota (files_on contents fs) ≡ Ok (files_on (set_all contents b patch) (set fs i g))
+  write_is_done name found free contents reach whole patch_is =
+      let here : file_named name (files_on contents fs) ≡ Some (body_on contents f) = found contents f ∙ ap (λ (x : Filed). Some (body_on contents x)) (sym is) in
+      let wf : IsWhole contents f = subst (IsWhole contents) (sym is) (All-get_or (IsWhole contents) fs i f low whole) in
+      let words : length (content contents f) ≡ f.words = content-length contents f has wf in
+      written_done name ws quota (files_on contents fs) (body_on contents f) here (test f.mode free) place (omega (arith, words, below)) (files_on (set_all contents b patch) (set fs i g)) now
+      (file_is contents reach whole patch_is name (found contents f))
+      (record { count = counted_now ∙ sym (tracks_are (set_all contents b patch) (set fs i g) tracked_now (all_whole contents reach whole patch_is)); most = fits })
     where
-      patch_of : (contents : List (List ℕ)) → Some contents ≡ o → patch ≡ overwritten (place - 432 * from) ws (joined contents (take (min to (length f.tracks.items) - from) (drop from f.tracks.items)) ++ replicate (432 * (to - from) - 432 * length (take (min to (length f.tracks.items) - from) (drop from f.tracks.items))) 0)
-      patch_of contents e = subst (λ (q : Option (List (List ℕ))). WhereTold q (λ contents. patch ≡ overwritten (place - 432 * from) ws (joined contents (take (min to (length f.tracks.items) - from) (drop from f.tracks.items)) ++ replicate (432 * (to - from) - 432 * length (take (min to (length f.tracks.items) - from) (drop from f.tracks.items))) 0))) (sym e) told
-
       test : (m : ℕ) → m < 2 → false ≡ nat_le 2 m
       test m k = grind (arith, nat_tests)
-
-      done_so : (p : Option (List (List ℕ))) → p ≡ o → IsDirectory (with_words p b patch) taken' quota now (set fs i g) → WhereTold p (λ was. WhereTold (with_words p b patch) (λ after. written name place ws quota (files_on was fs) ≡ Ok (files_on after (set fs i g))))
-      done_so None e w = tt
-      done_so (Some contents) e w =
-          let all : All (IsWhole (set_all contents b patch)) (set fs i g) = all_whole contents (reach_of contents e) (whole_of contents e) (patch_of contents e) in
-          let here : file_named name (files_on contents fs) ≡ Some (body_on contents f) = found contents f ∙ ap (λ (x : Filed). Some (body_on contents x)) (sym is) in
-          let wf : IsWhole contents f = subst (IsWhole contents) (sym is) (All-get_or (IsWhole contents) fs i f low (whole_of contents e)) in
-          let words : length (content contents f) ≡ f.words = content-length contents f has wf in
-          subst (λ (q : Option (List (List ℕ))). WhereTold q (λ after. written name place ws quota (files_on contents fs) ≡ Ok (files_on after (set fs i g)))) (sym (with_words_is contents b patch))
-          (written_done name ws quota (files_on contents fs) (body_on contents f) here (test f.mode free) place (omega (arith, words, below)) (files_on (set_all contents b patch) (set fs i g)) now
-          (file_is contents (reach_of contents e) (whole_of contents e) (patch_of contents e) name (found contents f))
-          (record { count = w.counted ∙ sym (tracks_are (set_all contents b patch) (set fs i g) w.tracked all); most = fits }))
 
 -- whatever contents the disk had, it may have others now that hold the new words
 module _ (o : Option (List (List ℕ))) (taken taken' : List Bool) (quota used now n : ℕ) (fs : List Filed) (i : ℕ) (f : Filed) (v : Vec ℕ Global) (ws patch : List ℕ) (place from to : ℕ)
@@ -179,7 +163,7 @@ module _ (o : Option (List (List ℕ))) (taken taken' : List Bool) (quota used n
     (len : length v.items ≡ n) (tracks : n ≡ tracks_of_words (max f.words (place + length ws)))
     (front : take (length f.tracks.items) v.items ≡ f.tracks.items)
     (below : place ≤ f.words) (first : from ≡ place / 432) (last : to ≡ (place + length ws + 431) / 432)
-    (told : WhereTold o (λ contents. patch ≡ overwritten (place - 432 * from) ws (joined contents (take (min to (length f.tracks.items) - from) (drop from f.tracks.items)) ++ replicate (432 * (to - from) - 432 * length (take (min to (length f.tracks.items) - from) (drop from f.tracks.items))) 0)))
+    (told : WhereTold o (λ contents. patch ≡ overwritten (place - 432 * from) ws (held contents f.tracks.items from to)))
     (sum : now + length f.tracks.items ≡ used + n) (fits : now ≤ quota) (counts : count_taken taken' + length f.tracks.items ≡ count_taken taken + n)
     (name : NamePair) (found : (contents : List (List ℕ)) (d : Filed) → file_named name (files_on contents fs) ≡ Some (body_on contents (get_or fs i d))) (free : f.mode < 2)
     (was : List (List ℕ)) (may : MayBe o was) (few : length taken ≤ length was) (whole : All (IsWhole was) fs) where
@@ -191,7 +175,7 @@ module _ (o : Option (List (List ℕ))) (taken taken' : List Bool) (quota used n
 
   -- what would have been written, had the disk told these contents
   abbrev pub pp : List ℕ
-  pp = overwritten (place - 432 * from) ws (joined was (take (min to (length f.tracks.items) - from) (drop from f.tracks.items)) ++ replicate (432 * (to - from) - 432 * length (take (min to (length f.tracks.items) - from) (drop from f.tracks.items))) 0)
+  pp = overwritten (place - 432 * from) ws (held was f.tracks.items from to)
 
   long_p : length pp ≡ 432 * (to - from)
   long_p =
@@ -201,29 +185,21 @@ module _ (o : Option (List (List ℕ))) (taken taken' : List Bool) (quota used n
   d : IsDirectory (Some was) taken quota used fs
   d = record { once = h.once; few = h.few; room = h.room; counted = h.counted; tracked = h.tracked; modes = h.modes; differ = h.differ; whole = whole }
 
-  works_p : IsDirectory (with_words (Some was) bb pp) taken' quota now (set fs i gg)
-  works_p = write_works (Some was) taken taken' quota used now n fs i f v ws pp place from to d low is few swaps many len tracks front below first last long_p refl sum fits counts
-
-  done_p : WhereTold (with_words (Some was) bb pp) (λ after. written name place ws quota (files_on was fs) ≡ Ok (files_on after (set fs i gg)))
-  done_p = write_is_done (Some was) taken taken' quota used now n fs i f v ws pp place from to d low is few swaps many len tracks front below first last long_p refl sum fits counts name found free
-
-  may_p : (q : Option (List (List ℕ))) → MayBe q was → WhereTold q (λ contents. patch ≡ overwritten (place - 432 * from) ws (joined contents (take (min to (length f.tracks.items) - from) (drop from f.tracks.items)) ++ replicate (432 * (to - from) - 432 * length (take (min to (length f.tracks.items) - from) (drop from f.tracks.items))) 0)) → MayBe (with_words q bb patch) (set_all was bb pp)
-  may_p None m e = subst (λ (q : Option (List (List ℕ))). MayBe q (set_all was bb pp)) (sym (no_rows bb patch)) tt
-  may_p (Some r) m e =
-      let same : patch ≡ pp = e ∙ ap (λ (contents : List (List ℕ)). overwritten (place - 432 * from) ws (joined contents (take (min to (length f.tracks.items) - from) (drop from f.tracks.items)) ++ replicate (432 * (to - from) - 432 * length (take (min to (length f.tracks.items) - from) (drop from f.tracks.items))) 0)) m in
-      subst (λ (q : Option (List (List ℕ))). MayBe q (set_all was bb pp)) (sym (with_words_is r bb patch)) (λ j. set_all (m j) bb (same j))
-
   pub write_any : (after : List (List ℕ)) × (MayBe (with_words o bb patch) after × (All (IsWhole after) (set fs i gg) × (written name place ws quota (files_on was fs) ≡ Ok (files_on after (set fs i gg)))))
   write_any = (
     set_all was bb pp,
     (
-      may_p o may told,
+      may_words o bb patch pp was may (laid_p o may told),
       (
-        subst (λ (q : Option (List (List ℕ))). WhereTold q (λ contents. All (IsWhole contents) (set fs i gg))) (with_words_is was bb pp) works_p.whole,
-        subst (λ (q : Option (List (List ℕ))). WhereTold q (λ after. written name place ws quota (files_on was fs) ≡ Ok (files_on after (set fs i gg)))) (with_words_is was bb pp) done_p,
+        all_whole (Some was) taken taken' quota used now n fs i f v ws pp place from to d low is few swaps many len tracks front below first last long_p refl sum fits counts was few whole refl,
+        write_is_done (Some was) taken taken' quota used now n fs i f v ws pp place from to d low is few swaps many len tracks front below first last long_p refl sum fits counts name found free was few whole refl,
       ),
     ),
   )
+    where
+      laid_p : (q : Option (List (List ℕ))) → MayBe q was → WhereTold q (λ contents. patch ≡ overwritten (place - 432 * from) ws (held contents f.tracks.items from to)) → WhereTold q (λ r. patch ≡ pp)
+      laid_p None m e = tt
+      laid_p (Some r) m e = e ∙ ap (λ (contents : List (List ℕ)). overwritten (place - 432 * from) ws (held contents f.tracks.items from to)) m
 
 -- words that would pass the quota
 pub write_passes : (o : Option (List (List ℕ))) (taken : List Bool) (quota used n : ℕ) (fs : List Filed) (i : ℕ) (f : Filed) (ws : List ℕ) (place : ℕ) (name : NamePair) → IsDirectory o taken quota used fs → i < length fs → f ≡ get_or fs i f

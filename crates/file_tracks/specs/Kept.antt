@@ -51,7 +51,7 @@ after_none contents taken d = record {
   others = λ others beside. record { beside = beside; held = held_still contents others };
 }
 
-after_both : {a b c : Option (List (List ℕ))} {s t u : List Bool} {d e f : TrackTable} → IsAfter a b s t d e → IsAfter b c t u e f → IsAfter a c s u d f
+pub after_both : {a b c : Option (List (List ℕ))} {s t u : List Bool} {d e f : TrackTable} → IsAfter a b s t d e → IsAfter b c t u e f → IsAfter a c s u d f
 after_both {a = a} {b = b} {c = c} one two = record {
   telling = two.telling ∙ one.telling;
   many = two.many ∙ one.many;

@@ -5,4 +5,5 @@ pub mod Seen
 pub mod Written
 pub mod Kept
 pub mod Lying
+pub mod Tracked
 pub mod Ported

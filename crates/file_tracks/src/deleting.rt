@@ -1,10 +1,10 @@
 //! Calls on a directory that take files out.
-ghost use Rattle.std.specs.Prelude.{◌≡◌, ◌<◌, ◌≤◌, ◌+◌, ◌^◌, ℕ, List, length, nat_eq, if◌then◌else◌, slice_index_or, IsErrOf};
+ghost use Rattle.std.specs.Prelude.{◌≡◌, ◌<◌, ◌^◌, ℕ, List, length, nat_eq, if◌then◌else◌, slice_index_or, IsErrOf};
 ghost use Rattle.std.specs.List.{remove};
 ghost use Rattle.file_model.specs.Files.{deleted, lasting};
 ghost use Rattle.file_map.specs.Answers.{Leaves};
-ghost use Rattle.track_store.specs.Tracks.{count_taken};
-ghost use Rattle.file_tracks.specs.Stored.{files_on, IsDirectory, StandBeside};
+ghost use Rattle.file_tracks.specs.Stored.{files_on};
+ghost use Rattle.file_tracks.specs.Tracked.{tracked, IsOn, Frees};
 ghost use Rattle.file_tracks.specs.declared.table.Filed.{Filed};
 
 use crate::spans::give_all;
@@ -16,20 +16,11 @@ use track_store::TrackStore;
 
 /// Takes the file at a place out, and gives its tracks back.
 fn remove_at<F: Medium>(table: &mut TrackTable, store: &mut TrackStore<'_, F>, at: usize)
-    requires usable { IsDirectory (F.contents store.old.disk.now) store.old.tracks.taken.items
-        table.old.quota table.old.used table.old.files.items }
+    requires usable { IsOn (tracked F.Medium store.old) table.old }
     requires at { at < length table.old.files.items }
     requires small { table.old.used < 2 ^ 32 }
     ensures items { table.new.files.items ≡ remove table.old.files.items at }
-    ensures others { (others : ℕ → ℕ) → StandBeside others store.old.tracks.taken.items table.old.files.items
-        → StandBeside others store.new.tracks.taken.items table.new.files.items }
-    ensures usable { IsDirectory (F.contents store.new.disk.now) store.new.tracks.taken.items
-        table.new.quota table.new.used table.new.files.items }
-    ensures quota { table.new.quota ≡ table.old.quota }
-    ensures less { table.new.used ≤ table.old.used }
-    ensures counts { count_taken store.new.tracks.taken.items + table.old.used
-        ≡ count_taken store.old.tracks.taken.items + table.new.used }
-    ensures many { length store.new.tracks.taken.items ≡ length store.old.tracks.taken.items }
+    ensures frees { Frees (tracked F.Medium store.old) (tracked F.Medium store.new) table.old table.new }
     ensures same { store.new.disk.ghost_name ≡ store.old.disk.ghost_name }
     ensures now { store.new.disk.now ≡ store.old.disk.now }
 {
@@ -46,19 +37,11 @@ pub(crate) fn delete_in<F: Medium>(
     store: &mut TrackStore<'_, F>,
     name: FileName,
 ) -> Result<(), PortFault>
-    requires usable { IsDirectory (F.contents store.old.disk.now) store.old.tracks.taken.items
-        table.old.quota table.old.used table.old.files.items }
+    requires usable { IsOn (tracked F.Medium store.old) table.old }
     requires small { table.old.used < 2 ^ 32 }
     ensures left { (contents : List (List ℕ)) → Leaves result (deleted name (files_on contents table.old.files.items))
         (files_on contents table.old.files.items) (files_on contents table.new.files.items) }
-    ensures others { (others : ℕ → ℕ) → StandBeside others store.old.tracks.taken.items table.old.files.items
-        → StandBeside others store.new.tracks.taken.items table.new.files.items }
-    ensures usable { IsDirectory (F.contents store.new.disk.now) store.new.tracks.taken.items
-        table.new.quota table.new.used table.new.files.items }
-    ensures quota { table.new.quota ≡ table.old.quota }
-    ensures counts { count_taken store.new.tracks.taken.items + table.old.used
-        ≡ count_taken store.old.tracks.taken.items + table.new.used }
-    ensures many { length store.new.tracks.taken.items ≡ length store.old.tracks.taken.items }
+    ensures frees { Frees (tracked F.Medium store.old) (tracked F.Medium store.new) table.old table.new }
     ensures same { store.new.disk.ghost_name ≡ store.old.disk.ghost_name }
     ensures now { store.new.disk.now ≡ store.old.disk.now }
     ensures disk { ¬ IsErrOf result PortFault.Disk }
@@ -77,22 +60,13 @@ pub(crate) fn delete_in<F: Medium>(
 
 /// Takes the file at a place out if it is temporary.
 fn drop_at<F: Medium>(table: &mut TrackTable, store: &mut TrackStore<'_, F>, at: usize)
-    requires usable { IsDirectory (F.contents store.old.disk.now) store.old.tracks.taken.items
-        table.old.quota table.old.used table.old.files.items }
+    requires usable { IsOn (tracked F.Medium store.old) table.old }
     requires at { at < length table.old.files.items }
     requires small { table.old.used < 2 ^ 32 }
     ensures items { (d : Filed) → table.new.files.items
         ≡ (if nat_eq (slice_index_or table.old.files.items at d).mode 0
         then remove table.old.files.items at else table.old.files.items) }
-    ensures others { (others : ℕ → ℕ) → StandBeside others store.old.tracks.taken.items table.old.files.items
-        → StandBeside others store.new.tracks.taken.items table.new.files.items }
-    ensures usable { IsDirectory (F.contents store.new.disk.now) store.new.tracks.taken.items
-        table.new.quota table.new.used table.new.files.items }
-    ensures quota { table.new.quota ≡ table.old.quota }
-    ensures less { table.new.used ≤ table.old.used }
-    ensures counts { count_taken store.new.tracks.taken.items + table.old.used
-        ≡ count_taken store.old.tracks.taken.items + table.new.used }
-    ensures many { length store.new.tracks.taken.items ≡ length store.old.tracks.taken.items }
+    ensures frees { Frees (tracked F.Medium store.old) (tracked F.Medium store.new) table.old table.new }
     ensures same { store.new.disk.ghost_name ≡ store.old.disk.ghost_name }
     ensures now { store.new.disk.now ≡ store.old.disk.now }
 {
@@ -106,19 +80,11 @@ fn drop_at<F: Medium>(table: &mut TrackTable, store: &mut TrackStore<'_, F>, at:
 impl TrackTable {
     /// Takes the files of mode 0 out. No call of the disk is made.
     pub fn drop_temporary<F: Medium>(&mut self, store: &mut TrackStore<'_, F>)
-        requires usable { IsDirectory (F.contents store.old.disk.now) store.old.tracks.taken.items
-            self.old.quota self.old.used self.old.files.items }
+        requires usable { IsOn (tracked F.Medium store.old) self.old }
         requires small { self.old.used < 2 ^ 32 }
         ensures left { (contents : List (List ℕ)) → files_on contents self.new.files.items
             ≡ lasting (files_on contents self.old.files.items) }
-        ensures others { (others : ℕ → ℕ) → StandBeside others store.old.tracks.taken.items self.old.files.items
-            → StandBeside others store.new.tracks.taken.items self.new.files.items }
-        ensures usable { IsDirectory (F.contents store.new.disk.now) store.new.tracks.taken.items
-            self.new.quota self.new.used self.new.files.items }
-        ensures quota { self.new.quota ≡ self.old.quota }
-        ensures counts { count_taken store.new.tracks.taken.items + self.old.used
-            ≡ count_taken store.old.tracks.taken.items + self.new.used }
-        ensures many { length store.new.tracks.taken.items ≡ length store.old.tracks.taken.items }
+        ensures frees { Frees (tracked F.Medium store.old) (tracked F.Medium store.new) self.old self.new }
         ensures same { store.new.disk.ghost_name ≡ store.old.disk.ghost_name }
         ensures now { store.new.disk.now ≡ store.old.disk.now }
     {

@@ -1,9 +1,10 @@
 //! All files of a directory, with their words.
-ghost use Rattle.std.specs.Prelude.{◌≡◌, ◌≤◌, length, true, IfOk, OnOk, IsErrOf};
+ghost use Rattle.std.specs.Prelude.{◌≡◌, true, IfOk, IsErrOf};
 ghost use Rattle.std.specs.List.{All};
-ghost use Rattle.faults.specs.Faults.{Rose, WhereTold};
-ghost use Rattle.track_store.specs.Tracks.{is_taken, Serves};
-ghost use Rattle.file_tracks.specs.Stored.{body_on, files_on, HasTracks, IsDirectory};
+ghost use Rattle.faults.specs.Faults.{WhereTold};
+ghost use Rattle.track_store.specs.Tracks.{is_taken};
+ghost use Rattle.file_tracks.specs.Stored.{body_on, files_on, HasTracks};
+ghost use Rattle.file_tracks.specs.Tracked.{tracked, IsServed, IsOn, KeepsTracks};
 
 use crate::spans::read_span;
 use crate::table::{Filed, TrackTable};
@@ -21,17 +22,11 @@ fn read_file<F: Medium>(
 ) -> Result<FileBody, StepFault>
     requires taken { All (λ t. is_taken store.old.tracks.taken.items t ≡ true) file.now.tracks.items }
     requires tracks { HasTracks file.now }
-    requires serves { Serves (F.contents store.old.disk.now) (F.record_count store.old.disk.now)
-        (F.words_each store.old.disk.now) (length store.old.tracks.taken.items) }
+    requires serves { IsServed (tracked F.Medium store.old) }
     ensures file { WhereTold (F.contents store.old.disk.now)
         (λ contents. IfOk result (λ f. f ≡ body_on contents file.now)) }
-    ensures same { store.new.disk.ghost_name ≡ store.old.disk.ghost_name }
-    ensures tracks { store.new.tracks ≡ store.old.tracks }
-    ensures contents { OnOk result (F.contents store.new.disk.now ≡ F.contents store.old.disk.now) }
-    ensures serves { Serves (F.contents store.new.disk.now) (F.record_count store.new.disk.now)
-        (F.words_each store.new.disk.now) (length store.new.tracks.taken.items) }
-    ensures faults_grow { F.faults store.old.disk.now ≤ F.faults store.new.disk.now }
-    ensures cause { IsErrOf result StepFault.Disk → Rose (F.faults store.old.disk.now) (F.faults store.new.disk.now) }
+    ensures keeps { KeepsTracks F.Medium (IsErrOf result StepFault.Disk) store.old store.new }
+    ensures contents { ¬ IsErrOf result StepFault.Disk → F.contents store.new.disk.now ≡ F.contents store.old.disk.now }
 {
     let span = read_span(alloc, store, &file.tracks)?;
     let len = span.len().min(file.words as usize);
@@ -50,20 +45,13 @@ impl TrackTable {
         alloc: Global,
         store: &mut TrackStore<'_, F>,
     ) -> Result<FileList, StepFault>
-        requires usable { IsDirectory (F.contents store.old.disk.now) store.old.tracks.taken.items
-            self.now.quota self.now.used self.now.files.items }
-        requires serves { Serves (F.contents store.old.disk.now) (F.record_count store.old.disk.now)
-            (F.words_each store.old.disk.now) (length store.old.tracks.taken.items) }
+        requires usable { IsOn (tracked F.Medium store.old) self.now }
+        requires serves { IsServed (tracked F.Medium store.old) }
         ensures files { WhereTold (F.contents store.old.disk.now)
             (λ contents. IfOk result (λ files. files ≡ files_on contents self.now.files.items)) }
-        ensures same { store.new.disk.ghost_name ≡ store.old.disk.ghost_name }
-        ensures tracks { store.new.tracks ≡ store.old.tracks }
-        ensures contents { OnOk result (F.contents store.new.disk.now ≡ F.contents store.old.disk.now) }
-        ensures serves { Serves (F.contents store.new.disk.now) (F.record_count store.new.disk.now)
-            (F.words_each store.new.disk.now) (length store.new.tracks.taken.items) }
-        ensures faults_grow { F.faults store.old.disk.now ≤ F.faults store.new.disk.now }
-        ensures cause { IsErrOf result StepFault.Disk
-            → Rose (F.faults store.old.disk.now) (F.faults store.new.disk.now) }
+        ensures keeps { KeepsTracks F.Medium (IsErrOf result StepFault.Disk) store.old store.new }
+        ensures contents { ¬ IsErrOf result StepFault.Disk
+            → F.contents store.new.disk.now ≡ F.contents store.old.disk.now }
     {
         let mut files = Sequence::new(alloc);
         'reading: for file in &self.files {

@@ -1,9 +1,10 @@
 //! Calls on a directory that change a file's name or its mode.
-ghost use Rattle.std.specs.Prelude.{◌≡◌, ℕ, Bool, List, map, Option, IsErrOf};
+ghost use Rattle.std.specs.Prelude.{ℕ, List, map, IsErrOf};
 ghost use Rattle.std.specs.List.{IsDistinct};
 ghost use Rattle.file_model.specs.Files.{same_name, renamed, moded};
 ghost use Rattle.file_map.specs.Answers.{Leaves};
-ghost use Rattle.file_tracks.specs.Stored.{files_on, occurs, IsDirectory};
+ghost use Rattle.file_tracks.specs.Stored.{files_on};
+ghost use Rattle.file_tracks.specs.Tracked.{Retells};
 ghost use Rattle.file_tracks.specs.declared.table.Filed.{Filed};
 
 use crate::table::TrackTable;
@@ -20,12 +21,7 @@ pub(crate) fn rename_in(
     ensures left { (contents : List (List ℕ))
         → Leaves result (renamed name to (files_on contents table.old.files.items))
         (files_on contents table.old.files.items) (files_on contents table.new.files.items) }
-    ensures usable { (contents : Option (List (List ℕ))) (taken : List Bool)
-        → IsDirectory contents taken table.old.quota table.old.used table.old.files.items
-        → IsDirectory contents taken table.new.quota table.new.used table.new.files.items }
-    ensures places { (t : ℕ) → occurs t table.new.files.items ≡ occurs t table.old.files.items }
-    ensures quota { table.new.quota ≡ table.old.quota }
-    ensures used { table.new.used ≡ table.old.used }
+    ensures retells { Retells table.old table.new }
     ensures disk { ¬ IsErrOf result PortFault.Disk }
     ensures memory { ¬ IsErrOf result PortFault.NoMemory }
 {
@@ -53,12 +49,7 @@ pub(crate) fn chmode_in(table: &mut TrackTable, name: FileName, mode: u8) -> Res
     ensures left { (contents : List (List ℕ))
         → Leaves result (moded name mode (files_on contents table.old.files.items))
         (files_on contents table.old.files.items) (files_on contents table.new.files.items) }
-    ensures usable { (contents : Option (List (List ℕ))) (taken : List Bool)
-        → IsDirectory contents taken table.old.quota table.old.used table.old.files.items
-        → IsDirectory contents taken table.new.quota table.new.used table.new.files.items }
-    ensures places { (t : ℕ) → occurs t table.new.files.items ≡ occurs t table.old.files.items }
-    ensures quota { table.new.quota ≡ table.old.quota }
-    ensures used { table.new.used ≡ table.old.used }
+    ensures retells { Retells table.old table.new }
     ensures disk { ¬ IsErrOf result PortFault.Disk }
     ensures memory { ¬ IsErrOf result PortFault.NoMemory }
 {

@@ -1,14 +1,13 @@
 //! Calls on a directory that leave its files as they are.
 ghost use Rattle.std.specs.Prelude.{◌≡◌, ◌<◌, ◌≤◌, ◌++◌, ◌^◌, ◌%◌, ℕ, List, length, map, take, drop, None, Ok, IfOk, IsErrOf};
 ghost use Rattle.std.specs.List.{All};
-ghost use Rattle.faults.specs.Faults.{Rose, WhereTold};
 ghost use Rattle.file_model.specs.Files.{stat, read, got};
 ghost use Rattle.file_map.specs.Answers.{Answers};
 ghost use Rattle.file_map.specs.Listing.{listing_of};
-ghost use Rattle.track_store.specs.Tracks.{Serves};
 ghost use Rattle.track_store.specs.Words.{Gave};
-ghost use Rattle.file_tracks.specs.Stored.{files_on, row_for, HasTracks, IsWhole, MayBe, IsDirectory};
+ghost use Rattle.file_tracks.specs.Stored.{files_on, row_for, HasTracks, IsWhole, MayBe};
 ghost use Rattle.file_tracks.specs.Directories.{IsOne};
+ghost use Rattle.file_tracks.specs.Tracked.{tracked, IsReady, KeepsTracks};
 
 use crate::spans::read_span;
 use crate::table::{Filed, TrackTable};
@@ -50,29 +49,16 @@ pub(crate) fn get_in<F: Medium>(
     store: &mut TrackStore<'_, F>,
     name: FileName,
 ) -> Result<WordList, PortFault>
-    requires usable { IsDirectory (F.contents store.old.disk.now) store.old.tracks.taken.items
-        table.now.quota table.now.used table.now.files.items }
-    requires serves { Serves (F.contents store.old.disk.now) (F.record_count store.old.disk.now)
-        (F.words_each store.old.disk.now) (length store.old.tracks.taken.items) }
-    ensures answer { WhereTold (F.contents store.old.disk.now)
-        (λ contents. Answers result (got name (files_on contents table.now.files.items))) }
+    requires ready { IsReady (tracked F.Medium store.old) table.now }
     ensures any { (contents : List (List ℕ)) × (MayBe (F.contents store.old.disk.now) contents
         × (All (IsWhole contents) table.now.files.items
         × Answers result (got name (files_on contents table.now.files.items)))) }
     ensures bound { IfOk result (λ words. length words < 2 ^ 32) }
     ensures gave { IfOk result (λ ws. (more : List ℕ)
         × Gave (F.calls store.old.disk.now) (F.calls store.new.disk.now) (ws ++ more)) }
-    ensures same { store.new.disk.ghost_name ≡ store.old.disk.ghost_name }
-    ensures tracks { store.new.tracks ≡ store.old.tracks }
+    ensures keeps { KeepsTracks F.Medium (IsErrOf result PortFault.Disk) store.old store.new }
     ensures contents { ¬ IsErrOf result PortFault.Disk → F.contents store.new.disk.now ≡ F.contents store.old.disk.now }
-    ensures serves { Serves (F.contents store.new.disk.now) (F.record_count store.new.disk.now)
-        (F.words_each store.new.disk.now) (length store.new.tracks.taken.items) }
-    ensures faults_grow { F.faults store.old.disk.now ≤ F.faults store.new.disk.now }
-    ensures cause { IsErrOf result PortFault.Disk
-        → Rose (F.faults store.old.disk.now) (F.faults store.new.disk.now) }
 {
-    // The quota is read for its range, which bounds a file's words.
-    let _quota = table.quota;
     let Some(at) = table.place(name) else {
         return Err(PortFault::Refused(Refusal::NoFile));
     };
@@ -98,13 +84,7 @@ pub(crate) fn read_in<F: Medium>(
     place: u64,
     count: u16,
 ) -> Result<WordList, PortFault>
-    requires usable { IsDirectory (F.contents store.old.disk.now) store.old.tracks.taken.items
-        table.now.quota table.now.used table.now.files.items }
-    requires small { table.now.used < 2 ^ 32 }
-    requires serves { Serves (F.contents store.old.disk.now) (F.record_count store.old.disk.now)
-        (F.words_each store.old.disk.now) (length store.old.tracks.taken.items) }
-    ensures answer { WhereTold (F.contents store.old.disk.now)
-        (λ contents. Answers result (read name place count (files_on contents table.now.files.items))) }
+    requires ready { IsReady (tracked F.Medium store.old) table.now }
     ensures any { (contents : List (List ℕ)) × (MayBe (F.contents store.old.disk.now) contents
         × (All (IsWhole contents) table.now.files.items
         × Answers result (read name place count (files_on contents table.now.files.items)))) }
@@ -112,14 +92,8 @@ pub(crate) fn read_in<F: Medium>(
         × (Gave (F.calls store.old.disk.now) (F.calls store.new.disk.now) d
         × (ws ≡ take count (drop (place % 432) d)))) }
     ensures len { IfOk result (λ ws. length ws ≡ count) }
-    ensures same { store.new.disk.ghost_name ≡ store.old.disk.ghost_name }
-    ensures tracks { store.new.tracks ≡ store.old.tracks }
+    ensures keeps { KeepsTracks F.Medium (IsErrOf result PortFault.Disk) store.old store.new }
     ensures contents { ¬ IsErrOf result PortFault.Disk → F.contents store.new.disk.now ≡ F.contents store.old.disk.now }
-    ensures serves { Serves (F.contents store.new.disk.now) (F.record_count store.new.disk.now)
-        (F.words_each store.new.disk.now) (length store.new.tracks.taken.items) }
-    ensures faults_grow { F.faults store.old.disk.now ≤ F.faults store.new.disk.now }
-    ensures cause { IsErrOf result PortFault.Disk
-        → Rose (F.faults store.old.disk.now) (F.faults store.new.disk.now) }
 {
     let Some(at) = table.place(name) else {
         return Err(PortFault::Refused(Refusal::NoFile));

@@ -1,11 +1,13 @@
 //! Words of several tracks at once, and tracks taken and given back.
-ghost use Rattle.std.specs.Prelude.{◌≡◌, ◌<◌, ◌≤◌, ◌+◌, ◌-◌, ◌*◌, ◌++◌, ◌∷◌, [], ◌^◌, ℕ, length, true, is_err, take, drop, replicate, vec_len, vec_capacity, IfOk, OnOk, OnErr, IsErrOf};
+ghost use Rattle.std.specs.Prelude.{◌≡◌, ◌<◌, ◌≤◌, ◌+◌, ◌*◌, ◌++◌, ◌∷◌, [], ℕ, length, true, take, replicate, vec_len, vec_capacity, IfOk, OnOk, IsErr, IsErrOf};
 ghost use Rattle.std.specs.List.{All};
-ghost use Rattle.faults.specs.Faults.{Rose, WhereTold};
+ghost use Rattle.faults.specs.Faults.{WhereTold};
 ghost use Rattle.medium.specs.Medium.{AreWords};
-ghost use Rattle.track_store.specs.Tracks.{count_taken, is_taken, Serves};
-ghost use Rattle.track_store.specs.Words.{record_at, joined, with_words, Gave};
+ghost use Rattle.track_store.specs.Tracks.{count_taken, is_taken};
+ghost use Rattle.track_store.specs.Words.{joined, with_words, Gave};
 ghost use Rattle.file_tracks.specs.Places.{count_in, bit};
+ghost use Rattle.file_tracks.specs.Tracked.{tracked, IsServed, KeepsTracks};
+ghost use Rattle.file_tracks.specs.Written.{AreRetaken};
 
 use ctss_types::StepFault;
 use medium::Medium;
@@ -44,104 +46,33 @@ fn push_all(words: &mut Vec<u64>, from: &[u64]) -> Result<(), StepFault>
     Ok(())
 }
 
-/// The words of a track more.
-#[tactic(auto, using(crate::proofs::Gives::gave_read))]
-fn read_more<F: Medium>(
-    store: &mut TrackStore<'_, F>,
-    track: u16,
-    buffer: &mut [u64],
-    words: &mut Vec<u64>,
-) -> Result<(), StepFault>
-    requires whole { length buffer.old ≡ 432 }
-    requires buffer { AreWords buffer.old }
-    requires taken { is_taken store.old.tracks.taken.items track ≡ true }
-    requires serves { Serves (F.contents store.old.disk.now) (F.record_count store.old.disk.now)
-        (F.words_each store.old.disk.now) (length store.old.tracks.taken.items) }
-    requires words { AreWords words.old.items }
-    ensures whole { length buffer.new ≡ 432 }
-    ensures buffer { AreWords buffer.new }
-    ensures same { store.new.disk.ghost_name ≡ store.old.disk.ghost_name }
-    ensures tracks { store.new.tracks ≡ store.old.tracks }
-    ensures serves { Serves (F.contents store.new.disk.now) (F.record_count store.new.disk.now)
-        (F.words_each store.new.disk.now) (length store.new.tracks.taken.items) }
-    ensures words { OnOk result (AreWords words.new.items) }
-    ensures len { OnOk result (length words.new.items ≡ length words.old.items + 432) }
-    ensures front { OnOk result (take (length words.old.items) words.new.items ≡ words.old.items) }
-    ensures given { OnOk result (WhereTold (F.contents store.old.disk.now)
-        (λ contents. words.new.items ≡ words.old.items ++ record_at contents track)) }
-    ensures gave { OnOk result (Gave (F.calls store.old.disk.now) (F.calls store.new.disk.now)
-        (drop (length words.old.items) words.new.items)) }
-    ensures contents { OnOk result (F.contents store.new.disk.now ≡ F.contents store.old.disk.now) }
-    ensures memory { IsErrOf result StepFault.NoMemory → F.contents store.new.disk.now ≡ F.contents store.old.disk.now }
-    ensures faults_grow { F.faults store.old.disk.now ≤ F.faults store.new.disk.now }
-    ensures cause { IsErrOf result StepFault.Disk → Rose (F.faults store.old.disk.now) (F.faults store.new.disk.now) }
-{
-    if store.read_track(track, buffer).is_err() {
-        return Err(StepFault::Disk);
-    }
-    push_all(words, buffer)?;
-    Ok(())
-}
-
-/// The words of these tracks, one after another, with room for a track's words.
-#[tactic(auto, using(crate::proofs::Gives::gave_none, crate::proofs::Gives::gave_more))]
-fn read_all<F: Medium>(
-    alloc: Global,
-    store: &mut TrackStore<'_, F>,
-    tracks: &[u16],
-    buffer: &mut [u64],
-) -> Result<Vec<u64>, StepFault>
-    requires whole { length buffer.old ≡ 432 }
-    requires buffer { AreWords buffer.old }
-    requires taken { All (λ t. is_taken store.old.tracks.taken.items t ≡ true) tracks.now }
-    requires serves { Serves (F.contents store.old.disk.now) (F.record_count store.old.disk.now)
-        (F.words_each store.old.disk.now) (length store.old.tracks.taken.items) }
-    ensures same { store.new.disk.ghost_name ≡ store.old.disk.ghost_name }
-    ensures tracks { store.new.tracks ≡ store.old.tracks }
-    ensures serves { Serves (F.contents store.new.disk.now) (F.record_count store.new.disk.now)
-        (F.words_each store.new.disk.now) (length store.new.tracks.taken.items) }
-    ensures words { IfOk result (λ words. AreWords words.items) }
-    ensures len { IfOk result (λ words. length words.items ≡ 432 * length tracks.now) }
-    ensures given { IfOk result (λ words. WhereTold (F.contents store.old.disk.now) (λ contents. words.items
-        ≡ joined contents tracks.now)) }
-    ensures gave { IfOk result (λ words. Gave (F.calls store.old.disk.now) (F.calls store.new.disk.now) words.items) }
-    ensures contents { OnOk result (F.contents store.new.disk.now ≡ F.contents store.old.disk.now) }
-    ensures memory { IsErrOf result StepFault.NoMemory → F.contents store.new.disk.now ≡ F.contents store.old.disk.now }
-    ensures faults_grow { F.faults store.old.disk.now ≤ F.faults store.new.disk.now }
-    ensures cause { IsErrOf result StepFault.Disk → Rose (F.faults store.old.disk.now) (F.faults store.new.disk.now) }
-{
-    let mut words = room_for(alloc, 0)?;
-    'reading: for track in tracks {
-        read_more(store, *track, buffer, &mut words)?;
-    }
-    Ok(words)
-}
-
 /// The words of these tracks, one after another.
+#[tactic(auto, using(crate::proofs::Gives::gave_none, crate::proofs::Gives::gave_more))]
 pub(crate) fn read_span<F: Medium>(
     alloc: Global,
     store: &mut TrackStore<'_, F>,
     tracks: &[u16],
 ) -> Result<Vec<u64>, StepFault>
     requires taken { All (λ t. is_taken store.old.tracks.taken.items t ≡ true) tracks.now }
-    requires serves { Serves (F.contents store.old.disk.now) (F.record_count store.old.disk.now)
-        (F.words_each store.old.disk.now) (length store.old.tracks.taken.items) }
-    ensures same { store.new.disk.ghost_name ≡ store.old.disk.ghost_name }
-    ensures tracks { store.new.tracks ≡ store.old.tracks }
-    ensures serves { Serves (F.contents store.new.disk.now) (F.record_count store.new.disk.now)
-        (F.words_each store.new.disk.now) (length store.new.tracks.taken.items) }
+    requires serves { IsServed (tracked F.Medium store.old) }
+    ensures keeps { KeepsTracks F.Medium (IsErrOf result StepFault.Disk) store.old store.new }
+    ensures contents { ¬ IsErrOf result StepFault.Disk → F.contents store.new.disk.now ≡ F.contents store.old.disk.now }
     ensures words { IfOk result (λ words. AreWords words.items) }
     ensures len { IfOk result (λ words. length words.items ≡ 432 * length tracks.now) }
-    ensures given { IfOk result (λ words. WhereTold (F.contents store.old.disk.now) (λ contents. words.items
-        ≡ joined contents tracks.now)) }
+    ensures given { IfOk result (λ words. WhereTold (F.contents store.old.disk.now)
+        (λ contents. words.items ≡ joined contents tracks.now)) }
     ensures gave { IfOk result (λ words. Gave (F.calls store.old.disk.now) (F.calls store.new.disk.now) words.items) }
-    ensures contents { OnOk result (F.contents store.new.disk.now ≡ F.contents store.old.disk.now) }
-    ensures memory { IsErrOf result StepFault.NoMemory → F.contents store.new.disk.now ≡ F.contents store.old.disk.now }
-    ensures faults_grow { F.faults store.old.disk.now ≤ F.faults store.new.disk.now }
-    ensures cause { IsErrOf result StepFault.Disk → Rose (F.faults store.old.disk.now) (F.faults store.new.disk.now) }
 {
-    let mut buffer = zeros(alloc, 432)?;
-    read_all(alloc, store, tracks, &mut buffer)
+    let mut track_words = zeros(alloc, 432)?;
+    let buffer = track_words.as_mut_slice();
+    let mut words = room_for(alloc, 0)?;
+    'reading: for track in tracks {
+        let Ok(()) = store.read_track(*track, buffer) else {
+            return Err(StepFault::Disk);
+        };
+        push_all(&mut words, buffer)?;
+    }
+    Ok(words)
 }
 
 /// Writes words into these tracks, 432 each.
@@ -154,16 +85,10 @@ pub(crate) fn write_span<F: Medium>(
     requires taken { All (λ t. is_taken store.old.tracks.taken.items t ≡ true) tracks.now }
     requires whole { length words.now ≡ 432 * length tracks.now }
     requires words { AreWords words.now }
-    requires serves { Serves (F.contents store.old.disk.now) (F.record_count store.old.disk.now)
-        (F.words_each store.old.disk.now) (length store.old.tracks.taken.items) }
-    ensures same { store.new.disk.ghost_name ≡ store.old.disk.ghost_name }
-    ensures tracks { store.new.tracks ≡ store.old.tracks }
-    ensures serves { Serves (F.contents store.new.disk.now) (F.record_count store.new.disk.now)
-        (F.words_each store.new.disk.now) (length store.new.tracks.taken.items) }
+    requires serves { IsServed (tracked F.Medium store.old) }
+    ensures keeps { KeepsTracks F.Medium (IsErr result) store.old store.new }
     ensures contents { OnOk result (F.contents store.new.disk.now
         ≡ with_words (F.contents store.old.disk.now) tracks.now words.now) }
-    ensures faults_grow { F.faults store.old.disk.now ≤ F.faults store.new.disk.now }
-    ensures cause { OnErr result (Rose (F.faults store.old.disk.now) (F.faults store.new.disk.now)) }
 {
     'writing: for i in 0..tracks.len() {
         let from = 432 * i;
@@ -188,13 +113,9 @@ pub(crate) fn take_more<F: Medium>(
     ensures same { store.new.disk.ghost_name ≡ store.old.disk.ghost_name }
     ensures now { store.new.disk.now ≡ store.old.disk.now }
     ensures many { length store.new.tracks.taken.items ≡ length store.old.tracks.taken.items }
-    ensures len { length tracks.new.items ≡ length tracks.old.items + count }
     ensures front { take (length tracks.old.items) tracks.new.items ≡ tracks.old.items }
-    ensures counts { count_taken store.new.tracks.taken.items ≡ count_taken store.old.tracks.taken.items + count }
-    ensures bits { (t : ℕ) → count_in t tracks.new.items + bit store.old.tracks.taken.items t
-        ≡ count_in t tracks.old.items + bit store.new.tracks.taken.items t }
-    ensures stay { (t : ℕ) → is_taken store.old.tracks.taken.items t ≡ true
-        → is_taken store.new.tracks.taken.items t ≡ true }
+    ensures more { AreRetaken store.old.tracks.taken.items store.new.tracks.taken.items
+        tracks.old.items tracks.new.items (length tracks.old.items + count) }
 {
     'taking: for _k in 0..count {
         take_one(store, tracks);
@@ -202,21 +123,17 @@ pub(crate) fn take_more<F: Medium>(
 }
 
 /// Takes a track more.
-#[tactic(auto, using(crate::proofs::Bits::bits_taken, crate::proofs::Bits::stays_taken))]
+#[tactic(auto, using(crate::proofs::Bits::bits_taken))]
 fn take_one<F: Medium>(store: &mut TrackStore<'_, F>, tracks: &mut Vec<u16>)
     requires room { vec_len tracks.old < vec_capacity tracks.old }
     requires free { count_taken store.old.tracks.taken.items < length store.old.tracks.taken.items }
     ensures same { store.new.disk.ghost_name ≡ store.old.disk.ghost_name }
     ensures now { store.new.disk.now ≡ store.old.disk.now }
     ensures many { length store.new.tracks.taken.items ≡ length store.old.tracks.taken.items }
-    ensures len { vec_len tracks.new ≡ vec_len tracks.old + 1 }
     ensures capacity { vec_capacity tracks.old ≤ vec_capacity tracks.new }
     ensures front { (t : ℕ) × (tracks.new.items ≡ tracks.old.items ++ t ∷ []) }
-    ensures counts { count_taken store.new.tracks.taken.items ≡ count_taken store.old.tracks.taken.items + 1 }
-    ensures bits { (t : ℕ) → count_in t tracks.new.items + bit store.old.tracks.taken.items t
-        ≡ count_in t tracks.old.items + bit store.new.tracks.taken.items t }
-    ensures stay { (t : ℕ) → is_taken store.old.tracks.taken.items t ≡ true
-        → is_taken store.new.tracks.taken.items t ≡ true }
+    ensures more { AreRetaken store.old.tracks.taken.items store.new.tracks.taken.items
+        tracks.old.items tracks.new.items (length tracks.old.items + 1) }
 {
     let Ok(track) = store.take() else {
         unreachable!()

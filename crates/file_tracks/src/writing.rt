@@ -1,11 +1,9 @@
 //! Calls on a directory that write words.
-ghost use Rattle.std.specs.Prelude.{◌≡◌, ◌<◌, ◌≤◌, ◌+◌, ◌++◌, ◌∷◌, [], ◌^◌, ℕ, List, length, vec_len, vec_capacity, slice_index_or, Some, None, OnOk, IsErrOf};
-ghost use Rattle.faults.specs.Faults.{Rose};
+ghost use Rattle.std.specs.Prelude.{◌≡◌, ◌<◌, ◌++◌, ◌∷◌, [], ℕ, List, length, vec_len, vec_capacity, slice_index_or, Some, None, OnOk, IsErrOf};
 ghost use Rattle.ctss_types.specs.declared.file.Refusal.{Refusal};
 ghost use Rattle.file_model.specs.Files.{file_named, put, written, appended, if_they_fit, with_new};
-ghost use Rattle.track_store.specs.Tracks.{count_taken, Serves};
-ghost use Rattle.file_tracks.specs.Stored.{body_on, files_on, IsDirectory, StandBeside, LeavesOthers, LeavesAny};
-ghost use Rattle.file_tracks.specs.Seen.{tells_of};
+ghost use Rattle.file_tracks.specs.Stored.{body_on, files_on};
+ghost use Rattle.file_tracks.specs.Tracked.{tracked, IsReady, Writes};
 ghost use Rattle.file_tracks.specs.declared.table.Filed.{Filed};
 
 use crate::patches::{rewritten, written_over};
@@ -19,7 +17,6 @@ use track_store::TrackStore;
 use word36::Word;
 
 /// Other words for the file at a place, in other tracks.
-#[tactic(auto, using(crate::proofs::Puts::within_used, crate::proofs::Puts::old_bits, crate::proofs::Puts::room_for_more))]
 fn replace_in<F: Medium>(
     alloc: Global,
     table: &mut TrackTable,
@@ -28,39 +25,15 @@ fn replace_in<F: Medium>(
     at: usize,
     words: &[Word],
 ) -> Result<(), PortFault>
-    requires usable { IsDirectory (F.contents store.old.disk.now) store.old.tracks.taken.items
-        table.old.quota table.old.used table.old.files.items }
-    requires serves { Serves (F.contents store.old.disk.now) (F.record_count store.old.disk.now)
-        (F.words_each store.old.disk.now) (length store.old.tracks.taken.items) }
+    requires ready { IsReady (tracked F.Medium store.old) table.old }
     requires at { at < length table.old.files.items }
     requires found { (contents : List (List ℕ)) (d : Filed) → file_named name (files_on contents table.old.files.items)
         ≡ Some (body_on contents (slice_index_or table.old.files.items at d)) }
-    requires small { table.old.used < 2 ^ 32 }
-    ensures any { ¬ IsErrOf result PortFault.Disk
-        → LeavesAny result (put name words.now table.old.quota)
-        (F.contents store.old.disk.now) (F.contents store.new.disk.now) (length store.old.tracks.taken.items)
-        table.old.files.items table.new.files.items }
-    ensures others { ¬ IsErrOf result PortFault.Disk → (others : ℕ → ℕ)
-        → StandBeside others store.old.tracks.taken.items table.old.files.items
-        → LeavesOthers (F.contents store.old.disk.now) (F.contents store.new.disk.now) store.old.tracks.taken.items
-        store.new.tracks.taken.items table.old.files.items table.new.files.items others }
-    ensures usable { ¬ IsErrOf result PortFault.Disk
-        → IsDirectory (F.contents store.new.disk.now) store.new.tracks.taken.items
-        table.new.quota table.new.used table.new.files.items }
-    ensures quota { table.new.quota ≡ table.old.quota }
+    ensures writes { Writes (put name words.now table.old.quota) result
+        (tracked F.Medium store.old) (tracked F.Medium store.new) table.old table.new }
     ensures refused { (r : Refusal) → IsErrOf result (PortFault.Refused r)
         → store.new.disk.now ≡ store.old.disk.now }
-    ensures telling { ¬ IsErrOf result PortFault.Disk
-        → tells_of (F.contents store.new.disk.now) ≡ tells_of (F.contents store.old.disk.now) }
-    ensures counts { ¬ IsErrOf result PortFault.Disk → count_taken store.new.tracks.taken.items + table.old.used
-        ≡ count_taken store.old.tracks.taken.items + table.new.used }
-    ensures many { length store.new.tracks.taken.items ≡ length store.old.tracks.taken.items }
     ensures same { store.new.disk.ghost_name ≡ store.old.disk.ghost_name }
-    ensures serves { Serves (F.contents store.new.disk.now) (F.record_count store.new.disk.now)
-        (F.words_each store.new.disk.now) (length store.new.tracks.taken.items) }
-    ensures faults_grow { F.faults store.old.disk.now ≤ F.faults store.new.disk.now }
-    ensures cause { IsErrOf result PortFault.Disk
-        → Rose (F.faults store.old.disk.now) (F.faults store.new.disk.now) }
 {
     let file = &table.files[at];
     if file.mode >= 2 {
@@ -93,39 +66,15 @@ fn write_at<F: Medium>(
     place: u64,
     words: &[Word],
 ) -> Result<(), PortFault>
-    requires usable { IsDirectory (F.contents store.old.disk.now) store.old.tracks.taken.items
-        table.old.quota table.old.used table.old.files.items }
-    requires serves { Serves (F.contents store.old.disk.now) (F.record_count store.old.disk.now)
-        (F.words_each store.old.disk.now) (length store.old.tracks.taken.items) }
+    requires ready { IsReady (tracked F.Medium store.old) table.old }
     requires at { at < length table.old.files.items }
     requires found { (contents : List (List ℕ)) (d : Filed) → file_named name (files_on contents table.old.files.items)
         ≡ Some (body_on contents (slice_index_or table.old.files.items at d)) }
-    requires small { table.old.used < 2 ^ 32 }
-    ensures any { ¬ IsErrOf result PortFault.Disk
-        → LeavesAny result (written name place words.now table.old.quota)
-        (F.contents store.old.disk.now) (F.contents store.new.disk.now) (length store.old.tracks.taken.items)
-        table.old.files.items table.new.files.items }
-    ensures others { ¬ IsErrOf result PortFault.Disk → (others : ℕ → ℕ)
-        → StandBeside others store.old.tracks.taken.items table.old.files.items
-        → LeavesOthers (F.contents store.old.disk.now) (F.contents store.new.disk.now) store.old.tracks.taken.items
-        store.new.tracks.taken.items table.old.files.items table.new.files.items others }
-    ensures usable { ¬ IsErrOf result PortFault.Disk
-        → IsDirectory (F.contents store.new.disk.now) store.new.tracks.taken.items
-        table.new.quota table.new.used table.new.files.items }
-    ensures quota { table.new.quota ≡ table.old.quota }
+    ensures writes { Writes (written name place words.now table.old.quota) result
+        (tracked F.Medium store.old) (tracked F.Medium store.new) table.old table.new }
     ensures refused { (r : Refusal) → IsErrOf result (PortFault.Refused r)
         → store.new.disk.now ≡ store.old.disk.now }
-    ensures telling { ¬ IsErrOf result PortFault.Disk
-        → tells_of (F.contents store.new.disk.now) ≡ tells_of (F.contents store.old.disk.now) }
-    ensures counts { ¬ IsErrOf result PortFault.Disk → count_taken store.new.tracks.taken.items + table.old.used
-        ≡ count_taken store.old.tracks.taken.items + table.new.used }
-    ensures many { length store.new.tracks.taken.items ≡ length store.old.tracks.taken.items }
     ensures same { store.new.disk.ghost_name ≡ store.old.disk.ghost_name }
-    ensures serves { Serves (F.contents store.new.disk.now) (F.record_count store.new.disk.now)
-        (F.words_each store.new.disk.now) (length store.new.tracks.taken.items) }
-    ensures faults_grow { F.faults store.old.disk.now ≤ F.faults store.new.disk.now }
-    ensures cause { IsErrOf result PortFault.Disk
-        → Rose (F.faults store.old.disk.now) (F.faults store.new.disk.now) }
 {
     let file = &table.files[at];
     if file.mode >= 2 {
@@ -182,37 +131,13 @@ fn make<F: Medium>(
     name: FileName,
     words: &[Word],
 ) -> Result<(), PortFault>
-    requires usable { IsDirectory (F.contents store.old.disk.now) store.old.tracks.taken.items
-        table.old.quota table.old.used table.old.files.items }
-    requires serves { Serves (F.contents store.old.disk.now) (F.record_count store.old.disk.now)
-        (F.words_each store.old.disk.now) (length store.old.tracks.taken.items) }
+    requires ready { IsReady (tracked F.Medium store.old) table.old }
     requires absent { (contents : List (List ℕ)) → file_named name (files_on contents table.old.files.items) ≡ None }
-    requires small { table.old.used < 2 ^ 32 }
-    ensures any { ¬ IsErrOf result PortFault.Disk
-        → LeavesAny result (λ files. if_they_fit table.old.quota (with_new name words.now files))
-        (F.contents store.old.disk.now) (F.contents store.new.disk.now) (length store.old.tracks.taken.items)
-        table.old.files.items table.new.files.items }
-    ensures others { ¬ IsErrOf result PortFault.Disk → (others : ℕ → ℕ)
-        → StandBeside others store.old.tracks.taken.items table.old.files.items
-        → LeavesOthers (F.contents store.old.disk.now) (F.contents store.new.disk.now) store.old.tracks.taken.items
-        store.new.tracks.taken.items table.old.files.items table.new.files.items others }
-    ensures usable { ¬ IsErrOf result PortFault.Disk
-        → IsDirectory (F.contents store.new.disk.now) store.new.tracks.taken.items
-        table.new.quota table.new.used table.new.files.items }
-    ensures quota { table.new.quota ≡ table.old.quota }
+    ensures writes { Writes (λ files. if_they_fit table.old.quota (with_new name words.now files)) result
+        (tracked F.Medium store.old) (tracked F.Medium store.new) table.old table.new }
     ensures refused { (r : Refusal) → IsErrOf result (PortFault.Refused r)
         → store.new.disk.now ≡ store.old.disk.now }
-    ensures telling { ¬ IsErrOf result PortFault.Disk
-        → tells_of (F.contents store.new.disk.now) ≡ tells_of (F.contents store.old.disk.now) }
-    ensures counts { ¬ IsErrOf result PortFault.Disk → count_taken store.new.tracks.taken.items + table.old.used
-        ≡ count_taken store.old.tracks.taken.items + table.new.used }
-    ensures many { length store.new.tracks.taken.items ≡ length store.old.tracks.taken.items }
     ensures same { store.new.disk.ghost_name ≡ store.old.disk.ghost_name }
-    ensures serves { Serves (F.contents store.new.disk.now) (F.record_count store.new.disk.now)
-        (F.words_each store.new.disk.now) (length store.new.tracks.taken.items) }
-    ensures faults_grow { F.faults store.old.disk.now ≤ F.faults store.new.disk.now }
-    ensures cause { IsErrOf result PortFault.Disk
-        → Rose (F.faults store.old.disk.now) (F.faults store.new.disk.now) }
 {
     let after = tracks_for(words.len() as u64);
     let Some(used) = used_after(table.used, table.quota, 0, after) else {
@@ -244,36 +169,12 @@ pub(crate) fn put_in<F: Medium>(
     name: FileName,
     words: &[Word],
 ) -> Result<(), PortFault>
-    requires usable { IsDirectory (F.contents store.old.disk.now) store.old.tracks.taken.items
-        table.old.quota table.old.used table.old.files.items }
-    requires serves { Serves (F.contents store.old.disk.now) (F.record_count store.old.disk.now)
-        (F.words_each store.old.disk.now) (length store.old.tracks.taken.items) }
-    requires small { table.old.used < 2 ^ 32 }
-    ensures any { ¬ IsErrOf result PortFault.Disk
-        → LeavesAny result (put name words.now table.old.quota)
-        (F.contents store.old.disk.now) (F.contents store.new.disk.now) (length store.old.tracks.taken.items)
-        table.old.files.items table.new.files.items }
-    ensures others { ¬ IsErrOf result PortFault.Disk → (others : ℕ → ℕ)
-        → StandBeside others store.old.tracks.taken.items table.old.files.items
-        → LeavesOthers (F.contents store.old.disk.now) (F.contents store.new.disk.now) store.old.tracks.taken.items
-        store.new.tracks.taken.items table.old.files.items table.new.files.items others }
-    ensures usable { ¬ IsErrOf result PortFault.Disk
-        → IsDirectory (F.contents store.new.disk.now) store.new.tracks.taken.items
-        table.new.quota table.new.used table.new.files.items }
-    ensures quota { table.new.quota ≡ table.old.quota }
+    requires ready { IsReady (tracked F.Medium store.old) table.old }
+    ensures writes { Writes (put name words.now table.old.quota) result
+        (tracked F.Medium store.old) (tracked F.Medium store.new) table.old table.new }
     ensures refused { (r : Refusal) → IsErrOf result (PortFault.Refused r)
         → store.new.disk.now ≡ store.old.disk.now }
-    ensures telling { ¬ IsErrOf result PortFault.Disk
-        → tells_of (F.contents store.new.disk.now) ≡ tells_of (F.contents store.old.disk.now) }
-    ensures counts { ¬ IsErrOf result PortFault.Disk → count_taken store.new.tracks.taken.items + table.old.used
-        ≡ count_taken store.old.tracks.taken.items + table.new.used }
-    ensures many { length store.new.tracks.taken.items ≡ length store.old.tracks.taken.items }
     ensures same { store.new.disk.ghost_name ≡ store.old.disk.ghost_name }
-    ensures serves { Serves (F.contents store.new.disk.now) (F.record_count store.new.disk.now)
-        (F.words_each store.new.disk.now) (length store.new.tracks.taken.items) }
-    ensures faults_grow { F.faults store.old.disk.now ≤ F.faults store.new.disk.now }
-    ensures cause { IsErrOf result PortFault.Disk
-        → Rose (F.faults store.old.disk.now) (F.faults store.new.disk.now) }
 {
     let Some(at) = table.place(name) else {
         return make(alloc, table, store, name, words);
@@ -290,36 +191,12 @@ pub(crate) fn write_in<F: Medium>(
     place: u64,
     words: &[Word],
 ) -> Result<(), PortFault>
-    requires usable { IsDirectory (F.contents store.old.disk.now) store.old.tracks.taken.items
-        table.old.quota table.old.used table.old.files.items }
-    requires serves { Serves (F.contents store.old.disk.now) (F.record_count store.old.disk.now)
-        (F.words_each store.old.disk.now) (length store.old.tracks.taken.items) }
-    requires small { table.old.used < 2 ^ 32 }
-    ensures any { ¬ IsErrOf result PortFault.Disk
-        → LeavesAny result (written name place words.now table.old.quota)
-        (F.contents store.old.disk.now) (F.contents store.new.disk.now) (length store.old.tracks.taken.items)
-        table.old.files.items table.new.files.items }
-    ensures others { ¬ IsErrOf result PortFault.Disk → (others : ℕ → ℕ)
-        → StandBeside others store.old.tracks.taken.items table.old.files.items
-        → LeavesOthers (F.contents store.old.disk.now) (F.contents store.new.disk.now) store.old.tracks.taken.items
-        store.new.tracks.taken.items table.old.files.items table.new.files.items others }
-    ensures usable { ¬ IsErrOf result PortFault.Disk
-        → IsDirectory (F.contents store.new.disk.now) store.new.tracks.taken.items
-        table.new.quota table.new.used table.new.files.items }
-    ensures quota { table.new.quota ≡ table.old.quota }
+    requires ready { IsReady (tracked F.Medium store.old) table.old }
+    ensures writes { Writes (written name place words.now table.old.quota) result
+        (tracked F.Medium store.old) (tracked F.Medium store.new) table.old table.new }
     ensures refused { (r : Refusal) → IsErrOf result (PortFault.Refused r)
         → store.new.disk.now ≡ store.old.disk.now }
-    ensures telling { ¬ IsErrOf result PortFault.Disk
-        → tells_of (F.contents store.new.disk.now) ≡ tells_of (F.contents store.old.disk.now) }
-    ensures counts { ¬ IsErrOf result PortFault.Disk → count_taken store.new.tracks.taken.items + table.old.used
-        ≡ count_taken store.old.tracks.taken.items + table.new.used }
-    ensures many { length store.new.tracks.taken.items ≡ length store.old.tracks.taken.items }
     ensures same { store.new.disk.ghost_name ≡ store.old.disk.ghost_name }
-    ensures serves { Serves (F.contents store.new.disk.now) (F.record_count store.new.disk.now)
-        (F.words_each store.new.disk.now) (length store.new.tracks.taken.items) }
-    ensures faults_grow { F.faults store.old.disk.now ≤ F.faults store.new.disk.now }
-    ensures cause { IsErrOf result PortFault.Disk
-        → Rose (F.faults store.old.disk.now) (F.faults store.new.disk.now) }
 {
     let Some(at) = table.place(name) else {
         if place == 0 {
@@ -338,36 +215,12 @@ pub(crate) fn append_in<F: Medium>(
     name: FileName,
     words: &[Word],
 ) -> Result<(), PortFault>
-    requires usable { IsDirectory (F.contents store.old.disk.now) store.old.tracks.taken.items
-        table.old.quota table.old.used table.old.files.items }
-    requires serves { Serves (F.contents store.old.disk.now) (F.record_count store.old.disk.now)
-        (F.words_each store.old.disk.now) (length store.old.tracks.taken.items) }
-    requires small { table.old.used < 2 ^ 32 }
-    ensures any { ¬ IsErrOf result PortFault.Disk
-        → LeavesAny result (appended name words.now table.old.quota)
-        (F.contents store.old.disk.now) (F.contents store.new.disk.now) (length store.old.tracks.taken.items)
-        table.old.files.items table.new.files.items }
-    ensures others { ¬ IsErrOf result PortFault.Disk → (others : ℕ → ℕ)
-        → StandBeside others store.old.tracks.taken.items table.old.files.items
-        → LeavesOthers (F.contents store.old.disk.now) (F.contents store.new.disk.now) store.old.tracks.taken.items
-        store.new.tracks.taken.items table.old.files.items table.new.files.items others }
-    ensures usable { ¬ IsErrOf result PortFault.Disk
-        → IsDirectory (F.contents store.new.disk.now) store.new.tracks.taken.items
-        table.new.quota table.new.used table.new.files.items }
-    ensures quota { table.new.quota ≡ table.old.quota }
+    requires ready { IsReady (tracked F.Medium store.old) table.old }
+    ensures writes { Writes (appended name words.now table.old.quota) result
+        (tracked F.Medium store.old) (tracked F.Medium store.new) table.old table.new }
     ensures refused { (r : Refusal) → IsErrOf result (PortFault.Refused r)
         → store.new.disk.now ≡ store.old.disk.now }
-    ensures telling { ¬ IsErrOf result PortFault.Disk
-        → tells_of (F.contents store.new.disk.now) ≡ tells_of (F.contents store.old.disk.now) }
-    ensures counts { ¬ IsErrOf result PortFault.Disk → count_taken store.new.tracks.taken.items + table.old.used
-        ≡ count_taken store.old.tracks.taken.items + table.new.used }
-    ensures many { length store.new.tracks.taken.items ≡ length store.old.tracks.taken.items }
     ensures same { store.new.disk.ghost_name ≡ store.old.disk.ghost_name }
-    ensures serves { Serves (F.contents store.new.disk.now) (F.record_count store.new.disk.now)
-        (F.words_each store.new.disk.now) (length store.new.tracks.taken.items) }
-    ensures faults_grow { F.faults store.old.disk.now ≤ F.faults store.new.disk.now }
-    ensures cause { IsErrOf result PortFault.Disk
-        → Rose (F.faults store.old.disk.now) (F.faults store.new.disk.now) }
 {
     let Some(at) = table.place(name) else {
         return make(alloc, table, store, name, words);

@@ -10,7 +10,8 @@ use Rattle.file_tracks.specs.Seen.{tells_of, seen}
 use Rattle.file_tracks.specs.Directories.{quota_all, AreDirectories}
 use Rattle.file_tracks.specs.declared.table.TrackTable.{TrackTable}
 use Rattle.file_tracks.proofs.First.{AreBare, are_first}
-use Rattle.track_directories.specs.Tables.{Tracked, files_at, state_of, IsSound}
+use Rattle.file_tracks.specs.Tracked.{Tracked}
+use Rattle.track_directories.specs.Tables.{files_at, state_of, IsSound}
 use Rattle.track_directories.specs.Firsts.{AreEmpty, HaveNone}
 
 abbrev pub IsBare : TrackTable → Type 0

@@ -25,8 +25,9 @@ use Rattle.file_tracks.specs.declared.table.Filed.{Filed}
 use Rattle.file_tracks.specs.declared.table.TrackTable.{TrackTable}
 use Rattle.file_tracks.specs.Kept.{Goes, goes_both}
 use Rattle.file_tracks.proofs.Every.{directory_of, all_still, others_stay}
-use Rattle.track_directories.specs.Tables.{Tracked, files_at, quota_at, state_of, IsSound}
-use Rattle.track_directories.specs.Calls.{files_in, IsReady, LeavesOne}
+use Rattle.file_tracks.specs.Tracked.{Tracked, files_in, IsReady}
+use Rattle.track_directories.specs.Tables.{files_at, quota_at, state_of, IsSound}
+use Rattle.track_directories.specs.Calls.{LeavesOne}
 
 -- what a table at a place shows
 at_map : {X : Type 0} (f : TrackTable → X) (ds : List TrackTable) (j : ℕ) (e : TrackTable) (x : X) → j < length ds → get_or (map f ds) j x ≡ f (get_or ds j e)

@@ -1,22 +1,12 @@
--- proof: what a call on one directory needs of its table and its store, and what it leaves of them.
-use Rattle.std.specs.Prelude.{◌≡◌, ◌≤◌, false, List, IsErrOf}
+-- proof: what a call on one directory leaves of its table and its store.
+use Rattle.std.specs.Prelude.{◌≡◌, ◌≤◌, IsErrOf}
 use Rattle.std.specs.declared.result.Result.{Result}
 use Rattle.faults.specs.Faults.{Rose}
 use Rattle.ctss_types.specs.declared.fault.StepFault.{StepFault}
 use Rattle.ctss_types.specs.declared.fault.StepFault.TheVariants.{Disk, NoMemory}
-use Rattle.ctss_types.specs.declared.file.FileBody.{FileBody}
-use Rattle.file_tracks.specs.Seen.{seen}
-use Rattle.file_tracks.specs.Kept.{IsPort, IsAfter}
+use Rattle.file_tracks.specs.Kept.{IsAfter}
+use Rattle.file_tracks.specs.Tracked.{Tracked, files_in, IsReady}
 use Rattle.file_tracks.specs.declared.table.TrackTable.{TrackTable}
-use Rattle.track_directories.specs.Tables.{Tracked}
-
--- the files of a directory, as the disk tells them
-abbrev pub files_in : Tracked → TrackTable → List FileBody
-files_in s d = seen s.contents d.files.items
-
--- a port can be made over the directory: no call has failed at the disk
-abbrev pub IsReady : Tracked → TrackTable → Type 0
-IsReady s d = IsPort s.contents s.count s.each s.taken d false
 
 -- unless the disk failed, the directory is ready again and what stands elsewhere is left; want of memory changes none of its files
 pub record LeavesOne {T : Type 0} (result : Result T StepFault) (old new : Tracked) (d d' : TrackTable) : Type 0 where

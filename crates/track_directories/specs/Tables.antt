@@ -1,25 +1,15 @@
 -- proof: directories on tracks of one disk, what they show, and what stays true of them.
-use Rattle.std.specs.Prelude.{ℕ, ◌-◌, ◌<◌, ◌≤◌, Bool, List, [], map, length, get_or, Option}
+use Rattle.std.specs.Prelude.{ℕ, ◌-◌, ◌<◌, ◌≤◌, List, [], map, length, get_or, Option}
 use Rattle.std.specs.Borrow.{MutBor}
 use Rattle.std.specs.List.{All}
 use Rattle.ctss_types.specs.declared.file.FileBody.{FileBody}
 use Rattle.directories.specs.Directories.{DirectoriesState}
 use Rattle.medium.specs.declared.medium.Medium.{Ghosts}
-use Rattle.track_store.specs.Tracks.{Serves}
-use Rattle.track_store.specs.declared.store.TrackStore.{TrackStore}
 use Rattle.file_tracks.specs.Seen.{tells_of, seen}
 use Rattle.file_tracks.specs.Directories.{AreDirectories}
+use Rattle.file_tracks.specs.Tracked.{Tracked, tracked, IsServed}
 use Rattle.file_tracks.specs.declared.table.TrackTable.{TrackTable}
 use Rattle.track_directories.specs.declared.all.TrackDirectories.{TrackDirectories}
-
--- what a store of tracks shows: the disk's records where it tells them, how many records it has and of how many words, how often it
--- has failed, and which tracks are taken
-pub record Tracked : Type 0 where
-  pub contents : Option (List (List ℕ))
-  pub count : ℕ
-  pub each : ℕ
-  pub faults : ℕ
-  pub taken : List Bool
 
 -- the files of a directory, as the disk tells them: the common ones have number 0
 abbrev pub files_at : Option (List (List ℕ)) → List TrackTable → ℕ → List FileBody
@@ -45,7 +35,7 @@ state_of s tables =
 -- each track that is taken stands in one place, all quotas fit together, and the disk serves the tracks
 pub record IsSound (s : Tracked) (tables : List TrackTable) : Type 0 where
   pub all : AreDirectories s.contents s.taken tables
-  pub serves : Serves s.contents s.count s.each (length s.taken)
+  pub serves : IsServed s
   pub small : All (λ (t : TrackTable). t.quota < 65536) tables
   pub some : 1 ≤ length tables
 
@@ -54,18 +44,8 @@ abbrev pub disk_of : {F : Type 0} → TrackDirectories F → MutBor F
 disk_of d = d.store.disk
 
 module _ {F : Type 0} (g : Ghosts F) where
-  abbrev pub tracked : TrackStore F → Tracked
-  tracked s =
-      record {
-        contents = g.contents s.disk.now;
-        count = g.record_count s.disk.now;
-        each = g.words_each s.disk.now;
-        faults = g.faults s.disk.now;
-        taken = s.tracks.taken.items;
-      }
-
   abbrev pub shown : TrackDirectories F → DirectoriesState
-  shown d = state_of (tracked d.store) d.tables.items
+  shown d = state_of (tracked g d.store) d.tables.items
 
   abbrev pub Sound : TrackDirectories F → Type 0
-  Sound d = IsSound (tracked d.store) d.tables.items
+  Sound d = IsSound (tracked g d.store) d.tables.items

@@ -3,8 +3,8 @@ ghost use Rattle.std.specs.Prelude.{◌≡◌, ◌≤◌, ◌++◌, ◌∷◌, [
 ghost use Rattle.file_model.specs.Files.{file_named, with_new, moded, tracks_of};
 ghost use Rattle.file_map.specs.Known.{known};
 ghost use Rattle.file_tracks.specs.Seen.{tells_of};
-ghost use Rattle.track_directories.specs.Tables.{tracked};
-ghost use Rattle.track_directories.specs.Calls.{files_in, IsReady, LeavesOne};
+ghost use Rattle.file_tracks.specs.Tracked.{tracked, files_in, IsReady};
+ghost use Rattle.track_directories.specs.Calls.{LeavesOne};
 
 use ctss_types::{FileBody, FileName, StepFault};
 use file_map::{FilePort, PortFault};

@@ -6,8 +6,8 @@ ghost use Rattle.common_file.specs.Applied.{IsApplied};
 ghost use Rattle.user_session.specs.Stores.{stored, Over, IsToMake};
 ghost use Rattle.user_session.specs.Turns.{IsReplied, IsTurn};
 ghost use Rattle.file_tracks.specs.Seen.{tells_of};
-ghost use Rattle.track_directories.specs.Tables.{tracked};
-ghost use Rattle.track_directories.specs.Calls.{files_in, IsReady, LeavesOne};
+ghost use Rattle.file_tracks.specs.Tracked.{tracked, files_in, IsReady};
+ghost use Rattle.track_directories.specs.Calls.{LeavesOne};
 
 use common_file::apply;
 use cpu_regs::MemoryPort;

@@ -28,8 +28,8 @@ returns-clause-left c = λ contents.
     moded_done c.args.name mode (files_on contents fs) (body_on contents (get_or fs at f)) found other small
     ∙ ap Ok (sym (retold_file contents fs at f g c.args.name (λ (x : FileBody). record x { mode = mode }) low is c.requires found refl))
 
-pub returns-clause-usable : goal.returns-clause-usable
-returns-clause-usable c = λ contents taken h.
+pub returns-clause-retells : goal.returns-clause-retells
+returns-clause-retells c =
     let fs = c.args.table.now.files.items in
     let at = c.in-Some.at in
     let f = c.index_mut-file.result.now in
@@ -37,11 +37,11 @@ returns-clause-usable c = λ contents taken h.
     let g : Filed = record { name = f.name; mode = c.args.mode; words = f.words; tracks = f.tracks } in
     let low = c.in-Some.ensures.0 in
     let small : c.args.mode ≤ 3 = omega arith in
-    still_works fs at f g low is refl refl contents taken c.args.table.now.quota c.args.table.now.used h small
-    (subst (λ (ns : List NamePair). IsDistinct same_name ns) (sym (names_set fs at g f low (ap (λ (x : Filed). x.name) is))) c.requires)
-
-pub returns-clause-places : goal.returns-clause-places
-returns-clause-places c = λ t.
-    let f = c.index_mut-file.result.now in
-    let g : Filed = record { name = f.name; mode = c.args.mode; words = f.words; tracks = f.tracks } in
-    same_places c.args.table.now.files.items c.in-Some.at f g c.in-Some.ensures.0 c.index_mut-file.ensures.value refl refl t
+    record {
+      usable = λ contents taken h.
+          still_works fs at f g low is refl refl contents taken c.args.table.now.quota c.args.table.now.used h small
+          (subst (λ (ns : List NamePair). IsDistinct same_name ns) (sym (names_set fs at g f low (ap (λ (x : Filed). x.name) is))) c.requires);
+      places = same_places fs at f g low is refl refl;
+      quota = refl;
+      used = refl;
+    }

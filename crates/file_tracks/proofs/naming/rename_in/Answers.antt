@@ -48,20 +48,19 @@ returns-clause-left c = λ contents.
     renamed_done c.args.name to (files_on contents fs) (body_on contents (get_or fs at f)) found free (files_on contents (set fs at g)) none
     (retold_file contents fs at f g c.args.name (λ (x : FileBody). record x { name = to }) low is c.requires found refl)
 
-pub returns-clause-usable : goal.returns-clause-usable
-returns-clause-usable c = λ contents taken h.
+pub returns-clause-retells : goal.returns-clause-retells
+returns-clause-retells c =
     let fs = c.args.table.now.files.items in
     let at = c.in-Some.at in
     let f = c.index_mut-file.result.now in
     let is = c.index_mut-file.ensures.value in
     let g : Filed = record { name = c.args.to; mode = f.mode; words = f.words; tracks = f.tracks } in
     let low = c.in-Some.ensures.0 in
-    let mode = subst HasMode (sym is) (All-get_or HasMode fs at f low h.modes) in
-    still_works fs at f g low is refl refl contents taken c.args.table.now.quota c.args.table.now.used h mode
-    (renamed_differ fs at g c.requires (not_some _ (sym (c.if-has.ensures []))))
-
-pub returns-clause-places : goal.returns-clause-places
-returns-clause-places c = λ t.
-    let f = c.index_mut-file.result.now in
-    let g : Filed = record { name = c.args.to; mode = f.mode; words = f.words; tracks = f.tracks } in
-    same_places c.args.table.now.files.items c.in-Some.at f g c.in-Some.ensures.0 c.index_mut-file.ensures.value refl refl t
+    record {
+      usable = λ contents taken h.
+          still_works fs at f g low is refl refl contents taken c.args.table.now.quota c.args.table.now.used h
+          (subst HasMode (sym is) (All-get_or HasMode fs at f low h.modes)) (renamed_differ fs at g c.requires (not_some _ (sym (c.if-has.ensures []))));
+      places = same_places fs at f g low is refl refl;
+      quota = refl;
+      used = refl;
+    }

@@ -1,30 +1,29 @@
-use Rattle.std.proofs.Common.{List, length, get_or, sym, ◌∙◌, ap}
+use Rattle.std.proofs.Common.{List, get_or, sym, ◌∙◌, ap}
 use Rattle.std.proofs.lemmas.List.Elements.{All-get_or}
 use Rattle.ctss_types.specs.declared.file.FileBody.{FileBody}
 use Rattle.file_model.specs.Files.{appended, written, if_they_fit, with_new}
 use Rattle.file_tracks.specs.Stored.{body_on, files_on, HasTracks, IsWhole}
 use Rattle.file_tracks.specs.declared.table.Filed.{Filed}
 use Rattle.file_tracks.proofs.Tables.{content-length}
-use Rattle.file_tracks.proofs.Refusals.{any_told, appended_new, appended_is}
+use Rattle.file_tracks.proofs.Refusals.{appended_new, appended_is}
+use Rattle.file_tracks.proofs.Leaves.{writes_told}
 use Rattle.file_tracks.proofs.writing.append_in.Goals as goal
 
-pub returns-in_default-clause-any : goal.returns-in_default-clause-any
-returns-in_default-clause-any g c = λ ok.
-    let fs = c.args.table.now.files.items in
-    any_told c.make.result (λ (files : List FileBody). if_they_fit c.args.table.now.quota (with_new c.args.name c.args.words.now files)) (appended c.args.name c.args.words.now c.args.table.now.quota)
-    (g.F.Medium.contents c.args.store.now.disk.now) (g.F.Medium.contents c.make.new.store.disk.now) (length c.args.store.now.tracks.taken.items) fs c.make.new.table.files.items
-    (λ contents whole. appended_new c.args.name c.args.words.now c.args.table.now.quota (files_on contents fs) (c.in_default.ensures contents))
-    (c.make.ensures.any ok)
+pub returns-in_default-clause-writes : goal.returns-in_default-clause-writes
+returns-in_default-clause-writes g c =
+    let d = c.args.table.now in
+    writes_told c.make.result (λ (files : List FileBody). if_they_fit d.quota (with_new c.args.name c.args.words.now files)) (appended c.args.name c.args.words.now d.quota)
+    (λ contents whole. appended_new c.args.name c.args.words.now d.quota (files_on contents d.files.items) (c.in_default.ensures contents)) c.make.ensures.writes
 
-pub returns-clause-any : goal.returns-clause-any
-returns-clause-any g c = λ ok.
-    let fs = c.args.table.now.files.items in
+pub returns-clause-writes : goal.returns-clause-writes
+returns-clause-writes g c =
+    let d = c.args.table.now in
+    let fs = d.files.items in
     let at = c.in-Some.at in
     let f = c.index.result.now in
     let low = c.in-Some.ensures.0 in
-    any_told c.write_at.result (written c.args.name f.words c.args.words.now c.args.table.now.quota) (appended c.args.name c.args.words.now c.args.table.now.quota)
-    (g.F.Medium.contents c.args.store.now.disk.now) (g.F.Medium.contents c.write_at.new.store.disk.now) (length c.args.store.now.tracks.taken.items) fs c.write_at.new.table.files.items
+    writes_told c.write_at.result (written c.args.name f.words c.args.words.now d.quota) (appended c.args.name c.args.words.now d.quota)
     (λ contents whole.
-    let len = content-length contents (get_or fs at f) (All-get_or HasTracks fs at f low c.requires.usable.tracked) (All-get_or (IsWhole contents) fs at f low whole) in
-    appended_is c.args.name c.args.words.now c.args.table.now.quota (files_on contents fs) (body_on contents (get_or fs at f)) (c.in-Some.ensures.1 contents f) f.words (ap (λ (x : Filed). x.words) c.index.ensures ∙ sym len))
-    (c.write_at.ensures.any ok)
+    let len = content-length contents (get_or fs at f) (All-get_or HasTracks fs at f low c.requires.ready.directory.tracked) (All-get_or (IsWhole contents) fs at f low whole) in
+    appended_is c.args.name c.args.words.now d.quota (files_on contents fs) (body_on contents (get_or fs at f)) (c.in-Some.ensures.1 contents f) f.words (ap (λ (x : Filed). x.words) c.index.ensures ∙ sym len))
+    c.write_at.ensures.writes

@@ -3,8 +3,7 @@ use Rattle.std.proofs.Common.{◌≡◌, [], ◌∷◌, ◌++◌, refl, sym, sub
 use Rattle.file_model.specs.Files.{moded}
 use Rattle.file_map.specs.Known.{known}
 use Rattle.file_tracks.specs.Seen.{tells_of, seen_is_known}
-use Rattle.track_directories.specs.Tables.{tracked}
-use Rattle.track_directories.specs.Calls.{files_in}
+use Rattle.file_tracks.specs.Tracked.{tracked, files_in}
 use Rattle.track_directories.proofs.Tables.{both_leave}
 use Rattle.track_directories.proofs.AddLaws.{mode_told}
 use Rattle.track_directories.proofs.adding.add_over.Goals as goal

@@ -1,6 +1,7 @@
 use Rattle.std.specs.Prelude.{filter, take, drop}
 use Rattle.std.proofs.Common.{◌≡◌, ◌+◌, ◌-◌, ◌++◌, ℕ, length, sym, ◌∙◌, ap, arith, refl}
 use Rattle.file_tracks.specs.Stored.{files_on}
+use Rattle.file_tracks.proofs.After.{frees_none, frees_both}
 use Rattle.file_tracks.proofs.Drops.{lasts, lasting_are, drop_cases, place_inside, part_at}
 use Rattle.file_tracks.proofs.table.TrackTable.drop_temporary.Goals as goal
 
@@ -9,12 +10,7 @@ dropping-init g c =
     let fs = c.args.self.now.files.items in
     record {
       items = sym (ap (λ (n : ℕ). take n fs ++ filter lasts (drop n fs)) (let e : length fs - 0 ≡ length fs = omega arith in e) ∙ part_at fs);
-      others = λ others beside. beside;
-      usable = c.requires.usable;
-      quota = refl;
-      less = omega arith;
-      counts = refl;
-      many = refl;
+      frees = frees_none _ _ c.requires.usable;
       same = refl;
       now = refl;
     }
@@ -46,12 +42,7 @@ dropping-preserved g c =
           drop_cases fs at (omega (arith, n, low)) c.dropping.self.files.items c.drop_at.new.table.files.items
           (inv.items ∙ ap (λ (m : ℕ). take m fs ++ filter lasts (drop m fs)) place) e.items
           ∙ ap (λ (m : ℕ). take m fs ++ filter lasts (drop m fs)) next;
-      others = λ others beside. e.others others (inv.others others beside);
-      usable = e.usable;
-      quota = e.quota ∙ inv.quota;
-      less = (let a = e.less in let b = inv.less in omega (arith, a, b));
-      counts = (let a = e.counts in let b = inv.counts in omega (arith, a, b));
-      many = e.many ∙ inv.many;
+      frees = frees_both inv.frees e.frees;
       same = e.same ∙ inv.same;
       now = e.now ∙ inv.now;
     }

@@ -17,4 +17,4 @@ read_file-requires-clause-taken g c =
     let low : at < length fs = subst (λ (xs : List Filed). at < length xs) value c.reading-test.true in
     let few : (t : ℕ) → count_in t f.tracks.items ≤ bit taken t = λ t. subst (λ (x : Filed). count_in t x.tracks.items ≤ bit taken t) (sym is) (old_bits _ _ _ _ _ c.requires.usable at f low t) in
     all_taken c.reading.store.tracks.taken.items f.tracks.items
-    (λ t. subst (λ (ts : Tracks). count_in t f.tracks.items ≤ bit ts.taken.items t) (sym c.reading.invariant.tracks) (few t))
+    (λ t. subst (λ (ts : Tracks). count_in t f.tracks.items ≤ bit ts.taken.items t) (sym c.reading.invariant.keeps.tracks) (few t))

@@ -1,6 +1,6 @@
 use Rattle.std.proofs.Common.{◌∙◌, ◌+◌, ◌++◌, ℕ, List, drop, map, sym, ap, subst}
 use Rattle.image_map.specs.Image.{state}
-use Rattle.track_directories.specs.Tables.{shown, tracked, IsSound}
+use Rattle.track_directories.specs.Tables.{shown, Sound}
 use Rattle.user_cores.specs.Backing.{back_of}
 use Rattle.user_cores.specs.Usable.{cores_in, IsWhole}
 use Rattle.supervisor.specs.Whole.{whole_of}
@@ -36,7 +36,7 @@ loop-tick-preserved g c =
     let reached = next_load script ticks i c.limit_behind-limit.result _ _ c.loop-tick-test.true c.limit_behind-limit.ensures was.way c.in-Ok.ensures.reaches in
     let same = sym c.look-same.ensures.same in
     record {
-      usable = subst (λ b. IsWhole (state b.cores) × IsSound (tracked g.F.Medium b.files.store) b.files.tables.items) same c.in-Ok.ensures.usable;
+      usable = subst (λ b. IsWhole (state b.cores) × Sound g.F.Medium b.files) same c.in-Ok.ensures.usable;
       way =
           subst (λ b. IsOnTheWay script (drop (i + 1) ticks) (whole_of c.go_to.new.supervisor (back_of (cores_in (state b.cores)) (shown g.F.Medium b.files))))
           same reached.0;

@@ -5,8 +5,8 @@ use Rattle.file_model.specs.Files.{file_named, tracks_of}
 use Rattle.file_map.specs.Known.{known}
 use Rattle.file_map.proofs.Results.{on_ok}
 use Rattle.file_tracks.specs.Seen.{tells_of}
-use Rattle.track_directories.specs.Tables.{tracked, files_at, quota_at}
-use Rattle.track_directories.specs.Calls.{files_in}
+use Rattle.file_tracks.specs.Tracked.{tracked, files_in}
+use Rattle.track_directories.specs.Tables.{files_at, quota_at}
 use Rattle.track_directories.proofs.Tables.{user_within, ready_at, quota_was, mine_was, mine_now, sound_at, serves_at}
 use Rattle.track_directories.proofs.all.TrackDirectories.add.Goals as goal
 

@@ -1,5 +1,5 @@
 use Rattle.std.proofs.Common.{ap}
-use Rattle.track_directories.specs.Tables.{tracked}
+use Rattle.file_tracks.specs.Tracked.{tracked}
 use Rattle.track_directories.proofs.Tables.{user_within, ready_at, drops_at, sound_then}
 use Rattle.track_directories.proofs.Dropped.{one_dropped, left_seen}
 use Rattle.track_directories.proofs.all.TrackDirectoriesDirectories.drop_temporary.Goals as goal
@@ -22,12 +22,10 @@ returns-clause-drops g c =
     let low = user_within s ts c.requires.usable _ _ c.number.ensures.value c.requires.user in
     let ready = ready_at s ts c.requires.usable c.number.result low d value in
     let e = c.drop_temporary.ensures in
-    let contents = ap g.F.Medium.contents e.now in
-    let counts = ap g.F.Medium.record_count e.now in
-    let words = ap g.F.Medium.words_each e.now in
-    let faults = ap g.F.Medium.faults e.now in
+    let a = c.args.self.now.store in
+    let b = c.drop_temporary.new.store in
     drops_at s ts c.requires.usable c.number.result low d value new d'
-    (one_dropped s new d d' ready contents counts words faults e.usable e.quota e.many e.counts e.others) faults (left_seen s new d d' ready contents e.usable e.many e.left)
+    (one_dropped g.F.Medium a b d d' ready e.frees e.now) (ap g.F.Medium.faults e.now) (left_seen g.F.Medium a b d d' ready e.frees e.now e.left)
     c.args.user c.number.ensures.value c.number.ensures.range.0
 
 pub returns-clause-usable : goal.returns-clause-usable
@@ -41,9 +39,7 @@ returns-clause-usable g c =
     let low = user_within s ts c.requires.usable _ _ c.number.ensures.value c.requires.user in
     let ready = ready_at s ts c.requires.usable c.number.result low d value in
     let e = c.drop_temporary.ensures in
-    let contents = ap g.F.Medium.contents e.now in
-    let counts = ap g.F.Medium.record_count e.now in
-    let words = ap g.F.Medium.words_each e.now in
-    let faults = ap g.F.Medium.faults e.now in
+    let a = c.args.self.now.store in
+    let b = c.drop_temporary.new.store in
     sound_then s ts c.requires.usable c.number.result low d value new d'
-    (one_dropped s new d d' ready contents counts words faults e.usable e.quota e.many e.counts e.others) faults (left_seen s new d d' ready contents e.usable e.many e.left)
+    (one_dropped g.F.Medium a b d d' ready e.frees e.now) (ap g.F.Medium.faults e.now) (left_seen g.F.Medium a b d d' ready e.frees e.now e.left)

@@ -1,5 +1,5 @@
 use Rattle.std.proofs.Common.{◌<◌, length, arith}
-use Rattle.track_directories.specs.Tables.{tracked}
+use Rattle.file_tracks.specs.Tracked.{tracked}
 use Rattle.track_directories.proofs.Tables.{ready_at, sound_at, shares_at}
 use Rattle.track_directories.proofs.all.TrackDirectoriesDirectories.share.Goals as goal
 

@@ -10,7 +10,8 @@ use Rattle.file_tracks.specs.Lying.{LieOn}
 use Rattle.file_tracks.specs.Seen.{seen}
 use Rattle.file_tracks.specs.declared.table.TrackTable.{TrackTable}
 use Rattle.directories.specs.Directories.{lists_from}
-use Rattle.track_directories.specs.Tables.{tracked, files_at}
+use Rattle.file_tracks.specs.Tracked.{tracked}
+use Rattle.track_directories.specs.Tables.{files_at}
 use Rattle.track_directories.proofs.Tables.{all_ready}
 use Rattle.track_directories.proofs.Lying.{files_in, tables_split, lists_are, lists_seen, list_seen, lists_lie}
 use Rattle.track_directories.proofs.all.TrackDirectoriesDirectories.take_lists.Goals as goal
@@ -33,8 +34,8 @@ read_all-requires-clause-usable g c =
     let P : TrackTable → Type 0 = λ t. IsDirectory s.contents s.taken t.quota t.used t.files.items in
     let split = tables_split xs d c.in-len1-up.len_at_least c.common-item.is in
     let here : P d = All-head P d (take (length xs - 1) (drop 1 xs)) (subst (All P) (sym c.as_slice.ensures.value ∙ split) (all_ready s ts c.requires.usable)) in
-    subst (λ (o : Option (List (List ℕ))). IsDirectory o c.lists_on.new.store.tracks.taken.items d.quota d.used d.files.items) (sym c.in_ok-own.ensures.contents)
-    (subst (λ (t : Tracks). IsDirectory s.contents t.taken.items d.quota d.used d.files.items) (sym c.in_ok-own.ensures.tracks) here)
+    subst (λ (o : Option (List (List ℕ))). IsDirectory o c.lists_on.new.store.tracks.taken.items d.quota d.used d.files.items) (sym (c.in_ok-own.ensures.contents (λ e. let x = e in cc)))
+    (subst (λ (t : Tracks). IsDirectory s.contents t.taken.items d.quota d.used d.files.items) (sym c.in_ok-own.ensures.keeps.tracks) here)
 
 pub returns-clause-lists : goal.returns-clause-lists
 returns-clause-lists g c = λ told.
@@ -55,7 +56,7 @@ returns-clause-common g c = λ told.
     let d = c.common-item.result in
     let y = c.in_ok-common.common in
     let split = sym c.as_slice.ensures.value ∙ tables_split xs d c.in-len1-up.len_at_least c.common-item.is in
-    let read : WhereTold s.contents (λ contents. y ≡ files_in contents d) = subst (λ (o : Option (List (List ℕ))). WhereTold o (λ contents. y ≡ files_in contents d)) c.in_ok-own.ensures.contents c.in_ok-common.ensures.files in
+    let read : WhereTold s.contents (λ contents. y ≡ files_in contents d) = subst (λ (o : Option (List (List ℕ))). WhereTold o (λ contents. y ≡ files_in contents d)) (c.in_ok-own.ensures.contents (λ e. let x = e in cc)) c.in_ok-common.ensures.files in
     list_seen s.contents d y told read ∙ ap (λ (ds : List TrackTable). files_at s.contents ds 0) (sym split)
 
 pub returns-clause-lies : goal.returns-clause-lies
@@ -67,6 +68,6 @@ returns-clause-lies g c =
     let y = c.in_ok-common.common in
     let own = take (length xs - 1) (drop 1 xs) in
     let split = sym c.as_slice.ensures.value ∙ tables_split xs d c.in-len1-up.len_at_least c.common-item.is in
-    let read : WhereTold s.contents (λ contents. y ≡ files_in contents d) = subst (λ (o : Option (List (List ℕ))). WhereTold o (λ contents. y ≡ files_in contents d)) c.in_ok-own.ensures.contents c.in_ok-common.ensures.files in
-    subst (λ (o : Option (List (List ℕ))). WhereTold o (λ contents. LieOn contents c.in_ok-own.own.items y)) (sym (c.in_ok-common.ensures.contents ∙ c.in_ok-own.ensures.contents))
+    let read : WhereTold s.contents (λ contents. y ≡ files_in contents d) = subst (λ (o : Option (List (List ℕ))). WhereTold o (λ contents. y ≡ files_in contents d)) (c.in_ok-own.ensures.contents (λ e. let x = e in cc)) c.in_ok-common.ensures.files in
+    subst (λ (o : Option (List (List ℕ))). WhereTold o (λ contents. LieOn contents c.in_ok-own.own.items y)) (sym (c.in_ok-common.ensures.contents (λ e. let x = e in cc) ∙ c.in_ok-own.ensures.contents (λ e. let x = e in cc)))
     (lists_lie s.contents s.taken d own (subst (AreDirectories s.contents s.taken) split c.requires.usable.all) c.in_ok-own.own.items y c.in_ok-own.ensures.files read)

@@ -4,7 +4,8 @@ use Rattle.ctss_types.specs.declared.file.FileBody.{FileBody}
 use Rattle.user_session.specs.Stores.{stored, IsToMake}
 use Rattle.user_session.specs.Turns.{IsReplied}
 use Rattle.file_tracks.specs.Seen.{tells_of}
-use Rattle.track_directories.specs.Tables.{tracked, files_at, quota_at}
+use Rattle.file_tracks.specs.Tracked.{tracked}
+use Rattle.track_directories.specs.Tables.{files_at, quota_at}
 use Rattle.track_directories.proofs.Tables.{user_within, if_ok_map, ready_at, quota_was, mine_was, over_for, sound_at, serves_at}
 use Rattle.track_directories.proofs.all.TrackDirectoriesDirectories.take_reply.Goals as goal
 

@@ -1,7 +1,8 @@
 use Rattle.std.proofs.Common.{sym, ap, ◌∙◌}
 use Rattle.user_session.specs.Turns.{IsTurn}
 use Rattle.file_tracks.specs.Seen.{tells_of}
-use Rattle.track_directories.specs.Tables.{tracked, quota_at}
+use Rattle.file_tracks.specs.Tracked.{tracked}
+use Rattle.track_directories.specs.Tables.{quota_at}
 use Rattle.track_directories.proofs.Tables.{user_within, if_ok_map, ready_at, quota_was, over_for, sound_at, serves_at}
 use Rattle.track_directories.proofs.all.TrackDirectoriesDirectories.turn.Goals as goal
 

@@ -4,7 +4,8 @@ use Rattle.track_store.specs.declared.tracks.Tracks.{Tracks}
 use Rattle.file_tracks.specs.Seen.{tells_of}
 use Rattle.file_tracks.specs.declared.table.TrackTable.{TrackTable}
 use Rattle.file_tracks.proofs.After.{serves_still}
-use Rattle.track_directories.specs.Tables.{tracked, state_of}
+use Rattle.file_tracks.specs.Tracked.{tracked}
+use Rattle.track_directories.specs.Tables.{state_of}
 use Rattle.track_directories.specs.Firsts.{Empty, AreEmpty, HaveNone}
 use Rattle.track_directories.proofs.Bare.{sound_first, none_yet}
 use Rattle.track_directories.proofs.empty.EmptyDirectories.over.Goals as goal

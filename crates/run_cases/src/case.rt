@@ -74,13 +74,21 @@ pub(crate) struct Each {
     pub(crate) most: u64,
 }
 
+/// The program whose words a case has.
+#[derive(Clone, Copy)]
+pub(crate) enum Program {
+    Supervisor,
+    Picture,
+    Listing,
+}
+
 /// A run: the words of the command line or the turns of a server, the text that is read, what fails, and the callers in order.
 #[derive(Drop)]
 pub(crate) struct Case {
     /// None for a case that stands alone.
     pub(crate) name: Option<String>,
-    /// Whether the words are those of `ctss_picture`.
-    pub(crate) is_picture: bool,
+    /// The program that is run.
+    pub(crate) program: Program,
     pub(crate) words: Vec<String>,
     pub(crate) turns: Option<u32>,
     pub(crate) text: Vec<u8>,
@@ -105,7 +113,7 @@ impl Case {
     pub(crate) fn new(alloc: Global, name: Option<String>) -> Case {
         Case {
             name,
-            is_picture: false,
+            program: Program::Supervisor,
             words: Vec::new(alloc),
             turns: None,
             text: Vec::new(alloc),

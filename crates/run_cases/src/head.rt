@@ -1,5 +1,5 @@
 //! The lines that say how a case is done.
-use crate::case::{Case, Device, Each, Stream};
+use crate::case::{Case, Device, Each, Program, Stream};
 use anyhow::{Result, bail};
 use medium::Damage;
 use std::alloc::Global;
@@ -73,7 +73,11 @@ impl Case {
         match word {
             "WORDS" => self.add_words(alloc, fields)?,
             "PICTURE" => {
-                self.is_picture = true;
+                self.program = Program::Picture;
+                self.add_words(alloc, fields)?;
+            }
+            "LISTING" => {
+                self.program = Program::Listing;
                 self.add_words(alloc, fields)?;
             }
             "SOURCE" => self.source = stream(alloc, fields)?,

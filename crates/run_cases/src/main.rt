@@ -1,7 +1,7 @@
 //! Cases of whole runs: what is done and what fails in it comes in, and what comes of it goes out.
 //!
 //! A case is `CASE name`, lines that say how it is done, `TEXT`, and the lines of the text that is read. How it is done:
-//! - `WORDS w ..`: the words of the command line; `PICTURE w ..`: those of `ctss_picture`;
+//! - `WORDS w ..`: the words of the command line; `PICTURE w ..`: those of `ctss_picture`; `LISTING w ..`: those of `ctss_listing`;
 //! - `SOURCE piece n ..`: at most so many bytes a read, of which these fail; `SINK room piece n ..`: room for so many bytes,
 //!   at most so many a put, of which these fail;
 //! - `DRUM n ..`: these calls of the drum fail; `DRUM-DAMAGE read place word`: this read, or with `EACH` each, gives an octal word in

@@ -7,7 +7,7 @@ ghost use Rattle.medium.specs.Rows.{told_rows};
 ghost use Rattle.medium.specs.declared.memory.Damage.{Damage};
 ghost use Rattle.run_cases.specs.Media.{AreWhole};
 
-use crate::case::{Case, Device, Each, Faults};
+use crate::case::{Case, Device, Each, Faults, Program};
 use crate::drum::TellingDrum;
 use crate::link::link_of;
 use anyhow::{Result, bail};
@@ -15,6 +15,7 @@ use console_link::{Accepted, CallMade, MemoryLink};
 use ctss_io::{MemorySink, MemorySource};
 use ctss_top::{ArgList, Outcome, run_ctss};
 use medium::{Damage, MemoryMedium};
+use fap_listing::write_listing;
 use run_picture::write_picture;
 use std::alloc::{AllocError, Global};
 use std::io::{Write, writer};
@@ -208,10 +209,10 @@ fn streams_of(alloc: Global, case: &Case, beside: Option<FailingCall>) -> Result
     Ok(Streams { input, output })
 }
 
-/// What comes of these words over streams, media and a link; of words of `ctss_picture`, over the streams alone.
+/// What comes of a program's words over streams, and, of the supervisor's, over media and a link.
 fn outcome_of(
     alloc: Global,
-    is_picture: bool,
+    program: Program,
     words: &ArgList,
     streams: &mut Streams,
     media: &mut Media,
@@ -219,18 +220,20 @@ fn outcome_of(
 ) -> Outcome
     requires { AreWhole media.old }
 {
-    if is_picture {
-        return write_picture(alloc, words, &mut streams.input, &mut streams.output);
+    let (input, output) = (&mut streams.input, &mut streams.output);
+    match program {
+        Program::Supervisor => run_ctss(
+            alloc,
+            words,
+            input,
+            output,
+            &mut media.drum,
+            &mut media.disk,
+            link,
+        ),
+        Program::Picture => write_picture(alloc, words, input, output),
+        Program::Listing => write_listing(alloc, words, input, output),
     }
-    run_ctss(
-        alloc,
-        words,
-        &mut streams.input,
-        &mut streams.output,
-        &mut media.drum,
-        &mut media.disk,
-        link,
-    )
 }
 
 /// Does a case, of which one call may fail beside those that it names, and answers the status.
@@ -242,7 +245,7 @@ fn status_of(rt: &HostRuntime, case: &Case, beside: Option<FailingCall>) -> Resu
     let mut streams = streams_of(alloc, case, beside)?;
     let outcome = outcome_of(
         alloc,
-        case.is_picture,
+        case.program,
         &words,
         &mut streams,
         &mut media,

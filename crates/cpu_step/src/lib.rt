@@ -256,6 +256,7 @@ fn go_at<M: MemoryPort>(regs: &mut Regs, core: &mut M, known: &Row, word: Word, 
         Op::Tra => operations::index::transfer(regs, core, &instr_coded(known, word), y),
         Op::Tze => operations::index::transfer(regs, core, &instr_coded(known, word), y),
         Op::Tnz => operations::index::transfer(regs, core, &instr_coded(known, word), y),
+        Op::Tia => OpEnd::Halt,
         _ => go_fixed(regs, core, known, word, y),
     }
 }

@@ -93,8 +93,9 @@ impl State {
     }
 
     /// A step of the user that is served, whose blocks are in core, makes its operation on the common files and goes on with
-    /// the reply.
-    fn make_shared<C: Backing>(
+    /// the reply. It stands apart, since the reply is large and most steps make none.
+    #[inline(never)]
+    fn share<C: Backing>(
         &mut self,
         cores: &mut C,
         v: Service,
@@ -135,37 +136,6 @@ impl State {
             }
             Err(StepFault::Disk) => Err(RunFault::Disk),
             Err(StepFault::NoMemory) => Err(RunFault::NoMemory),
-        }
-    }
-
-    /// A step of the user that is served, whose blocks are in core, makes its operation on the common files and goes on with
-    /// the reply. It stands apart, since operation and reply are large and most steps make none. The operation finds its place in
-    /// memory before anything is done.
-    #[inline(never)]
-    fn share<C: Backing>(&mut self, cores: &mut C, v: Service, op: CommonOp) -> Result<(), RunFault>
-        requires usable { C.Usable cores.old }
-        requires held { Holds (whole self.old (C.state cores.old)) }
-        requires user { IsUser v.user (run_of (whole self.old (C.state cores.old))) }
-        requires chosen { user_of (chosen self.old.queues) ≡ Some v.user }
-        requires loaded { HasBlocks v.user true (whole self.old (C.state cores.old)) }
-        requires makes { IsToMake (C.state cores.old).disk_tells ((C.state cores.old).window v.user) op
-            (user_at v.user self.old.sessions.items) }
-        requires room { vec_len self.old.entries + 4 ≤ vec_capacity self.old.entries }
-        requires ran { v.ran ≤ self.old.clock }
-        requires in_time { self.old.clock ≤ 100000000 }
-        ensures ended { Steps (attended v) NeverCut result
-            (whole self.old (C.state cores.old)) (whole self.new (C.state cores.new)) }
-        ensures counted { AreCountedBy result
-            (whole self.old (C.state cores.old)) (whole self.new (C.state cores.new)) }
-        ensures tied { Lasts result (AreTied (whole self.new (C.state cores.new))) }
-        ensures usable { Lasts result (C.Usable cores.new) }
-        ensures keeps { C.Keeps cores.old cores.new }
-        ensures faults { (C.state cores.new).faults ≡ (C.state cores.old).faults }
-        ensures disk { (C.state cores.old).disk_faults ≤ (C.state cores.new).disk_faults }
-    {
-        match Apart::new(*self.entries.allocator(), op) {
-            Ok(op) => self.make_shared(cores, v, op),
-            Err(NoMemory) => Err(RunFault::NoMemory),
         }
     }
 

@@ -244,7 +244,7 @@ impl Session {
             Command::ChangeMode { name, mode } => self.chmode(core, files, line, name, mode, now),
             Command::Input(name) => self.begin_input(core, files, line, name, now),
             Command::CopyTo(name) => self.ask_copy(core, files, line, name, now),
-            Command::CopyFrom(name) => Ok(Turn::Asks(CommonOp::Get(name))),
+            Command::CopyFrom(name) => Ok(self.ask(CommonOp::Get(name))?),
             Command::Assemble(name) => {
                 let done = self.assemble(core, files, line, name, now)?;
                 Ok(Turn::Done(done))

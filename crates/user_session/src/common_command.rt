@@ -50,7 +50,7 @@ impl Session {
         ensures uses { Uses P.FilePort result files.old files.new }
     {
         match files.get(name) {
-            Ok(words) => Ok(Turn::Asks(CommonOp::Put { name, words })),
+            Ok(words) => Ok(self.ask(CommonOp::Put { name, words })?),
             Err(PortFault::Refused(refusal)) => {
                 self.say(line, Some(refusal_text(refusal)), now)?;
                 Ok(Turn::Done(DONE))

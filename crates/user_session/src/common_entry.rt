@@ -15,7 +15,7 @@ use crate::file_entry::WENT;
 use crate::session::Session;
 use crate::{Step, Turn};
 use cpu_regs::MemoryPort;
-use ctss_types::{CommonOp, FileName, NoMemory, Reply, Sequence};
+use ctss_types::{Apart, CommonOp, FileName, NoMemory, Reply, Sequence};
 use file_model::refusal_number;
 use program_model::Call;
 use tia_entry::{store_fitting, words_in};
@@ -28,6 +28,14 @@ fn is_common_count(count: u16) -> bool
 }
 
 impl Session {
+    /// The turn of a step that is to make an operation on common files, which finds its place in memory.
+    pub(crate) fn ask(&self, op: CommonOp) -> Result<Turn, NoMemory>
+        ensures { IfOk result (λ turn. turn ≡ Turn.Asks op) }
+    {
+        let op = Apart::new(self.talk.allocator(), op)?;
+        Ok(Turn::Asks(op))
+    }
+
     /// CRDFIL: the operation that reads words, or reply 7 where there are too many.
     #[tactic(auto, using(user_model::proofs::CoreLaws::recut_same))]
     pub(crate) fn ask_read<M: MemoryPort>(
@@ -38,19 +46,21 @@ impl Session {
         count: u16,
         place: u64,
         now: u64,
-    ) -> Turn
+    ) -> Result<Turn, NoMemory>
         requires on { self.old.on ≡ true }
         requires size { length (M.words core.now) ≡ 256 * self.old.inner.blocks }
         requires fits { self.old.own < 2 ^ 64 - 1 }
-        ensures row { (fs : List FileBody) → Enters (Ok (Call.CommonRead name at count place)) result
-            now self.old self.new (stored (M.words core.now) fs) (stored (M.words core.now) fs) }
+        ensures row { (fs : List FileBody)
+            → IfOk result (λ turn. Enters (Ok (Call.CommonRead name at count place)) turn
+            now self.old self.new (stored (M.words core.now) fs) (stored (M.words core.now) fs)) }
         ensures account { self.new.inner.account ≡ self.old.inner.account }
+        ensures err { OnErr result (self.new ≡ self.old) }
     {
         if !is_common_count(count) {
             self.reply(3, 7, None);
-            return Turn::Done(WENT);
+            return Ok(Turn::Done(WENT));
         }
-        Turn::Asks(CommonOp::Read { name, place, count })
+        self.ask(CommonOp::Read { name, place, count })
     }
 
     /// CWRFIL: the operation that writes a buffer, or reply 7 where it has too many words.
@@ -79,11 +89,11 @@ impl Session {
             return Ok(Turn::Done(WENT));
         }
         let words = words_in(self.talk.allocator(), core, at, count)?;
-        Ok(Turn::Asks(CommonOp::Write {
+        self.ask(CommonOp::Write {
             name,
             place,
             words: Sequence::from_vec(words),
-        }))
+        })
     }
 
     /// A call that made a common operation, with so many arguments and a buffer, takes its reply.

@@ -341,20 +341,20 @@ impl Session {
             Call::DeleteFile { name } => self.delete_file(core, files, name, now),
             Call::RenameFile { name, to } => self.rename_file(core, files, name, to, now),
             Call::ChangeMode { name, mode } => self.change_mode(core, files, name, mode, now),
-            Call::CommonStat { name } => Ok(Turn::Asks(CommonOp::Stat(name))),
+            Call::CommonStat { name } => Ok(self.ask(CommonOp::Stat(name))?),
             Call::CommonRead {
                 name,
                 at,
                 count,
                 place,
-            } => Ok(self.ask_read(core, name, at, count, place, now)),
+            } => Ok(self.ask_read(core, name, at, count, place, now)?),
             Call::CommonWrite {
                 name,
                 at,
                 count,
                 place,
             } => Ok(self.ask_write(core, name, at, count, place, now)?),
-            Call::CommonDelete { name } => Ok(Turn::Asks(CommonOp::Delete(name))),
+            Call::CommonDelete { name } => Ok(self.ask(CommonOp::Delete(name))?),
             Call::Dead => Ok(self.end_dead(core, now)?),
             Call::Dormant => Ok(self.end_dormant(core, now)?),
         }

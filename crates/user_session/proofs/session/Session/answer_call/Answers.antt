@@ -17,17 +17,17 @@ returns-in-GetMemory-clause-row g c = let fs = g.P.FilePort.files c.args.files.n
 pub returns-in-SetMemory-clause-row : goal.returns-in-SetMemory-clause-row
 returns-in-SetMemory-clause-row g c = let fs = g.P.FilePort.files c.args.files.now in let are = g.met.P.FilePort.is_known c.args.files.now c.requires.port in over_these _ _ _ _ are are (rw c.in-SetMemory.is (c.set_memory.ensures.row fs))
 
-pub returns-in-CommonStat-clause-row : goal.returns-in-CommonStat-clause-row
-returns-in-CommonStat-clause-row g c = let fs = g.P.FilePort.files c.args.files.now in let are = g.met.P.FilePort.is_known c.args.files.now c.requires.port in over_these _ _ _ _ are are (rw c.in-CommonStat.is (record { makes = refl; same = refl; store = refl }))
+pub returns-in_ok-ask-in-CommonStat-clause-row : goal.returns-in_ok-ask-in-CommonStat-clause-row
+returns-in_ok-ask-in-CommonStat-clause-row g c = let fs = g.P.FilePort.files c.args.files.now in let are = g.met.P.FilePort.is_known c.args.files.now c.requires.port in over_these _ _ _ _ are are (rw c.in-CommonStat.is (rw c.in_ok-ask-in-CommonStat.ensures (record { makes = refl; same = refl; store = refl })))
 
-pub returns-in-CommonRead-clause-row : goal.returns-in-CommonRead-clause-row
-returns-in-CommonRead-clause-row g c = let fs = g.P.FilePort.files c.args.files.now in let are = g.met.P.FilePort.is_known c.args.files.now c.requires.port in over_these _ _ _ _ are are (rw c.in-CommonRead.is (c.ask_read.ensures.row fs))
+pub returns-in_ok-ask_read-in-CommonRead-clause-row : goal.returns-in_ok-ask_read-in-CommonRead-clause-row
+returns-in_ok-ask_read-in-CommonRead-clause-row g c = let fs = g.P.FilePort.files c.args.files.now in let are = g.met.P.FilePort.is_known c.args.files.now c.requires.port in over_these _ _ _ _ are are (rw c.in-CommonRead.is (c.in_ok-ask_read-in-CommonRead.ensures.row fs))
 
 pub returns-in_ok-ask_write-in-CommonWrite-clause-row : goal.returns-in_ok-ask_write-in-CommonWrite-clause-row
 returns-in_ok-ask_write-in-CommonWrite-clause-row g c = let fs = g.P.FilePort.files c.args.files.now in let are = g.met.P.FilePort.is_known c.args.files.now c.requires.port in over_these _ _ _ _ are are (rw c.in-CommonWrite.is (c.in_ok-ask_write-in-CommonWrite.ensures.row fs))
 
-pub returns-in-CommonDelete-clause-row : goal.returns-in-CommonDelete-clause-row
-returns-in-CommonDelete-clause-row g c = let fs = g.P.FilePort.files c.args.files.now in let are = g.met.P.FilePort.is_known c.args.files.now c.requires.port in over_these _ _ _ _ are are (rw c.in-CommonDelete.is (record { makes = refl; same = refl; store = refl }))
+pub returns-in_ok-ask-in-CommonDelete-clause-row : goal.returns-in_ok-ask-in-CommonDelete-clause-row
+returns-in_ok-ask-in-CommonDelete-clause-row g c = let fs = g.P.FilePort.files c.args.files.now in let are = g.met.P.FilePort.is_known c.args.files.now c.requires.port in over_these _ _ _ _ are are (rw c.in-CommonDelete.is (rw c.in_ok-ask-in-CommonDelete.ensures (record { makes = refl; same = refl; store = refl })))
 
 pub returns-in_ok-end_dead-in-Dead-clause-row : goal.returns-in_ok-end_dead-in-Dead-clause-row
 returns-in_ok-end_dead-in-Dead-clause-row g c = let fs = g.P.FilePort.files c.args.files.now in let are = g.met.P.FilePort.is_known c.args.files.now c.requires.port in over_these _ _ _ _ are are (rw c.in-Dead.is (c.in_ok-end_dead-in-Dead.ensures.row fs))

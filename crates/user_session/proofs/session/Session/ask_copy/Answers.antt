@@ -5,11 +5,11 @@ use Rattle.user_session.proofs.Enters.{over_read}
 use Rattle.user_session.proofs.Files.{refused_told}
 use Rattle.user_session.proofs.session.Session.ask_copy.Goals as goal
 
-pub returns-in-Ok-clause-row : goal.returns-in-Ok-clause-row
-returns-in-Ok-clause-row g c =
+pub returns-in_ok-ask-in-Ok-clause-row : goal.returns-in_ok-ask-in-Ok-clause-row
+returns-in_ok-ask-in-Ok-clause-row g c =
     let core = g.M.MemoryPort.words c.args.core.now in
     let told = c.in-Ok.ensures.answer in
-    over_read _ core core (g.P.FilePort.files c.args.files.now) _ _ (c.in-Ok.ensures.left (λ e. cc)) (told.0, told.1.0, record { makes = rw told.1.1 refl; same = refl; store = refl })
+    over_read _ core core (g.P.FilePort.files c.args.files.now) _ _ (c.in-Ok.ensures.left (λ e. cc)) (told.0, told.1.0, rw c.in_ok-ask-in-Ok.ensures (record { makes = rw told.1.1 refl; same = refl; store = refl }))
 
 pub returns-in_ok-say-in-Err-Refused-clause-row : goal.returns-in_ok-say-in-Err-Refused-clause-row
 returns-in_ok-say-in-Err-Refused-clause-row g c =

@@ -25,7 +25,7 @@ use Rattle.supervisor.proofs.Counting.{counted_none}
 use Rattle.supervisor.proofs.Doing.{does_stepped}
 use Rattle.supervisor.proofs.Tied.{tied_with}
 use Rattle.supervisor.proofs.Serving.{went_size, settled_is, resized_from, counted_users, with_users, told_store}
-use Rattle.supervisor.proofs.state.State.make_shared.Goals as goal
+use Rattle.supervisor.proofs.state.State.share.Goals as goal
 
 pub settle-requires-clause-same : goal.settle-requires-clause-same
 settle-requires-clause-same g c = λ went.

@@ -1,5 +1,5 @@
 -- claim: core in the picture in characters: a line for each load, with what it moved and whose each place is behind it.
-use Rattle.std.specs.Prelude.{ℕ, zero, suc, ◌+◌, ◌-◌, Bool, not, nat_eq, ◌&&◌, if◌then◌else◌, List, [], ◌∷◌, ◌++◌, codes}
+use Rattle.std.specs.Prelude.{ℕ, zero, suc, ◌+◌, ◌-◌, not, nat_eq, ◌&&◌, if◌then◌else◌, List, [], ◌∷◌, ◌++◌, codes}
 use Rattle.std.specs.Fmt.{decimal}
 use Rattle.ctss_types.specs.declared.script.Script.{Script}
 use Rattle.ctss_types.specs.declared.history.Record.{Record}

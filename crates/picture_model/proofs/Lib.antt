@@ -1,2 +1,3 @@
+pub mod Owners
 mod Places
 mod RowsComputed

@@ -1,5 +1,5 @@
 -- claim: core in the picture in characters: a line for each load, with what it moved and whose each place is behind it.
-use Rattle.std.specs.Prelude.{ℕ, zero, suc, ◌+◌, ◌-◌, Bool, not, nat_eq, ◌&&◌, if◌then◌else◌, List, [], ◌∷◌, ◌++◌, codes}
+use Rattle.std.specs.Prelude.{ℕ, zero, suc, ◌+◌, ◌-◌, not, nat_eq, ◌&&◌, if◌then◌else◌, List, [], ◌∷◌, ◌++◌, codes}
 use Rattle.std.specs.Fmt.{decimal}
 use Rattle.ctss_types.specs.declared.script.Script.{Script}
 use Rattle.ctss_types.specs.declared.history.Record.{Record}
@@ -7,7 +7,7 @@ use Rattle.ctss_types.specs.declared.history.Entry.{Entry}
 use Rattle.ctss_types.specs.declared.history.Entry.TheVariants.{Swap}
 use Rattle.text_model.specs.Parts.{line, column}
 use Rattle.picture_model.specs.Chart.{chart_of}
-use Rattle.picture_model.specs.Cores.{owners_in}
+use Rattle.picture_model.specs.Cores.{owners_of}
 use Rattle.picture_model.specs.CorePanel.{begins_at, stretch_from, first_owners, owners_after}
 
 -- so many places from one on, and the user whose they are
@@ -50,4 +50,4 @@ chart_over owners script rec = chart_of script rec ++ (core_head ++ core_lines o
 
 -- these owners are those of the script's run
 abbrev pub chart_with_core : Script → Record → List ℕ
-chart_with_core script rec = chart_over (owners_in script rec.entries) script rec
+chart_with_core script rec = chart_over (owners_of script) script rec

@@ -1,18 +1,14 @@
--- claim: whose each place of core is, when the run of a script has come to a tick, and after each load.
-use Rattle.std.specs.Prelude.{ℕ, suc, min, List, [], ◌∷◌, ◌++◌, map, slice_index_or}
+-- claim: whose each place of core is after each load of the run of a script.
+use Rattle.std.specs.Prelude.{ℕ, zero, suc, if◌then◌else◌, nat_lt, List, [], ◌∷◌, ◌++◌, map, length, drop, slice_index_or}
 use Rattle.ctss_types.specs.declared.script.Script.{Script}
 use Rattle.ctss_types.specs.declared.history.Entry.{Entry}
 use Rattle.ctss_types.specs.declared.history.Entry.TheVariants.{Swap}
-use Rattle.system_model.specs.Run.{run_to}
+use Rattle.system_model.specs.Run.{Run, next, measure}
 use Rattle.system_model.specs.Record.{start_of}
 
--- the number of the user whose a place is once all that begins before a tick is done; 0 where it is nobody's
-unfoldable pub owner_at : Script → (tick place : ℕ) → ℕ
-owner_at script tick place = (run_to tick (start_of script)).system.plan.places.owner place
-
--- A load that begins at a tick is done once the clock has gone past that, and no step is done behind the script's end.
-abbrev pub owner_behind : Script → (tick place : ℕ) → ℕ
-owner_behind script tick = owner_at script (min (suc tick) script.end)
+-- the number of the user whose a place is; 0 where it is nobody's
+abbrev pub owner_of : Run → (place : ℕ) → ℕ
+owner_of r = r.system.plan.places.owner
 
 -- the ticks at which the loads of a schedule begin
 abbrev pub load_tick : Entry → List ℕ
@@ -23,9 +19,19 @@ abbrev pub load_ticks : List Entry → List ℕ
 load_ticks [] = []
 load_ticks (e ∷ es) = load_tick e ++ load_ticks es
 
--- the owners after each load of a schedule
-abbrev pub owners_in : Script → List Entry → List (ℕ → ℕ)
-owners_in script es = map (owner_behind script) (load_ticks es)
+-- the owners after a step, once for each load of which it tells
+abbrev pub owners_shown : (old new : Run) → List (ℕ → ℕ)
+owners_shown old new = map (λ tick. owner_of new) (load_ticks (drop (length old.system.entries) new.system.entries))
+
+-- the owners after each load, in so many steps below a limit
+abbrev pub owners_from : (limit steps : ℕ) → Run → List (ℕ → ℕ)
+owners_from limit zero r = []
+owners_from limit (suc n) r =
+    if nat_lt r.system.clock limit then owners_shown r (next limit r) ++ owners_from limit n (next limit r) else []
+
+-- the same in the whole run of a script, which has no more steps than its measure says
+unfoldable pub owners_of : Script → List (ℕ → ℕ)
+owners_of script = owners_from script.end (measure script.end (start_of script)) (start_of script)
 
 -- owners that stand in a list, by place
 abbrev pub owner_in : List ℕ → ℕ → ℕ

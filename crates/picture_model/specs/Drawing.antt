@@ -1,5 +1,5 @@
 -- claim: the parts of the picture of a record, drawn: who ran, the levels, and the figures, as SVG text.
-use Rattle.std.specs.Prelude.{ℕ, zero, suc, ◌+◌, ◌-◌, ◌*◌, ◌/◌, ◌%◌, nat_eq, nat_lt, nat_le, ◌&&◌, max, if◌then◌else◌, List, [], ◌∷◌, ◌++◌, length, codes}
+use Rattle.std.specs.Prelude.{ℕ, zero, suc, ◌+◌, ◌-◌, ◌*◌, ◌/◌, ◌%◌, nat_eq, nat_lt, nat_le, ◌&&◌, max, if◌then◌else◌, List, [], ◌∷◌, ◌++◌, codes}
 use Rattle.std.specs.List.{flat_map}
 use Rattle.std.specs.Fmt.{decimal}
 use Rattle.bcd48.specs.Words.{characters_of}
@@ -18,7 +18,7 @@ use Rattle.picture_model.specs.declared.request.Track.{Track}
 use Rattle.picture_model.specs.declared.request.Track.TheVariants.{Fresh}
 use Rattle.picture_model.specs.Requests.{waited_from, track_after}
 use Rattle.picture_model.specs.FigureLines.{all_levels, figures_in, time_line}
-use Rattle.picture_model.specs.Folds.{most_idle, cut_of, places_in, tick_at}
+use Rattle.picture_model.specs.Folds.{most_idle, cut_of, tick_at}
 
 -- an attribute and its number, as in x='12'
 unfoldable pub attribute : List ℕ → ℕ → List ℕ

@@ -5,7 +5,7 @@ use Rattle.ctss_types.specs.declared.history.Record.{Record}
 use Rattle.text_model.specs.Parts.{line}
 use Rattle.picture_model.specs.Folds.{places_in}
 use Rattle.picture_model.specs.Drawing.{back_drawn, figures_drawn, rows_drawn, scale_for, zoom_for}
-use Rattle.picture_model.specs.Cores.{owners_in}
+use Rattle.picture_model.specs.Cores.{owners_of}
 use Rattle.picture_model.specs.CorePanel.{core_panel}
 
 -- what is drawn, from back to front, with the owners of core after each load
@@ -24,4 +24,4 @@ drawing_over owners script rec =
 
 -- these owners are those of the script's run
 abbrev pub drawing_of : Script → Record → List ℕ
-drawing_of script rec = drawing_over (owners_in script rec.entries) script rec
+drawing_of script rec = drawing_over (owners_of script) script rec

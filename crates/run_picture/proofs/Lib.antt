@@ -1,3 +1,3 @@
 mod Drawn
-mod Loads
+mod Notes
 mod Runs

@@ -1,116 +1,103 @@
--- Runs that are stopped on the way, and the owners of core then.
-use Rattle.std.proofs.Common.{◌≡◌, ℕ, suc, ◌<◌, ◌≤◌, ◌+◌, min, true, List, [], ◌∷◌, ◌++◌, map, length, drop, get_or, Ok, Err, refl, sym, ap, subst, ◌∙◌, arith, append-nil}
+-- A run step by step, and the owners of core after the steps that tell of loads.
+use Rattle.std.proofs.Common.{◌≡◌, ℕ, ◌<◌, ◌≤◌, true, List, [], ◌++◌, map, length, drop, Ok, Err, refl, sym, ap, ◌∙◌, arith, append-nil, append_assoc}
 use Rattle.std.specs.Prelude.{OnOk}
 use Rattle.std.specs.declared.result.Result.{Result}
-use Rattle.std.proofs.lemmas.List.{drop_all}
 use Rattle.ctss_types.specs.declared.fault.RunFault.{RunFault}
+use Rattle.ctss_types.specs.declared.history.Entry.{Entry}
 use Rattle.ctss_types.specs.declared.script.Script.{Script}
-use Rattle.user_model.specs.Inner.{Stored}
-use Rattle.system_model.specs.Run.{Run, run_to}
+use Rattle.plan_model.specs.Loads.{Places}
+use Rattle.system_model.specs.Run.{next, measure}
 use Rattle.system_model.specs.Record.{start_of}
 use Rattle.system_model.specs.Joined.{joined}
-use Rattle.system_model.proofs.PartLaws.{runs_in_parts}
-use Rattle.system_model.proofs.RunLaws.{run_to_done}
+use Rattle.system_model.proofs.PassLaws.{passes_keep}
+use Rattle.system_model.proofs.RunLaws.{measure_next}
 use Rattle.supervisor.specs.Steps.{Lasts}
-use Rattle.supervisor.specs.Whole.{Whole, Advances, Agrees, run_of}
+use Rattle.supervisor.specs.Whole.{Whole, AdvancesOnce, Agrees}
 use Rattle.live_run.specs.Calls.{run_over}
-use Rattle.picture_model.specs.Cores.{owner_at, owner_behind}
-use Rattle.run_picture.specs.Rising.{IsRising}
-use Rattle.run_picture.specs.Watching.{Reaches, IsOnTheWay}
-use Rattle.run_picture.proofs.Loads.{left_from}
+use Rattle.picture_model.specs.Cores.{load_ticks, owners_shown, owners_of}
+use Rattle.picture_model.proofs.Owners.{owners_left, left_next, left_none, passes_still}
+use Rattle.run_picture.specs.Watching.{Steps}
 
--- words and files of users change nothing of whose core is
-owners_joined : (f : ℕ → Stored) (r : Run) → (joined f r).system.plan.places.owner ≡ r.system.plan.places.owner
+-- words and files of users change nothing of the clock, the schedule, and whose core is
+
+clock_over : (s : Whole) → (run_over s).system.clock ≡ s.bare.clock
 unfolding joined
-owners_joined f r = refl
+clock_over s = refl
 
--- the owners when a run has come to a tick
-owners_are : (script : Script) (n : ℕ) (s : Whole) → run_over s ≡ run_to n (start_of script)
-    → s.back.held.places.owner ≡ owner_at script n
-unfolding owner_at
-owners_are script n s is =
-    sym (owners_joined s.back.held.stores (run_of s)) ∙ ap (λ (r : Run). r.system.plan.places.owner) is
+entries_over : (s : Whole) → (run_over s).system.entries ≡ s.bare.entries
+unfolding joined
+entries_over s = refl
 
--- a run that met no fault
-pub went : (limit : ℕ) (result : Result Unit RunFault) (old new : Whole) → old.back.held.tells ≡ true → Advances limit result old new
-    → OnOk result (Reaches limit old new)
-went limit (Ok x) old new told h = record { run = h.ended told; agrees = h.tied; tells = h.tells ∙ told }
+places_over : (s : Whole) → (run_over s).system.plan.places ≡ s.back.held.places
+unfolding joined
+places_over s = refl
+
+-- a step that met no fault
+pub went : (limit : ℕ) (result : Result Unit RunFault) (old new : Whole) → old.back.held.tells ≡ true → OnOk result (AdvancesOnce limit old new)
+    → OnOk result (Steps limit old new)
+went limit (Ok x) old new told h =
+    let run = h.goes.run told in
+    record { more = run.0; passes = run.1; agrees = h.tied; tells = h.tells ∙ told }
 went limit (Err f) old new told h = tt
 
 pub lasts : {T : Type 0} (r : Result T RunFault) (P : Type 0) → Lasts r P → OnOk r P
 lasts (Ok x) P h = h
 lasts (Err f) P h = tt
 
--- at its start a run has come to tick 0
-pub begins : (script : Script) (ticks : List ℕ) (s : Whole) → run_over s ≡ start_of script → Agrees s → s.back.held.tells ≡ true → IsRising 0 ticks
-    → IsOnTheWay script ticks s
-begins script ticks s is agrees tells rising = record {
-  from = 0;
-  at = 0;
-  rising = rising;
-  near = omega arith;
-  within = omega arith;
-  run = is ∙ sym (run_to_done 0 (start_of script) (omega arith));
-  agrees = agrees;
-  tells = tells;
-}
+-- it is the run of a script, on which these owners were noted so far
+pub record IsOnTheWay (script : Script) (done : List (ℕ → ℕ)) (s : Whole) : Type 0 where
+  pub left : done ++ owners_left script.end (run_over s) ≡ owners_of script
+  pub agrees : Agrees s
+  pub tells : s.back.held.tells ≡ true
 
-least : (a b c : ℕ) → a ≤ b → a ≤ c → a ≤ min b c
-least a b c one two = omega (arith, one, two)
+pub begins : (script : Script) (s : Whole) → run_over s ≡ start_of script → Agrees s → s.back.held.tells ≡ true → IsOnTheWay script [] s
+unfolding owners_of
+begins script s is agrees tells = record { left = ap (owners_left script.end) is; agrees = agrees; tells = tells }
 
--- a run on the way that has gone to behind the next load is the script's to there
-run_is : (script : Script) (t : ℕ) (left : List ℕ) (old new : Whole) → IsOnTheWay script (t ∷ left) old
-    → Reaches (min (suc t) script.end) old new → run_over new ≡ run_to (min (suc t) script.end) (start_of script)
-run_is script t left old new was h =
-    let limit : ℕ = min (suc t) script.end in
-    let later : was.at ≤ limit = least was.at (suc t) script.end (let n = was.near in let r = was.rising.0 in omega (arith, n, r)) was.within in
-    h.run ∙ ap (run_to limit) was.run ∙ runs_in_parts was.at limit (start_of script) later
+pub falls : (limit : ℕ) (old new : Whole) → old.bare.clock < limit → Steps limit old new → measure limit (run_over new) < measure limit (run_over old)
+falls limit old new up h =
+    let first = measure_next limit (run_over old) (let c = clock_over old in omega (arith, c, up)) in
+    let rest : measure limit (run_over new) ≤ measure limit (next limit (run_over old)) =
+    passes_keep (λ r. measure limit r ≤ measure limit (next limit (run_over old))) limit h.more (next limit (run_over old)) (run_over new)
+    (λ r below quiet same was. let k = measure_next limit r below in omega (arith, was, k)) h.passes (omega arith) in
+    omega (arith, first, rest)
 
--- it is on the way to those that are left
-pub goes_on : (script : Script) (t : ℕ) (left : List ℕ) (old new : Whole) → IsOnTheWay script (t ∷ left) old
-    → Reaches (min (suc t) script.end) old new → IsOnTheWay script left new
-goes_on script t left old new was h = record {
-  from = t;
-  at = min (suc t) script.end;
-  rising = was.rising.1;
-  near = omega arith;
-  within = omega arith;
-  run = run_is script t left old new was h;
-  agrees = h.agrees;
-  tells = h.tells;
-}
+-- the owners that a step shows, as the schedule and the core behind it say
+shown_is : (limit : ℕ) (old new : Whole) → Steps limit old new
+    → owners_shown (run_over old) (next limit (run_over old)) ≡ map (λ tick. new.back.held.places.owner) (load_ticks (drop (length old.bare.entries) new.bare.entries))
+shown_is limit old new h =
+    let still = passes_still limit h.more (next limit (run_over old)) (run_over new) h.passes in
+    let entries : (next limit (run_over old)).system.entries ≡ new.bare.entries = sym still.entries ∙ entries_over new in
+    let places : (next limit (run_over old)).system.plan.places ≡ new.back.held.places = sym still.places ∙ places_over new in
+    ap (λ (p : Places). map (λ tick. p.owner) (load_ticks (drop (length (run_over old).system.entries) (next limit (run_over old)).system.entries))) places
+    ∙ ap (λ (es : List Entry). map (λ tick. new.back.held.places.owner) (load_ticks (drop (length (run_over old).system.entries) es))) entries
+    ∙ ap (λ (es : List Entry). map (λ tick. new.back.held.places.owner) (load_ticks (drop (length es) new.bare.entries))) (entries_over old)
 
--- and this is whose each place is then
-pub shows : (script : Script) (t : ℕ) (left : List ℕ) (old new : Whole) → IsOnTheWay script (t ∷ left) old
-    → Reaches (min (suc t) script.end) old new → new.back.held.places.owner ≡ owner_at script (min (suc t) script.end)
-shows script t left old new was h = owners_are script (min (suc t) script.end) new (run_is script t left old new was h)
+-- behind a step, whose loads were noted with the owners behind it
+pub goes_on : (script : Script) (done now : List (ℕ → ℕ)) (before : ℕ) (old new : Whole) → old.bare.clock < script.end → IsOnTheWay script done old
+    → Steps script.end old new → before ≡ length old.bare.entries
+    → now ≡ done ++ map (λ tick. new.back.held.places.owner) (load_ticks (drop before new.bare.entries)) → IsOnTheWay script now new
+goes_on script done now before old new up was h count noted =
+    let shown = owners_shown (run_over old) (next script.end (run_over old)) in
+    let still = passes_still script.end h.more (next script.end (run_over old)) (run_over new) h.passes in
+    let is : now ≡ done ++ shown =
+    noted
+    ∙ ap (λ (n : ℕ). done ++ map (λ tick. new.back.held.places.owner) (load_ticks (drop n new.bare.entries))) count
+    ∙ ap (λ (l : List (ℕ → ℕ)). done ++ l) (sym (shown_is script.end old new h)) in
+    record {
+      left =
+          ap (λ (l : List (ℕ → ℕ)). l ++ owners_left script.end (run_over new)) is
+          ∙ append_assoc done shown (owners_left script.end (run_over new))
+          ∙ ap (λ (l : List (ℕ → ℕ)). done ++ (shown ++ l)) still.left
+          ∙ ap (λ (l : List (ℕ → ℕ)). done ++ l) (sym (left_next script.end (run_over old) (let c = clock_over old in omega (arith, c, up))))
+          ∙ was.left;
+      agrees = h.agrees;
+      tells = h.tells;
+    }
 
--- after the load at a place of a list of ticks
-pub next_load : (script : Script) (ticks : List ℕ) (i limit : ℕ) (old new : Whole) → i < length ticks → limit ≡ min (suc (get_or ticks i 0)) script.end
-    → IsOnTheWay script (drop i ticks) old → Reaches limit old new
-    → IsOnTheWay script (drop (i + 1) ticks) new × (new.back.held.places.owner ≡ owner_behind script (get_or ticks i 0))
-next_load script ticks i limit old new within is was h =
-    let t : ℕ = get_or ticks i 0 in
-    let left = drop (i + 1) ticks in
-    let here : IsOnTheWay script (t ∷ left) old = subst (λ (ts : List ℕ). IsOnTheWay script ts old) (left_from ticks i 0 within) was in
-    let there : Reaches (min (suc t) script.end) old new = subst (λ (n : ℕ). Reaches n old new) is h in
-    (goes_on script t left old new here there, shows script t left old new here there)
-
--- one map more
-
-shifted : {A C : Type 0} (f : A → C) (done : List A) (x : A) (rest : List C) → map f (done ++ x ∷ []) ++ rest ≡ map f done ++ f x ∷ rest
-shifted f [] x rest = refl
-shifted f (y ∷ done) x rest = ap (λ (l : List _). f y ∷ l) (shifted f done x rest)
-
-pub map_next : {A B C : Type 0} (f : A → C) (g : B → C) (done now : List A) (x : A) (ts : List B) (i : ℕ) (d : B) → i < length ts
-    → now ≡ done ++ x ∷ [] → f x ≡ g (get_or ts i d) → map f done ++ map g (drop i ts) ≡ map g ts → map f now ++ map g (drop (i + 1) ts) ≡ map g ts
-map_next f g done now x ts i d within more same was =
-    ap (λ (xs : List _). map f xs ++ map g (drop (i + 1) ts)) more
-    ∙ shifted f done x (map g (drop (i + 1) ts))
-    ∙ ap (λ (y : _). map f done ++ y ∷ map g (drop (i + 1) ts)) same
-    ∙ ap (λ (ys : List _). map f done ++ map g ys) (sym (left_from ts i d within))
-    ∙ was
-
-pub map_all : {A B C : Type 0} (f : A → C) (g : B → C) (done : List A) (ts : List B) (i : ℕ) → length ts ≤ i → map f done ++ map g (drop i ts) ≡ map g ts
-    → map f done ≡ map g ts
-map_all f g done ts i behind was = sym (append-nil (map f done)) ∙ ap (λ (l : List _). map f done ++ map g l) (sym (drop_all i ts behind)) ∙ was
+-- at the end they are all
+pub ends : (script : Script) (done : List (ℕ → ℕ)) (s : Whole) → script.end ≤ s.bare.clock → IsOnTheWay script done s → done ≡ owners_of script
+ends script done s over was =
+    sym (append-nil done)
+    ∙ ap (λ (l : List (ℕ → ℕ)). done ++ l) (sym (left_none script.end (run_over s) (let c = clock_over s in omega (arith, c, over))))
+    ∙ was.left

@@ -10,7 +10,7 @@ ghost use Rattle.script_show.specs.Shown.{ShowsRun};
 use crate::core_maps::core_maps;
 use ctss_io::Sink;
 use ctss_types::{Record, Script};
-use schedule_chart::add_chart;
+use schedule_chart::{CoreMaps, add_chart};
 use schedule_drawing::add_drawing;
 use schedule_figures::{add_csv, add_figures};
 use script_show::{Outcome, RunText, run_script};
@@ -53,7 +53,7 @@ impl RunText for Spans {
 /// The picture in characters, with the owners of core after each load.
 #[derive(Drop)]
 struct Chart {
-    maps: Vec<[u8; 128]>,
+    maps: CoreMaps,
 }
 
 impl RunText for Chart {
@@ -61,7 +61,7 @@ impl RunText for Chart {
     ghost use Rattle.picture_model.specs.Cores.{owner_in};
     ghost use Rattle.picture_model.specs.CoreLines.{chart_over};
 
-    ghost bytes = { λ chart. chart_over (map owner_in chart.maps.items) };
+    ghost bytes = { λ chart. chart_over (map owner_in chart.maps) };
 
     fn add_to<K: Sink>(&self, script: &Script, run: &Record, out: &mut TextWriter<'_, K>) {
         add_chart(out, script, run, &self.maps);
@@ -71,7 +71,7 @@ impl RunText for Chart {
 /// The picture, drawn, with the same.
 #[derive(Drop)]
 struct Drawing {
-    maps: Vec<[u8; 128]>,
+    maps: CoreMaps,
 }
 
 impl RunText for Drawing {
@@ -79,7 +79,7 @@ impl RunText for Drawing {
     ghost use Rattle.picture_model.specs.Cores.{owner_in};
     ghost use Rattle.picture_model.specs.Picture.{drawing_over};
 
-    ghost bytes = { λ drawing. drawing_over (map owner_in drawing.maps.items) };
+    ghost bytes = { λ drawing. drawing_over (map owner_in drawing.maps) };
 
     fn add_to<K: Sink>(&self, script: &Script, run: &Record, out: &mut TextWriter<'_, K>) {
         add_drawing(out, script, run, &self.maps);

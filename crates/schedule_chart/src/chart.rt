@@ -8,6 +8,7 @@ ghost use Rattle.text_writer.specs.Writing.{Adds};
 use crate::columns::{Columns, columns_for};
 use crate::core_lines::add_core_lines;
 use crate::levels::add_levels;
+use crate::maps::CoreMaps;
 use crate::place::places_in;
 use crate::ruler::add_ruler;
 use crate::users::add_users;
@@ -71,7 +72,7 @@ pub fn add_chart<K: Sink>(
     out: &mut TextWriter<'_, K>,
     script: &Script,
     run: &Record,
-    maps: &[[u8; 128]],
+    maps: &CoreMaps,
 )
     ensures { Adds K.Sink (chart_over (map owner_in maps.now) script.now run.now) out.old out.new }
 {

@@ -1,11 +1,13 @@
 //! The lines of core: for each load what it moved, and whose each place is behind it.
-ghost use Rattle.std.specs.Prelude.{◌<◌, map};
+ghost use Rattle.std.specs.Prelude.{◌<◌, map, drop};
 ghost use Rattle.picture_model.specs.Cores.{owner_in};
 ghost use Rattle.picture_model.specs.CorePanel.{first_owners};
 ghost use Rattle.picture_model.specs.CoreLines.{core_line, core_lines, load_line, place_text, places_text, stretch_text};
+ghost use Rattle.schedule_chart.specs.Maps.{users_of};
 ghost use Rattle.text_writer.specs.Writing.{Adds};
 
-use crate::owners::{begins_at, maps_after, owner_at, stretch_from};
+use crate::maps::{CoreMaps, CorePart};
+use crate::owners::{begins_at, owner_at, stretch_from};
 use ctss_io::Sink;
 use ctss_types::Entry;
 use text_writer::TextWriter;
@@ -35,42 +37,42 @@ fn add_stretch<K: Sink>(out: &mut TextWriter<'_, K>, user: u8, place: u8, count:
 
 /// Adds the stretch that begins at a place, if one does that is somebody's.
 #[tactic(auto, using(text_writer::proofs::Added::adds_none))]
-fn add_place<K: Sink>(out: &mut TextWriter<'_, K>, maps: &[[u8; 128]], place: u8)
+fn add_place<K: Sink>(out: &mut TextWriter<'_, K>, core: &[CorePart], place: u8)
     requires { place < 128 }
-    ensures { Adds K.Sink (place_text (first_owners (map owner_in maps.now)) place) out.old out.new }
+    ensures { Adds K.Sink (place_text (owner_in (users_of core.now)) place) out.old out.new }
 {
-    let user = owner_at(maps, place);
-    if begins_at(maps, place) && user != 0 {
-        add_stretch(out, user, place, stretch_from(maps, user, place));
+    let user = owner_at(core, place);
+    if begins_at(core, place) && user != 0 {
+        add_stretch(out, user, place, stretch_from(core, user, place));
     }
 }
 
-/// Adds all places of core behind the first of these loads.
-fn add_places<K: Sink>(out: &mut TextWriter<'_, K>, maps: &[[u8; 128]])
-    ensures { Adds K.Sink (places_text (first_owners (map owner_in maps.now)) 0 128) out.old out.new }
+/// Adds all places of core.
+fn add_places<K: Sink>(out: &mut TextWriter<'_, K>, core: &[CorePart])
+    ensures { Adds K.Sink (places_text (owner_in (users_of core.now)) 0 128) out.old out.new }
 {
     for place in 0..128 {
-        add_place(out, maps, place);
+        add_place(out, core, place);
     }
 }
 
-/// Adds the line of the first of these loads.
-fn add_load<K: Sink>(out: &mut TextWriter<'_, K>, load: Load, maps: &[[u8; 128]])
+/// Adds the line of a load, and core behind it.
+fn add_load<K: Sink>(out: &mut TextWriter<'_, K>, load: Load, core: &[CorePart])
     ensures { Adds K.Sink (load_line load.tick load.user load.dumped load.read load.fresh
-        (first_owners (map owner_in maps.now))) out.old out.new }
+        (owner_in (users_of core.now))) out.old out.new }
 {
     add_column(out, 10, load.tick);
     add_column(out, 6, load.user);
     add_column(out, 8, load.dumped);
     add_column(out, 8, load.read);
     add_column(out, 8, load.fresh);
-    add_places(out, maps);
+    add_places(out, core);
     out.end_line();
 }
 
-/// Adds the line of an entry, if it is a load.
-fn add_core_line<K: Sink>(out: &mut TextWriter<'_, K>, maps: &[[u8; 128]], entry: &Entry)
-    ensures { Adds K.Sink (core_line (first_owners (map owner_in maps.now)) entry.now) out.old out.new }
+/// Adds the line of an entry, if it is a load: the next one.
+fn add_core_line<K: Sink>(out: &mut TextWriter<'_, K>, maps: &CoreMaps, next: usize, entry: &Entry)
+    ensures { Adds K.Sink (core_line (first_owners (map owner_in (drop next maps.now))) entry.now) out.old out.new }
 {
     if let Entry::Swap {
         tick,
@@ -87,17 +89,17 @@ fn add_core_line<K: Sink>(out: &mut TextWriter<'_, K>, maps: &[[u8; 128]], entry
             read: *read,
             fresh: *fresh,
         };
-        add_load(out, load, maps);
+        add_load(out, load, maps.behind(next));
     }
 }
 
 /// Adds the lines of all loads.
-pub fn add_core_lines<K: Sink>(out: &mut TextWriter<'_, K>, maps: &[[u8; 128]], entries: &[Entry])
+pub fn add_core_lines<K: Sink>(out: &mut TextWriter<'_, K>, maps: &CoreMaps, entries: &[Entry])
     ensures { Adds K.Sink (core_lines (map owner_in maps.now) entries.now) out.old out.new }
 {
-    let mut maps = maps;
+    let mut next = 0;
     for entry in entries {
-        add_core_line(out, maps, entry);
-        maps = maps_after(entry, maps);
+        add_core_line(out, maps, next, entry);
+        next = maps.after(entry, next);
     }
 }

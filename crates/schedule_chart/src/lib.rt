@@ -5,6 +5,7 @@ mod chart;
 mod columns;
 mod core_lines;
 mod levels;
+mod maps;
 mod marks;
 mod numbers;
 mod owners;
@@ -16,5 +17,6 @@ mod ruler;
 mod users;
 
 pub use chart::add_chart;
-pub use owners::{begins_at, maps_after, owner_at, stretch_from};
+pub use maps::{CoreMaps, CorePart};
+pub use owners::{begins_at, owner_at, stretch_from};
 pub use place::{cut_of, place_of, places_in, tick_at};

@@ -1,48 +1,41 @@
-//! Whose each place of core is after a load.
-ghost use Rattle.std.specs.Prelude.{◌≡◌, ◌<◌, ◌-◌, map};
+//! Whose each place of core is, in parts of one user each.
+ghost use Rattle.std.specs.Prelude.{◌≡◌, ◌<◌, ◌-◌};
 ghost use Rattle.picture_model.specs.Cores.{owner_in};
-ghost use Rattle.picture_model.specs.CorePanel.{begins_at, first_owners, owners_after, stretch_from};
+ghost use Rattle.picture_model.specs.CorePanel.{begins_at, stretch_from};
+ghost use Rattle.schedule_chart.specs.Maps.{users_of};
 
-use ctss_types::Entry;
+use crate::maps::CorePart;
 
-/// The user whose a place is behind the first of these loads, 0 for nobody.
-pub fn owner_at(maps: &[[u8; 128]], place: u8) -> u8
-    requires { place < 128 }
-    ensures { result ≡ first_owners (map owner_in maps.now) place }
+/// The user whose a place is, 0 for nobody.
+pub fn owner_at(core: &[CorePart], place: u8) -> u8
+    ensures { result ≡ owner_in (users_of core.now) place }
 {
-    match maps.first() {
-        Some(map) => map[place as usize],
-        None => 0,
+    let mut left = place;
+    for part in core {
+        if left < part.count {
+            return part.user;
+        }
+        left -= part.count;
     }
+    0
 }
 
 /// Whether a stretch of places of one owner begins at a place.
-pub fn begins_at(maps: &[[u8; 128]], place: u8) -> bool
-    requires { place < 128 }
-    ensures { result ≡ begins_at (first_owners (map owner_in maps.now)) place }
+pub fn begins_at(core: &[CorePart], place: u8) -> bool
+    ensures { result ≡ begins_at (owner_in (users_of core.now)) place }
 {
-    place == 0 || owner_at(maps, place - 1) != owner_at(maps, place)
+    place == 0 || owner_at(core, place - 1) != owner_at(core, place)
 }
 
 /// How many places from one on are all this user's.
-pub fn stretch_from(maps: &[[u8; 128]], user: u8, place: u8) -> u8
+pub fn stretch_from(core: &[CorePart], user: u8, place: u8) -> u8
     requires { place < 128 }
-    ensures { result ≡ stretch_from (first_owners (map owner_in maps.now)) user place (128 - place) }
+    ensures { result ≡ stretch_from (owner_in (users_of core.now)) user place (128 - place) }
 {
     for next in place..128 {
-        if owner_at(maps, next) != user {
+        if owner_at(core, next) != user {
             return next - place;
         }
     }
     128 - place
-}
-
-/// The owners after the loads that come after an entry.
-pub fn maps_after<'a>(entry: &Entry, maps: &'a [[u8; 128]]) -> &'a [[u8; 128]]
-    ensures { map owner_in result.now ≡ owners_after entry.now (map owner_in maps.now) }
-{
-    match (entry, maps.split_first()) {
-        (Entry::Swap { .. }, Some((_, later))) => later,
-        _ => maps,
-    }
 }

@@ -1,9 +1,10 @@
 //! The rows of core: from each load to the next, whose each place is, and below it what the load moved.
-ghost use Rattle.std.specs.Prelude.{◌≡◌, ◌<◌, ◌+◌, ◌*◌, ◌^◌, length, map};
+ghost use Rattle.std.specs.Prelude.{◌≡◌, ◌<◌, ◌+◌, ◌*◌, ◌^◌, length, map, drop};
 ghost use Rattle.std.specs.List.{flat_map};
 ghost use Rattle.picture_model.specs.Folds.{cut_of};
 ghost use Rattle.picture_model.specs.Cores.{owner_in};
 ghost use Rattle.picture_model.specs.CorePanel.{core_drawn, core_names, core_panel, cores_drawn, first_owners, load_shown, moved_label, moved_name, next_load, place_name};
+ghost use Rattle.schedule_chart.specs.Maps.{users_of};
 ghost use Rattle.text_writer.specs.Writing.{Adds};
 
 use crate::shape::{Point, add_number_at, add_words, begin_text};
@@ -11,7 +12,7 @@ use crate::sheet::Sheet;
 use crate::stretch::{Span, add_places};
 use ctss_io::Sink;
 use ctss_types::Entry;
-use schedule_chart::{cut_of, maps_after, place_of};
+use schedule_chart::{CoreMaps, CorePart, cut_of, place_of};
 use text_writer::TextWriter;
 use text_writer::columns::add_number;
 
@@ -50,13 +51,13 @@ fn add_load<K: Sink>(
     sheet: Sheet,
     span: Span,
     moved: Moved,
-    maps: &[[u8; 128]],
+    core: &[CorePart],
     entry: &Entry,
 )
     ensures { Adds K.Sink (load_shown sheet.scale sheet.zoom sheet.users span.from span.until
-        moved.dumped moved.read moved.fresh (first_owners (map owner_in maps.now)) entry.now) out.old out.new }
+        moved.dumped moved.read moved.fresh (owner_in (users_of core.now)) entry.now) out.old out.new }
 {
-    add_places(out, sheet, span, maps, entry);
+    add_places(out, sheet, span, core, entry);
     add_moved(out, sheet, span, 1, moved.dumped);
     add_moved(out, sheet, span, 2, moved.read);
     add_moved(out, sheet, span, 3, moved.fresh);
@@ -77,19 +78,21 @@ fn next_load(last: u64, cut: u128, entries: &[Entry]) -> u64
     last
 }
 
-/// Adds what an entry shows in the rows of core: a load lasts until the next of the entries that come later.
+/// Adds what an entry shows in the rows of core, where this load comes next: it lasts until the next of the entries that come
+/// later.
 fn add_core<K: Sink>(
     out: &mut TextWriter<'_, K>,
     sheet: Sheet,
     standing: Standing,
-    maps: &[[u8; 128]],
+    maps: &CoreMaps,
+    next: usize,
     entry: &Entry,
     later: &[Entry],
 )
     requires { standing.cut + 2 ^ 64 * length later.now < 2 ^ 128 }
     ensures { Adds K.Sink (core_drawn sheet.scale sheet.zoom sheet.users standing.cut
         (next_load standing.last (standing.cut + cut_of entry.now) later.now)
-        (first_owners (map owner_in maps.now)) entry.now) out.old out.new }
+        (first_owners (map owner_in (drop next maps.now))) entry.now) out.old out.new }
 {
     if let Entry::Swap {
         tick,
@@ -108,7 +111,7 @@ fn add_core<K: Sink>(
             read: *read,
             fresh: *fresh,
         };
-        add_load(out, sheet, span, moved, maps, entry);
+        add_load(out, sheet, span, moved, maps.behind(next), entry);
     }
 }
 
@@ -117,19 +120,19 @@ fn add_loads<K: Sink>(
     out: &mut TextWriter<'_, K>,
     sheet: Sheet,
     last: u64,
-    maps: &[[u8; 128]],
+    maps: &CoreMaps,
     entries: &[Entry],
 )
     ensures { Adds K.Sink (cores_drawn sheet.scale sheet.zoom sheet.users last 0
         (map owner_in maps.now) entries.now) out.old out.new }
 {
     let mut cut: u128 = 0;
-    let mut maps = maps;
+    let mut next = 0;
     let mut entries = entries;
     'loads: while let Some((entry, later)) = entries.split_first() {
-        add_core(out, sheet, Standing { cut, last }, maps, entry, later);
+        add_core(out, sheet, Standing { cut, last }, maps, next, entry, later);
         cut += u128::from(cut_of(entry));
-        maps = maps_after(entry, maps);
+        next = maps.after(entry, next);
         entries = later;
     }
 }
@@ -193,7 +196,7 @@ pub(crate) fn add_cores<K: Sink>(
     out: &mut TextWriter<'_, K>,
     sheet: Sheet,
     last: u64,
-    maps: &[[u8; 128]],
+    maps: &CoreMaps,
     entries: &[Entry],
 )
     ensures { Adds K.Sink (core_panel sheet.scale sheet.zoom sheet.users last

@@ -16,7 +16,7 @@ use crate::user::UserRows;
 use crate::wait::add_users;
 use ctss_io::Sink;
 use ctss_types::{Account, Entry, Record, Script};
-use schedule_chart::places_in;
+use schedule_chart::{CoreMaps, places_in};
 use schedule_figures::{add_figures, add_time_line};
 use text_writer::TextWriter;
 use text_writer::columns::add_number;
@@ -173,7 +173,7 @@ pub fn add_drawing<K: Sink>(
     out: &mut TextWriter<'_, K>,
     script: &Script,
     run: &Record,
-    maps: &[[u8; 128]],
+    maps: &CoreMaps,
 )
     ensures { Adds K.Sink (drawing_over (map owner_in maps.now) script.now run.now) out.old out.new }
 {

@@ -1,7 +1,8 @@
 //! Core after a load: its places from top to bottom, in stretches of one owner each.
-ghost use Rattle.std.specs.Prelude.{◌≡◌, ◌≤◌, ◌<◌, ◌+◌, ◌-◌, ◌*◌, ◌^◌, map};
+ghost use Rattle.std.specs.Prelude.{◌≡◌, ◌≤◌, ◌<◌, ◌+◌, ◌-◌, ◌*◌, ◌^◌};
 ghost use Rattle.picture_model.specs.Cores.{owner_in};
-ghost use Rattle.picture_model.specs.CorePanel.{first_owners, owner_bar, owner_label, place_drawn, places_drawn, stretch_drawn};
+ghost use Rattle.picture_model.specs.CorePanel.{owner_bar, owner_label, place_drawn, places_drawn, stretch_drawn};
+ghost use Rattle.schedule_chart.specs.Maps.{users_of};
 ghost use Rattle.text_writer.specs.Writing.{Adds};
 
 use crate::label::add_level_label;
@@ -9,7 +10,7 @@ use crate::shape::{Area, Point, add_bar};
 use crate::sheet::Sheet;
 use ctss_io::Sink;
 use ctss_types::Entry;
-use schedule_chart::{begins_at, owner_at, stretch_from};
+use schedule_chart::{CorePart, begins_at, owner_at, stretch_from};
 use text_writer::TextWriter;
 
 /// From one place of the picture to another: a load shows core until the next load.
@@ -99,20 +100,20 @@ fn add_place<K: Sink>(
     out: &mut TextWriter<'_, K>,
     sheet: Sheet,
     span: Span,
-    maps: &[[u8; 128]],
+    core: &[CorePart],
     entry: &Entry,
     place: u8,
 )
     requires { place < 128 }
     ensures { Adds K.Sink (place_drawn sheet.scale sheet.zoom sheet.users span.from span.until
-        (first_owners (map owner_in maps.now)) entry.now place) out.old out.new }
+        (owner_in (users_of core.now)) entry.now place) out.old out.new }
 {
-    if begins_at(maps, place) {
-        let user = owner_at(maps, place);
+    if begins_at(core, place) {
+        let user = owner_at(core, place);
         let stretch = Stretch {
             user,
             place,
-            count: stretch_from(maps, user, place),
+            count: stretch_from(core, user, place),
         };
         add_stretch(out, sheet, span, stretch, entry);
     }
@@ -123,13 +124,13 @@ pub(crate) fn add_places<K: Sink>(
     out: &mut TextWriter<'_, K>,
     sheet: Sheet,
     span: Span,
-    maps: &[[u8; 128]],
+    core: &[CorePart],
     entry: &Entry,
 )
     ensures { Adds K.Sink (places_drawn sheet.scale sheet.zoom sheet.users span.from span.until
-        (first_owners (map owner_in maps.now)) entry.now 0 128) out.old out.new }
+        (owner_in (users_of core.now)) entry.now 0 128) out.old out.new }
 {
     for place in 0..128 {
-        add_place(out, sheet, span, maps, entry, place);
+        add_place(out, sheet, span, core, entry, place);
     }
 }

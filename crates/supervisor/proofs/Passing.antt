@@ -26,12 +26,12 @@ use Rattle.console_texts.specs.Watching.{transcripts_of, texts_to, AfterShown}
 use Rattle.console_texts.proofs.Watched.{shown_still, texts_on, shown_on}
 use Rattle.user_cores.specs.Backing.{Held}
 use Rattle.supervisor.specs.Runs.{DoesMany}
-use Rattle.supervisor.specs.Steps.{IsTied, IsHeld, IsServedNext}
-use Rattle.supervisor.specs.Shows.{TextsGrow}
+use Rattle.supervisor.specs.Steps.{Does, IsTied, IsHeld, IsServedNext, HasRunOnce}
+use Rattle.supervisor.specs.Shows.{TextsGrow, HasTextsPart}
 use Rattle.supervisor.proofs.Growing.{grow_none, grow_trans, next_grow}
 use Rattle.supervisor.proofs.Doing.{same_but}
-use Rattle.supervisor.proofs.Running.{HasRunSteps, Leads, next_common, joined_common}
-use Rattle.supervisor.proofs.Watching.{HasTextsPart, TextsLead, texts_same, told_joined, told_apart}
+use Rattle.supervisor.proofs.Running.{HasRunSteps, Leads, joined_next, next_common, joined_common}
+use Rattle.supervisor.proofs.Watching.{TextsLead, texts_same, told_joined, told_apart}
 
 -- no step
 pub does_none_at_all : (limit : ℕ) (old new : Run) (had has : Held) → new ≡ old → (had.tells ≡ true → (u : ℕ) → has.stores u ≡ had.stores u) → has.tells ≡ had.tells → has.common ≡ had.common → DoesMany limit old new had has
@@ -92,10 +92,10 @@ module _ (limit : ℕ) (mid new : Run) (had has : Held) (d : DoesMany limit mid 
   abbrev to : Run
   to = joined d.after new
 
-  was_joined : had.tells ≡ true → joined had.stores mid ≡ from
+  pub was_joined : had.tells ≡ true → joined had.stores mid ≡ from
   was_joined told = joined_same had.stores d.before mid (λ u. sym (d.was told u))
 
-  now_joined : had.tells ≡ true → joined has.stores new ≡ to
+  pub now_joined : had.tells ≡ true → joined has.stores new ≡ to
   now_joined told = joined_same has.stores d.after new (λ u. sym (d.now told u))
 
   pub pass_sound : Sound mid → Sound new
@@ -184,3 +184,14 @@ module _ (limit : ℕ) (mid new : Run) (had has : Held) (d : DoesMany limit mid 
         (λ r up quiet same h. (quietly r up quiet same h.0, grow_trans _ _ _ h.1 (subst (TextsGrow (shows r)) (shown_still limit r rows quiet (h.0).0 same (h.0).1).0 (next_grow limit r (shows r)))))
         d.passes (quiet_from sound told, grow_none (shows from))).1 in
         subst (λ (x : List (List ℕ)). TextsGrow x (shows new)) (sym (texts_same d.before mid rows)) (subst (TextsGrow (shows from)) (sym (texts_same d.after new rows)) g)
+
+-- one step, and such steps behind it
+pub once_run : (limit : ℕ) (old mid new : Run) (had midway has : Held) → Does (next limit) old mid had midway → DoesMany limit mid new midway has → HasRunOnce limit old new had has
+once_run limit old mid new had midway has d many = λ told.
+    let t : midway.tells ≡ true = d.tells ∙ told in
+    let first : joined many.before mid ≡ next limit (joined had.stores old) =
+    sym (was_joined limit mid new midway has many t) ∙ joined_next limit old mid had midway d told in (
+      many.steps,
+      subst (λ (r : Run). Passes limit many.steps (next limit (joined had.stores old)) r) (sym (now_joined limit mid new midway has many t))
+          (subst (λ (r : Run). Passes limit many.steps r (joined many.after new)) first many.passes),
+    )

@@ -16,7 +16,7 @@ use Rattle.console_texts.specs.Following.{AreShown, followed, settled_in}
 use Rattle.console_texts.specs.Watching.{transcripts_of, texts_next, texts_to, AfterShown, refused_by}
 use Rattle.console_texts.proofs.Watched.{shown_event, shown_rest, shown_served, texts_on, texts_done, shown_none, shown_on}
 use Rattle.user_cores.specs.Backing.{Held}
-use Rattle.supervisor.specs.Shows.{GoesOn, HasTexts, HasTextsShown}
+use Rattle.supervisor.specs.Shows.{GoesOn, HasTexts, HasTextsPart, HasTextsShown}
 use Rattle.supervisor.specs.Steps.{Does}
 use Rattle.supervisor.proofs.Running.{joined_next, transcripts_same}
 
@@ -123,10 +123,6 @@ served_told limit old new had has rows quiet sound opened told d =
     told_apart d.after new rows (subst (λ (s : Run). AreShown s.system.consoles (transcripts_of s.system.users) rows) (sym d.is) k.1)
 
 -- whole runs
-
--- the texts behind a part of the run; where the drum tells its records
-abbrev pub HasTextsPart : ℕ → (old new : Run) → (had has : Held) → (told tells : List (List ℕ)) → Type 0
-HasTextsPart limit old new had has told tells = had.tells ≡ true → AfterShown limit (joined had.stores old) (joined has.stores new) told tells
 
 abbrev pub TextsLead : ℕ → (start now : Run) → (first has : Held) → (told tells : List (List ℕ)) → Type 0
 TextsLead limit start now first has told tells = first.tells ≡ true → texts_to limit (joined has.stores now) tells ≡ texts_to limit (joined first.stores start) told

@@ -35,6 +35,10 @@ HasTexts limit old had told tells = had.tells ≡ true → tells ≡ texts_to li
 abbrev pub HasTextsShown : ℕ → (old new : Run) → (had : Held) → (told tells : List (List ℕ)) → Type 0
 HasTextsShown limit old new had told tells = had.tells ≡ true → (at : Run) × AfterShown limit (joined had.stores old) at told tells × Shows at new
 
+-- The texts behind some whole steps, of a run that has come to its new state by as many; likewise.
+abbrev pub HasTextsPart : ℕ → (old new : Run) → (had has : Held) → (told tells : List (List ℕ)) → Type 0
+HasTextsPart limit old new had has told tells = had.tells ≡ true → AfterShown limit (joined had.stores old) (joined has.stores new) told tells
+
 -- nothing that a console has shown is taken back
 abbrev pub TextsGrow : (had has : List (List ℕ)) → Type 0
 TextsGrow had has = AllZip Grows had has

@@ -15,9 +15,10 @@ use Rattle.plan_model.specs.Plan.{must_load}
 use Rattle.user_cores.specs.Backing.{Held}
 use Rattle.user_cores.specs.Settles.{IsResized}
 use Rattle.user_cores.specs.Swaps.{IsCutOff}
-use Rattle.system_model.specs.Run.{Run, due_of, rising, run_to, AfterSteps}
+use Rattle.system_model.specs.Run.{Run, due_of, rising, next, run_to, AfterSteps}
 use Rattle.system_model.specs.Cases.{user_at}
 use Rattle.system_model.specs.Joined.{joined, hung_up}
+use Rattle.system_model.specs.Runs.{Passes}
 use Rattle.system_model.specs.Sound.{Sound}
 use Rattle.supervisor.specs.Seen.{number_of, left_places}
 use Rattle.supervisor.specs.Counts.{IsCountedToLoad, calls_to_load}
@@ -99,6 +100,10 @@ pub record Shows (r s : Run) : Type 0 where
 -- What happened is the run to the limit, of the users joined with their words and files, where drum and disk tell them.
 abbrev pub HasRun : ℕ → (old new : Run) → (had has : Held) → Type 0
 HasRun limit old new had has = had.tells ≡ true → joined has.stores new ≡ run_to limit (joined had.stores old)
+
+-- What happened is one step of it, and then steps at which no event is due and which write no entry; likewise.
+abbrev pub HasRunOnce : ℕ → (old new : Run) → (had has : Held) → Type 0
+HasRunOnce limit old new had has = had.tells ≡ true → (n : ℕ) × Passes limit n (next limit (joined had.stores old)) (joined has.stores new)
 
 -- the same run but for the common files
 abbrev pub IsButCommons : Run → Run → Type 0

@@ -10,10 +10,10 @@ use Rattle.user_cores.specs.Swaps.{IsCutOff}
 use Rattle.supervisor.specs.Counts.{IsCounted, calls_to_load}
 use Rattle.supervisor.specs.Runs.{DoesMany}
 use Rattle.supervisor.specs.Seen.{Bare, bare_of, run_with}
-use Rattle.supervisor.specs.Shows.{texts_of, TextsGrow, GoesOn, HasTexts, HasTextsShown}
+use Rattle.supervisor.specs.Shows.{texts_of, TextsGrow, GoesOn, HasTexts, HasTextsPart, HasTextsShown}
 use Rattle.supervisor.specs.declared.state.State.{State}
 use Rattle.supervisor.specs.declared.watch.Watch.{Watch}
-use Rattle.supervisor.specs.Steps.{Does, Stays, IsHeld, IsTied, IsServedNext, LoadFails, NextLoadFails, HasRun, HasRunPart, HasRunShown, HasRunToLoad, Ends, Lasts}
+use Rattle.supervisor.specs.Steps.{Does, Stays, IsHeld, IsTied, IsServedNext, LoadFails, NextLoadFails, HasRun, HasRunOnce, HasRunPart, HasRunShown, HasRunToLoad, Ends, Lasts}
 
 -- a run but for what lies behind its users' sessions, and this
 pub record Whole : Type 0 where
@@ -140,5 +140,22 @@ pub record Advances (limit : ℕ) (result : Result Unit RunFault) (old new : Who
   pub cut : Ends result (new.bare.ended ≡ old.bare.ended) (new.bare.ended ≡ true) (new.bare.ended ≡ true) (new.bare.ended ≡ true)
   pub tells : Lasts result (new.back.held.tells ≡ old.back.held.tells)
   pub tied : Lasts result (Agrees new)
+  pub faults_grow : old.back.faults ≤ new.back.faults
+  pub disk : old.back.disk_faults ≤ new.back.disk_faults
+
+-- One step, and then steps at which no event is due and which write no entry; with what the consoles show of them.
+pub record GoesOnce (limit : ℕ) (old new : Whole) : Type 0 where
+  pub run : HasRunOnce limit (run_of old) (run_of new) old.back.held new.back.held
+  pub texts : HasTextsPart limit (run_of old) (run_of new) old.back.held new.back.held old.bare.texts new.bare.texts
+
+-- The same of a supervisor that met no fault, and all else as behind a run to a limit.
+pub record AdvancesOnce (limit : ℕ) (old new : Whole) : Type 0 where
+  pub goes : GoesOnce limit old new
+  pub grows : TextsGrow old.bare.texts new.bare.texts
+  pub seats : length new.bare.consoles ≡ length old.bare.consoles
+  pub counted : AreCounted old new
+  pub cut : new.bare.ended ≡ old.bare.ended
+  pub tells : new.back.held.tells ≡ old.back.held.tells
+  pub tied : Agrees new
   pub faults_grow : old.back.faults ≤ new.back.faults
   pub disk : old.back.disk_faults ≤ new.back.disk_faults

@@ -7,6 +7,7 @@
 mod events;
 mod finish;
 mod login;
+mod once;
 mod service;
 mod start;
 mod state;

@@ -1,4 +1,4 @@
-ghost use Rattle.std.specs.Prelude.{◌≡◌, ◌≤◌, ◌-◌, ◌^◌, ◌++◌, [], min, length, take, drop, replicate, true, false};
+ghost use Rattle.std.specs.Prelude.{◌≡◌, ◌<◌, ◌≤◌, ◌-◌, ◌^◌, ◌++◌, [], min, length, take, drop, replicate, true, false};
 ghost use Rattle.time_sharing.specs.System.{at};
 ghost use Rattle.system_model.specs.Run.{with_one_event};
 ghost use Rattle.plan_model.specs.Loads.{Places, no_places};
@@ -8,7 +8,7 @@ ghost use Rattle.std.specs.List.{All};
 ghost use Rattle.ctss_types.specs.declared.script.Account.{Account};
 ghost use Rattle.supervisor.specs.Seen.{record_so_far, run_with};
 ghost use Rattle.supervisor.specs.Steps.{Lasts};
-ghost use Rattle.supervisor.specs.Whole.{whole_of, Agrees, Advances};
+ghost use Rattle.supervisor.specs.Whole.{whole_of, Agrees, Advances, AdvancesOnce};
 ghost use Rattle.supervisor.specs.Closes.{Closes, IfComplete};
 ghost use Rattle.std.specs.Prelude.{IfOk, OnOk, OnErr};
 
@@ -100,7 +100,36 @@ impl Supervisor {
         done
     }
 
-    /// Whether a call of `advance` answered a fault.
+    /// One step below the limit, and the instructions of the served user's program that follow it: steps at which no event is
+    /// due, and which write no entry. Whoever goes on so up to the limit has done what `advance` does, and has seen each step that
+    /// writes entries. A fault is as one of `advance`.
+    pub fn advance_once<C: Backing>(&mut self, cores: &mut C, limit: u64) -> Result<(), RunFault>
+        requires usable { C.Usable cores.old }
+        requires agrees { Agrees (whole_of self.old (C.state cores.old)) }
+        requires in_time { self.old.clock < limit }
+        requires limit { limit ≤ 100000000 }
+        ensures once { OnOk result (AdvancesOnce limit
+            (whole_of self.old (C.state cores.old)) (whole_of self.new (C.state cores.new))) }
+        ensures fails { OnErr result (Advances limit result
+            (whole_of self.old (C.state cores.old)) (whole_of self.new (C.state cores.new))) }
+        ensures usable { Lasts result (C.Usable cores.new) }
+        ensures keeps { C.Keeps cores.old cores.new }
+    {
+        let done = self.watch.advance_once(cores, limit);
+        if done.is_err() {
+            self.ended = true;
+        }
+        done
+    }
+
+    /// The clock.
+    pub fn clock(&self) -> u64
+        ensures { result ≡ self.now.clock }
+    {
+        self.watch.state.clock
+    }
+
+    /// Whether a call of `advance` or `advance_once` answered a fault.
     pub fn ended(&self) -> bool
         ensures { result ≡ self.now.ended }
     {

@@ -153,7 +153,7 @@ impl Watch {
 
     /// One step of which nothing is known. It stands apart, so that a step that is known to be the served user's is short.
     #[inline(never)]
-    fn look<C: Backing>(&mut self, cores: &mut C, limit: u64) -> Result<(), RunFault>
+    pub(crate) fn look<C: Backing>(&mut self, cores: &mut C, limit: u64) -> Result<(), RunFault>
         requires usable { C.Usable cores.old }
         requires held { Holds (watched self.old (C.state cores.old)) }
         requires matched { MatchesConsoles self.old.state.consoles.items self.old.state.sessions.items self.old.texts }

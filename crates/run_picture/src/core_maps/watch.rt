@@ -1,30 +1,24 @@
-//! A run that is stopped after each load.
-ghost use Rattle.std.specs.Prelude.{◌≡◌, ◌≤◌, suc, min, map, true, IfOk, OnOk};
+//! A run that is looked at after each step that tells of a load.
+ghost use Rattle.std.specs.Prelude.{◌≡◌, ◌<◌, ◌≤◌, ◌++◌, map, drop, true, IfOk, OnOk};
 ghost use Rattle.text_model.specs.Lawful.{IsLawful};
 ghost use Rattle.system_model.specs.Record.{start_of};
 ghost use Rattle.supervisor.specs.Whole.{whole_of, Agrees};
 ghost use Rattle.live_run.specs.Calls.{run_over};
-ghost use Rattle.picture_model.specs.Cores.{owner_behind, owner_in};
-ghost use Rattle.run_picture.specs.Rising.{IsRising};
-ghost use Rattle.run_picture.specs.Watching.{Reaches};
+ghost use Rattle.picture_model.specs.Cores.{load_ticks, owner_in, owners_of};
+ghost use Rattle.run_picture.specs.Watching.{Steps};
 
+use crate::core_maps::note::note_loads;
 use ctss_types::{NoMemory, RunFault, Script};
 use image_map::Image;
 use medium::Medium;
+use schedule_chart::CoreMaps;
 use std::alloc::Global;
 use supervisor::Supervisor;
 use track_directories::TrackDirectories;
 use user_cores::Behind;
 
-/// The limit after a load that begins at a tick, in a run to this end.
-fn limit_behind(tick: u64, end: u64) -> u64
-    ensures { result ≡ min (suc tick) end }
-{
-    if tick < end { tick + 1 } else { end }
-}
-
-/// Goes on to a limit.
-fn go_to<'a, 'd, D: Medium, F: Medium>(
+/// One step below a limit, and such as write no entry.
+fn go_once<'a, 'd, D: Medium, F: Medium>(
     supervisor: &mut Supervisor,
     behind: &mut Behind<Image<'a, D>, TrackDirectories<'d, F>>,
     limit: u64,
@@ -35,15 +29,16 @@ fn go_to<'a, 'd, D: Medium, F: Medium>(
     requires tells { (⟦<Behind<Image<'a, D>, TrackDirectories<'d, F>> as user_cores::Backing>⟧.state
         behind.old).held.tells
         ≡ true }
+    requires in_time { supervisor.old.clock < limit }
     requires limit { limit ≤ 100000000 }
     ensures usable { OnOk result
         (⟦<Behind<Image<'a, D>, TrackDirectories<'d, F>> as user_cores::Backing>⟧.Usable behind.new) }
-    ensures reaches { OnOk result (Reaches limit (whole_of supervisor.old
+    ensures steps { OnOk result (Steps limit (whole_of supervisor.old
         (⟦<Behind<Image<'a, D>, TrackDirectories<'d, F>> as user_cores::Backing>⟧.state behind.old))
         (whole_of supervisor.new
         (⟦<Behind<Image<'a, D>, TrackDirectories<'d, F>> as user_cores::Backing>⟧.state behind.new))) }
 {
-    supervisor.advance(behind, limit)
+    supervisor.advance_once(behind, limit)
 }
 
 /// What lies behind users' sessions, as it was, and whose each place of its core is.
@@ -60,14 +55,34 @@ fn look<'a, 'd, D: Medium, F: Medium>(
     (Behind::new(cores, files), owners)
 }
 
-/// The owners of all places after each load that begins at one of these ticks, of a run that stands at its script's start.
+/// Notes whose each place of core is for each load of which the schedule tells from a place on.
+fn note_step<'a, 'd, D: Medium, F: Medium>(
+    maps: &mut CoreMaps,
+    supervisor: &Supervisor,
+    before: usize,
+    behind: Behind<Image<'a, D>, TrackDirectories<'d, F>>,
+) -> Result<Behind<Image<'a, D>, TrackDirectories<'d, F>>, NoMemory>
+    ensures same { IfOk result (λ same. same ≡ behind.entry) }
+    ensures maps { OnOk result (map owner_in maps.new ≡ map owner_in maps.old
+        ++ map (λ tick. (⟦<Behind<Image<'a, D>, TrackDirectories<'d, F>> as user_cores::Backing>⟧.state
+        behind.entry).held.places.owner) (load_ticks (drop before supervisor.now.entries))) }
+{
+    let entries = supervisor.entries();
+    if entries.len() <= before {
+        return Ok(behind);
+    }
+    let (same, owners) = look(behind);
+    note_loads(maps, &entries[before..], &owners)?;
+    Ok(same)
+}
+
+/// The owners of all places after each load, of a run that stands at its script's start.
 pub(crate) fn watch<'a, 'd, D: Medium, F: Medium>(
     alloc: Global,
     supervisor: &mut Supervisor,
     behind: Behind<Image<'a, D>, TrackDirectories<'d, F>>,
     script: &Script,
-    ticks: &[u64],
-) -> Result<Vec<[u8; 128]>, NoMemory>
+) -> Result<CoreMaps, NoMemory>
     requires lawful { IsLawful script.now }
     requires usable { ⟦<Behind<Image<'a, D>, TrackDirectories<'d, F>> as user_cores::Backing>⟧.Usable behind }
     requires agrees { Agrees (whole_of supervisor.old
@@ -76,21 +91,18 @@ pub(crate) fn watch<'a, 'd, D: Medium, F: Medium>(
         ≡ true }
     requires start { run_over (whole_of supervisor.old
         (⟦<Behind<Image<'a, D>, TrackDirectories<'d, F>> as user_cores::Backing>⟧.state behind)) ≡ start_of script.now }
-    requires rising { IsRising 0 ticks.now }
-    ensures { IfOk result (λ maps. map owner_in maps.items ≡ map (owner_behind script.now) ticks.now) }
+    ensures { IfOk result (λ maps. map owner_in maps ≡ owners_of script.now) }
 {
-    let mut maps = Vec::with_capacity(alloc, ticks.len())?;
+    let mut maps = CoreMaps::new(alloc);
     let mut behind = behind;
-    for tick in ticks {
-        let limit = limit_behind(*tick, script.end);
-        match go_to(supervisor, &mut behind, limit) {
+    'steps: while supervisor.clock() < script.end {
+        let before = supervisor.entries().len();
+        match go_once(supervisor, &mut behind, script.end) {
             Ok(()) => {}
             // A drum and a disk in memory don't fail: what lacked is memory.
             Err(_) => return Err(NoMemory),
         }
-        let (same, owners) = look(behind);
-        behind = same;
-        maps.push(owners)?;
+        behind = note_step(&mut maps, supervisor, before, behind)?;
     }
     Ok(maps)
 }

@@ -9,7 +9,7 @@ use Rattle.run_picture.proofs.text.show_chart.Goals as goal
 pub returns-in-Ok : goal.returns-in-Ok
 returns-in-Ok g c =
     let script = c.args.script.now in
-    shows_same (chart_over (map owner_in c.in-Ok.maps.items)) chart_with_core script
+    shows_same (chart_over (map owner_in c.in-Ok.maps)) chart_with_core script
     (output_seen g.K.Sink c.args.sink.now) (output_seen g.K.Sink c.run_script.new.sink) c.run_script.result
     (ap (λ (owners : List (ℕ → ℕ)). chart_over owners script (record_of script)) c.in-Ok.ensures)
     c.run_script.ensures

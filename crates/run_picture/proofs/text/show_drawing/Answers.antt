@@ -9,7 +9,7 @@ use Rattle.run_picture.proofs.text.show_drawing.Goals as goal
 pub returns-in-Ok : goal.returns-in-Ok
 returns-in-Ok g c =
     let script = c.args.script.now in
-    shows_same (drawing_over (map owner_in c.in-Ok.maps.items)) drawing_of script
+    shows_same (drawing_over (map owner_in c.in-Ok.maps)) drawing_of script
     (output_seen g.K.Sink c.args.sink.now) (output_seen g.K.Sink c.run_script.new.sink) c.run_script.result
     (ap (λ (owners : List (ℕ → ℕ)). drawing_over owners script (record_of script)) c.in-Ok.ensures)
     c.run_script.ensures

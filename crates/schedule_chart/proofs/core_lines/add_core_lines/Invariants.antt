@@ -8,4 +8,4 @@ use Rattle.schedule_chart.proofs.core_lines.add_core_lines.Given as goal
 abbrev pub invariant-loop-entry : goal.invariant-loop-entry
 invariant-loop-entry g l =
     (done : List ℕ) × Adds g.K.Sink done l.fn.out l.out
-    × (done ++ core_lines (map owner_in l.maps) (drop l.entry-index l.entries) ≡ core_lines (map owner_in l.fn.maps) l.entries)
+    × (done ++ core_lines (map owner_in (drop l.next l.maps)) (drop l.entry-index l.entries) ≡ core_lines (map owner_in l.maps) l.entries)

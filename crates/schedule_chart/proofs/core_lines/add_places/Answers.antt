@@ -1,7 +1,7 @@
-use Rattle.std.proofs.Common.{◌+◌, ◌-◌, ◌++◌, [], map, refl}
+use Rattle.std.proofs.Common.{◌+◌, ◌-◌, ◌++◌, [], refl}
 use Rattle.picture_model.specs.Cores.{owner_in}
-use Rattle.picture_model.specs.CorePanel.{first_owners}
 use Rattle.picture_model.specs.CoreLines.{place_text, places_text}
+use Rattle.schedule_chart.specs.Maps.{users_of}
 use Rattle.text_writer.proofs.Added.{◌⨾◌, adds_is, adds_none}
 use Rattle.schedule_chart.proofs.Loads.{places_next, places_none}
 use Rattle.schedule_chart.proofs.Texts.{one_more, none_left}
@@ -12,7 +12,7 @@ loop-place-init g c = ([], adds_none g.K.Sink c.args.out.now, refl)
 
 pub loop-place-preserved : goal.loop-place-preserved
 loop-place-preserved g c =
-    let owner = first_owners (map owner_in c.args.maps.now) in
+    let owner = owner_in (users_of c.args.core.now) in
     let place = c.loop-place.place in (
       c.loop-place.invariant.0 ++ place_text owner place,
       c.loop-place.invariant.1 ⨾ c.add_place.ensures,
@@ -23,7 +23,7 @@ loop-place-preserved g c =
 
 pub returns : goal.returns
 returns g c =
-    let owner = first_owners (map owner_in c.args.maps.now) in
+    let owner = owner_in (users_of c.args.core.now) in
     let place = c.loop-place.place in
     adds_is
     (none_left c.loop-place.invariant.0 (places_text owner place (128 - place)) (places_text owner 0 128)

@@ -1,7 +1,7 @@
-use Rattle.std.proofs.Common.{◌≡◌, ◌++◌, ◌-◌, ℕ, List, map}
+use Rattle.std.proofs.Common.{◌≡◌, ◌++◌, ◌-◌, ℕ, List}
 use Rattle.picture_model.specs.Cores.{owner_in}
-use Rattle.picture_model.specs.CorePanel.{first_owners}
 use Rattle.picture_model.specs.CoreLines.{places_text}
+use Rattle.schedule_chart.specs.Maps.{users_of}
 use Rattle.text_writer.specs.Writing.{Adds}
 use Rattle.schedule_chart.proofs.core_lines.add_places.Given as goal
 
@@ -9,5 +9,5 @@ use Rattle.schedule_chart.proofs.core_lines.add_places.Given as goal
 abbrev pub invariant-loop-place : goal.invariant-loop-place
 invariant-loop-place g l =
     (done : List ℕ) × Adds g.K.Sink done l.fn.out l.out
-    × (done ++ places_text (first_owners (map owner_in l.maps)) l.place (128 - l.place)
-    ≡ places_text (first_owners (map owner_in l.maps)) 0 128)
+    × (done ++ places_text (owner_in (users_of l.core)) l.place (128 - l.place)
+    ≡ places_text (owner_in (users_of l.core)) 0 128)

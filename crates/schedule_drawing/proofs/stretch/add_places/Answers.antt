@@ -1,6 +1,7 @@
-use Rattle.std.proofs.Common.{◌+◌, ◌-◌, ◌++◌, [], map, refl}
+use Rattle.std.proofs.Common.{◌+◌, ◌-◌, ◌++◌, [], refl}
 use Rattle.picture_model.specs.Cores.{owner_in}
-use Rattle.picture_model.specs.CorePanel.{first_owners, place_drawn, places_drawn}
+use Rattle.picture_model.specs.CorePanel.{place_drawn, places_drawn}
+use Rattle.schedule_chart.specs.Maps.{users_of}
 use Rattle.text_writer.proofs.Added.{◌⨾◌, adds_is, adds_none}
 use Rattle.schedule_chart.proofs.Texts.{one_more, none_left}
 use Rattle.schedule_drawing.proofs.Panel.{places_next, places_none}
@@ -13,7 +14,7 @@ pub loop-place-preserved : goal.loop-place-preserved
 loop-place-preserved g c =
     let s = c.args.sheet in
     let span = c.args.span in
-    let owner = first_owners (map owner_in c.args.maps.now) in
+    let owner = owner_in (users_of c.args.core.now) in
     let e = c.args.entry.now in
     let place = c.loop-place.place in (
       c.loop-place.invariant.0 ++ place_drawn s.scale s.zoom s.users span.from span.until owner e place,
@@ -30,7 +31,7 @@ pub returns : goal.returns
 returns g c =
     let s = c.args.sheet in
     let span = c.args.span in
-    let owner = first_owners (map owner_in c.args.maps.now) in
+    let owner = owner_in (users_of c.args.core.now) in
     let e = c.args.entry.now in
     let place = c.loop-place.place in
     adds_is

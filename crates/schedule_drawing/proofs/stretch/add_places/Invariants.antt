@@ -1,6 +1,7 @@
-use Rattle.std.proofs.Common.{◌≡◌, ◌++◌, ◌-◌, ℕ, List, map}
+use Rattle.std.proofs.Common.{◌≡◌, ◌++◌, ◌-◌, ℕ, List}
 use Rattle.picture_model.specs.Cores.{owner_in}
-use Rattle.picture_model.specs.CorePanel.{first_owners, places_drawn}
+use Rattle.picture_model.specs.CorePanel.{places_drawn}
+use Rattle.schedule_chart.specs.Maps.{users_of}
 use Rattle.text_writer.specs.Writing.{Adds}
 use Rattle.schedule_drawing.proofs.stretch.add_places.Given as goal
 
@@ -8,7 +9,7 @@ use Rattle.schedule_drawing.proofs.stretch.add_places.Given as goal
 abbrev pub invariant-loop-place : goal.invariant-loop-place
 invariant-loop-place g l =
     (done : List ℕ) × Adds g.K.Sink done l.fn.out l.out
-    × (done ++ places_drawn l.sheet.scale l.sheet.zoom l.sheet.users l.span.from l.span.until (first_owners (map owner_in l.maps)) l.entry
+    × (done ++ places_drawn l.sheet.scale l.sheet.zoom l.sheet.users l.span.from l.span.until (owner_in (users_of l.core)) l.entry
     l.place (128 - l.place)
-    ≡ places_drawn l.sheet.scale l.sheet.zoom l.sheet.users l.span.from l.span.until (first_owners (map owner_in l.maps)) l.entry
+    ≡ places_drawn l.sheet.scale l.sheet.zoom l.sheet.users l.span.from l.span.until (owner_in (users_of l.core)) l.entry
     0 128)

@@ -3,9 +3,9 @@ use Rattle.system_model.specs.Run.{measure}
 use Rattle.supervisor.specs.Counts.{IsCounted}
 use Rattle.supervisor.specs.Seen.{seen}
 use Rattle.supervisor.specs.Steps.{IsHeld, IsServedNext}
-use Rattle.supervisor.specs.Shows.{texts_of, MatchesConsoles, TextsGrow}
+use Rattle.supervisor.specs.Shows.{texts_of, MatchesConsoles, TextsGrow, HasTextsPart}
 use Rattle.supervisor.proofs.Running.{HasRunSteps, Leads}
-use Rattle.supervisor.proofs.Watching.{HasTextsPart, TextsLead}
+use Rattle.supervisor.proofs.Watching.{TextsLead}
 use Rattle.supervisor.proofs.watch.Watch.advance.Given as goal
 
 abbrev pub invariant-steps : goal.invariant-steps

@@ -14,7 +14,7 @@ use Rattle.supervisor.specs.Whole.{whole_of}
 use Rattle.live_run.specs.Media.{media_seen}
 use Rattle.live_run.specs.Starts.{Begins}
 use Rattle.ctss_modes.proofs.Runs.{start_is, agrees_at_start}
-use Rattle.run_picture.proofs.core_maps.maps.maps_at.Goals as goal
+use Rattle.run_picture.proofs.core_maps.maps.maps_over.Goals as goal
 
 pub watch-requires-clause-start : goal.watch-requires-clause-start
 watch-requires-clause-start g c =

@@ -123,7 +123,12 @@ fn faults_of(
 }
 
 /// The start that the END card says.
-pub(crate) fn start(alloc: Global, cards: &[Card], end: usize, whole: &Whole) -> Result<u16, NoMemory>
+pub(crate) fn start(
+    alloc: Global,
+    cards: &[Card],
+    end: usize,
+    whole: &Whole,
+) -> Result<u16, NoMemory>
     requires end { end ≡ end_index cards.now }
     requires within { end < length cards.now }
     requires whole { whole_in whole.now ≡ whole_of (texts cards.now) }

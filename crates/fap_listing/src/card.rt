@@ -8,7 +8,7 @@ ghost use Rattle.fap_listing.specs.Rows.{shown_bytes};
 ghost use Rattle.text_writer.specs.Writing.{Adds};
 
 use crate::fault::{add_fault, add_looks};
-use crate::word::{add_gap, add_first_word, add_place, add_word_lines, next_place, split_of};
+use crate::word::{add_first_word, add_gap, add_place, add_word_lines, next_place, split_of};
 use ctss_io::Sink;
 use fap_model::{CardRow, Operation};
 use fap_read::{Card, is_comment, operation};

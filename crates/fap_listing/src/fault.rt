@@ -227,9 +227,17 @@ pub(crate) fn add_looks<K: Sink>(out: &mut TextWriter<'_, K>, text: &[u8])
 {
     if !is_comment(text) {
         let seventh = dark_column(7, part(text, 6, 1));
-        add_look(out, seventh, b"COLUMN 7 ISN'T READ; A SYMBOL ENDS AT COLUMN 6");
+        add_look(
+            out,
+            seventh,
+            b"COLUMN 7 ISN'T READ; A SYMBOL ENDS AT COLUMN 6",
+        );
         let early = early_column(text);
-        add_look(out, early, b"NOTHING IS READ HERE; THE FIELD BEGINS AT COLUMN 16");
+        add_look(
+            out,
+            early,
+            b"NOTHING IS READ HERE; THE FIELD BEGINS AT COLUMN 16",
+        );
         add_look(out, late_column(text), b"NOTHING IS READ BEHIND COLUMN 72");
     }
 }

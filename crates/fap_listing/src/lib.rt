@@ -5,6 +5,8 @@
 //! card), `Listing` (the whole text), `Answer` (what the program answers).
 #![tactic(auto)]
 
+ghost use Rattle.fap_model.specs.Listings.{ColumnsLie, NamesDiffer};
+
 mod answer;
 mod card;
 mod fault;
@@ -14,3 +16,15 @@ mod word;
 
 pub use answer::{ListCards, write_listing};
 pub use script_show::run;
+
+/// A column at which a card is at fault is one of a card's.
+#[tactic(auto, using(crate::proofs::Laws::columns_lie))]
+pub fn columns_lie()
+    ensures { ColumnsLie }
+{}
+
+/// No two symbols of a listing have one name.
+#[tactic(auto, using(crate::proofs::Laws::names_differ))]
+pub fn names_differ()
+    ensures { NamesDiffer }
+{}

@@ -8,8 +8,8 @@ use crate::word::{Split, add_gap, add_word_lines};
 use ctss_io::Sink;
 use fap_model::{Mention, SymbolValue};
 use text_writer::TextWriter;
-use text_writer::columns::add_characters;
 use text_writer::cards::add_digits;
+use text_writer::columns::add_characters;
 use word36::Word;
 
 /// Adds the number of a card that mentions a symbol, if it does.

@@ -72,6 +72,7 @@ cause_is_fault whole k card = comment_case (is_comment card)
     bad_case : (b : Bool) → fault_number (if b then Some Characters else None) ≡ (if b then 2 else 0)
     bad_case true = refl
     bad_case false = refl
+
     comment_case : (b : Bool)
         → fault_number (if b then (if is_bad card then Some Characters else None) else cause_by (operation_named (operation_of card)) whole k card)
         ≡ (if b then (if is_bad card then 2 else 0) else fault_by (operation_named (operation_of card)) whole k card)

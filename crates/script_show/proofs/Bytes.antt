@@ -25,6 +25,7 @@ short_status status said h = by (nat_eq status said)
   where
     more : IsOneOf status (3 ∷ 4 ∷ 8 ∷ [])
     more = grind (arith, h, nat_tests)
+
     by : (b : Bool) → (b || list_any (nat_eq status) (3 ∷ 4 ∷ 8 ∷ [])) ≡ true
     by true = refl
     by false = more

@@ -9,7 +9,7 @@ use Rattle.medium.specs.Medium.{HasShape}
 use Rattle.ctss_types.specs.Names.{NamePair}
 use Rattle.ctss_types.specs.declared.file.FileBody.{FileBody}
 use Rattle.ctss_types.specs.declared.file.Refusal.{Refusal}
-use Rattle.ctss_types.specs.declared.file.Refusal.TheVariants.{NoFile, ReadOnly, PastEnd}
+use Rattle.ctss_types.specs.declared.file.Refusal.TheVariants.{NoFile, PastEnd}
 use Rattle.file_model.specs.Files.{file_named, put, put_of, written, written_of, appended, end_of, if_they_fit, with_new}
 use Rattle.file_map.specs.declared.fault.PortFault.{PortFault}
 use Rattle.file_map.specs.declared.fault.PortFault.TheVariants.{Refused}
@@ -34,9 +34,6 @@ any_told result told told' o o' n fs fs' same h = λ was may few whole.
 pub reaches : (o : Option (List (List ℕ))) (count n : ℕ) → HasShape o count → n ≤ count → WhereTold o (λ contents. n ≤ length contents)
 reaches o count n shape within = told_map o (λ contents. length contents ≡ count) (λ contents. n ≤ length contents) (λ contents is. omega (arith, is, within)) shape
 
-kept : (m : ℕ) → 2 ≤ m → nat_le 2 m ≡ true
-kept m h = grind (arith, nat_tests)
-
 free : (m : ℕ) → m < 2 → nat_le 2 m ≡ false
 free m h = grind (arith, nat_tests)
 
@@ -45,12 +42,6 @@ less a b h = grind (arith, nat_tests)
 
 module _ (name : NamePair) (words : List ℕ) (quota : ℕ) (files : List FileBody) where
   module _ (f : FileBody) (found : file_named name files ≡ Some f) where
-    pub put_kept : 2 ≤ f.mode → put name words quota files ≡ Err ReadOnly
-    put_kept h = ap (λ (o : Option FileBody). put_of o name words quota files) found ∙ rw (kept f.mode h) refl
-
-    pub written_kept : (place : ℕ) → 2 ≤ f.mode → written name place words quota files ≡ Err ReadOnly
-    written_kept place h = ap (λ (o : Option FileBody). written_of o name place words quota files) found ∙ rw (kept f.mode h) refl
-
     pub written_past : (place : ℕ) → f.mode < 2 → length f.words < place → written name place words quota files ≡ Err PastEnd
     written_past place h past = ap (λ (o : Option FileBody). written_of o name place words quota files) found ∙ rw (free f.mode h, less (length f.words) place past) refl
 

@@ -1,3 +1,4 @@
 pub mod Owners
+mod Counted
 mod Places
 mod RowsComputed

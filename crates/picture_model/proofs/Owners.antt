@@ -17,7 +17,7 @@ use Rattle.system_model.proofs.PassLaws.{passes_keep}
 use Rattle.system_model.proofs.RunLaws.{measure_next}
 use Rattle.picture_model.specs.Cores.{load_ticks, owner_of, owners_shown, owners_from}
 
-lt_or_le : (a b : ℕ) → (a < b) ⊎ (b ≤ a)
+pub lt_or_le : (a b : ℕ) → (a < b) ⊎ (b ≤ a)
 lt_or_le a b = by_test (nat_lt a b) refl
   where
     by_test : (t : Bool) → nat_lt a b ≡ t → (a < b) ⊎ (b ≤ a)
@@ -76,10 +76,10 @@ none_shown old new same =
     ∙ ap (λ (es : List Entry). map (λ tick. owner_of new) (load_ticks es)) (drop_all (length old.system.entries) old.system.entries (omega arith))
 
 -- what is written at a step without an event; where that is nothing, users' blocks stay where they are
-record Writes (s t : State) : Type 0 where
-  more : List Entry
-  entries : t.entries ≡ s.entries ++ more
-  still : more ≡ [] → t.plan.places ≡ s.plan.places
+pub record Writes (s t : State) : Type 0 where
+  pub more : List Entry
+  pub entries : t.entries ≡ s.entries ++ more
+  pub still : more ≡ [] → t.plan.places ≡ s.plan.places
 
 never_none : (es fs : List Entry) (e : Entry) → es ++ (fs ++ e ∷ []) ≡ [] → ⊥
 never_none [] [] e h = cc h
@@ -143,7 +143,7 @@ module _ (limit : ℕ) (r : Run) where
       by_same true = attended_writes v s
       by_same false = record { more = _; entries = refl; still = λ h. absurd (never_none [] [] _ h) }
 
-  quiet_writes : (o : Option (ℕ × ℕ)) (s : State) → Writes s (theory.quiet_by M W limit o s)
+  pub quiet_writes : (o : Option (ℕ × ℕ)) (s : State) → Writes s (theory.quiet_by M W limit o s)
   quiet_writes None s = otherwise_writes (W.choose s.plan) s.service s
   quiet_writes (Some x) s = record { more = _; entries = refl; still = λ h. absurd (never_none [] [] _ h) }
 

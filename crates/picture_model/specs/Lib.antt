@@ -12,3 +12,4 @@ pub mod CorePanel
 pub mod Picture
 pub mod CoreLines
 pub mod Rows
+pub mod Counted

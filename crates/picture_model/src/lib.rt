@@ -7,6 +7,7 @@
 
 mod request;
 
+ghost use Rattle.picture_model.specs.Counted.{AsManyAsLoads};
 ghost use Rattle.picture_model.specs.Folds.{PlacesJoin};
 ghost use Rattle.picture_model.specs.Rows.{RowOfCells, RowOfCore, RowOfFigures, RowOfVisits};
 
@@ -16,6 +17,12 @@ pub use request::{Track, Visit};
 #[tactic(auto, using(crate::proofs::Places::places_join))]
 pub fn places_join()
     ensures { PlacesJoin }
+{}
+
+/// There are owners of core for each load of the schedule, and no others.
+#[tactic(auto, using(crate::proofs::Counted::as_many_as_loads))]
+pub fn as_many_as_loads()
+    ensures { AsManyAsLoads }
 {}
 
 /// What a user asked and waited for in a short schedule.

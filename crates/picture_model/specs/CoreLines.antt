@@ -1,4 +1,4 @@
--- claim: core in the picture in characters: a line for each load, with what it moved and whose each place is behind it.
+-- claim: core in the picture in characters: a line for each load, with what it moved and whose each place is after it.
 use Rattle.std.specs.Prelude.{ℕ, zero, suc, ◌+◌, ◌-◌, not, nat_eq, ◌&&◌, if◌then◌else◌, List, [], ◌∷◌, ◌++◌, codes}
 use Rattle.std.specs.Fmt.{decimal}
 use Rattle.ctss_types.specs.declared.script.Script.{Script}
@@ -26,7 +26,7 @@ abbrev pub places_text : (ℕ → ℕ) → (place count : ℕ) → List ℕ
 places_text owner place zero = []
 places_text owner place (suc n) = place_text owner place ++ places_text owner (suc place) n
 
--- the line of a load: its tick, whose it is, how many blocks were dumped, read and cleared, and core behind it
+-- the line of a load: its tick, whose it is, how many blocks were dumped, read and cleared, and core after it
 abbrev pub load_line : (tick u dumped read fresh : ℕ) → (ℕ → ℕ) → List ℕ
 load_line tick u dumped read fresh owner =
     line (column 10 tick ++ (column 6 u ++ (column 8 dumped ++ (column 8 read ++ (column 8 fresh ++ places_text owner 0 128)))))

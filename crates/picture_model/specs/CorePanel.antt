@@ -59,7 +59,7 @@ moved_label scale zoom users from until row n =
     if nat_le (24 * scale) (zoom * (until - from))
     then words_at (codes "w") (across scale zoom from) (place_top scale users 128 + 12 * (scale * row)) (decimal n) else []
 
--- a load: core behind it, and how many blocks were dumped, read and cleared for it
+-- a load: core after it, and how many blocks were dumped, read and cleared for it
 abbrev pub load_shown : (scale zoom users from until dumped read fresh : ℕ) → (ℕ → ℕ) → Entry → List ℕ
 load_shown scale zoom users from until dumped read fresh owner e =
     places_drawn scale zoom users from until owner e 0 128

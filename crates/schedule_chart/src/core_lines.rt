@@ -1,4 +1,4 @@
-//! The lines of core: for each load what it moved, and whose each place is behind it.
+//! The lines of core: for each load what it moved, and whose each place is after it.
 ghost use Rattle.std.specs.Prelude.{◌<◌, map, drop};
 ghost use Rattle.picture_model.specs.Cores.{owner_in};
 ghost use Rattle.picture_model.specs.CorePanel.{first_owners};
@@ -56,7 +56,7 @@ fn add_places<K: Sink>(out: &mut TextWriter<'_, K>, core: &[CorePart])
     }
 }
 
-/// Adds the line of a load, and core behind it.
+/// Adds the line of a load, and core after it.
 fn add_load<K: Sink>(out: &mut TextWriter<'_, K>, load: Load, core: &[CorePart])
     ensures { Adds K.Sink (load_line load.tick load.user load.dumped load.read load.fresh
         (owner_in (users_of core.now))) out.old out.new }

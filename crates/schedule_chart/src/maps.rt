@@ -113,7 +113,7 @@ impl CoreMaps {
         Ok(())
     }
 
-    /// The parts of core behind a load; none where there are not so many loads.
+    /// The parts of core after a load; none where there are not so many loads.
     pub fn behind(&self, load: usize) -> &[CorePart]
         ensures { owner_in (users_of result.now) ≡ first_owners (map owner_in (drop load self.now)) }
     {

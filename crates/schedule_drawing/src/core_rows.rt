@@ -45,7 +45,7 @@ fn add_moved<K: Sink>(out: &mut TextWriter<'_, K>, sheet: Sheet, span: Span, row
     }
 }
 
-/// Adds a load: core behind it, and what it moved.
+/// Adds a load: core after it, and what it moved.
 fn add_load<K: Sink>(
     out: &mut TextWriter<'_, K>,
     sheet: Sheet,

@@ -119,7 +119,7 @@ fn add_place<K: Sink>(
     }
 }
 
-/// Adds all places of core behind the first of these loads.
+/// Adds all places of core after the first of these loads.
 pub(crate) fn add_places<K: Sink>(
     out: &mut TextWriter<'_, K>,
     sheet: Sheet,

@@ -24,18 +24,18 @@ texts_of users rows = map (text_of (transcripts_of users)) (rows_of rows)
 abbrev pub MatchesConsoles : List Console → List User → List Kept → Type 0
 MatchesConsoles consoles users rows = AreShown consoles (transcripts_of users) (rows_of rows)
 
--- The texts behind a step, with whatever words and files the users had.
+-- The texts after a step, with whatever words and files the users had.
 abbrev pub GoesOn : ℕ → (old new : Run) → (had has : List (List ℕ)) → Type 0
 GoesOn limit old new had has = (before after : ℕ → Stored) → joined after new ≡ next limit (joined before old) → has ≡ texts_next limit (joined before old) had
 
--- The texts behind the run to the limit, and behind a part that is shown; where drum and disk tell their records.
+-- The texts after the run to the limit, and after a part that is shown; where drum and disk tell their records.
 abbrev pub HasTexts : ℕ → (old : Run) → (had : Held) → (told tells : List (List ℕ)) → Type 0
 HasTexts limit old had told tells = had.tells ≡ true → tells ≡ texts_to limit (joined had.stores old) told
 
 abbrev pub HasTextsShown : ℕ → (old new : Run) → (had : Held) → (told tells : List (List ℕ)) → Type 0
 HasTextsShown limit old new had told tells = had.tells ≡ true → (at : Run) × AfterShown limit (joined had.stores old) at told tells × Shows at new
 
--- The texts behind some whole steps, of a run that has come to its new state by as many; likewise.
+-- The texts after some whole steps, of a run that has come to its new state by as many; likewise.
 abbrev pub HasTextsPart : ℕ → (old new : Run) → (had has : Held) → (told tells : List (List ℕ)) → Type 0
 HasTextsPart limit old new had has told tells = had.tells ≡ true → AfterShown limit (joined had.stores old) (joined has.stores new) told tells
 

@@ -117,7 +117,7 @@ HasRunPart limit old new had has = had.tells ≡ true → (at : Run) × AfterSte
 abbrev pub HasRunShown : ℕ → (old new : Run) → (had : Held) → Type 0
 HasRunShown limit old new had = had.tells ≡ true → (at : Run) × AfterSteps limit (joined had.stores old) at × Shows at new
 
--- A part of the run, short of the limit and behind which a load is next, is shown. The drum's calls are those of the loads so far and, where it tells
+-- A part of the run, short of the limit and after which a load is next, is shown. The drum's calls are those of the loads so far and, where it tells
 -- them, a beginning of that next load's, of which the last one failed.
 pub record StopsAtLoad (limit : ℕ) (old new : Run) (was now : Option CallList) : Type 0 where
   pub at : Run

@@ -105,7 +105,7 @@ Steps f Cut result old new =
     ((run_apart new ≡ run_apart old) × Rose old.back.faults new.back.faults × Cut old new)
     (DiskStops old new)
 
--- What the consoles show behind one step.
+-- What the consoles show after one step.
 abbrev pub TextsFollow : ℕ → Result Unit RunFault → Whole → Whole → Type 0
 TextsFollow limit result old new =
     Ends result (GoesOn limit (run_of old) (run_of new) old.bare.texts new.bare.texts)
@@ -120,7 +120,7 @@ RunsTo limit result old new =
     (HasRunToLoad limit (run_of old) (run_apart new) old.back.held old.back.calls new.back.calls × Rose old.back.faults new.back.faults)
     (HasRunShown limit (run_of old) (run_apart new) old.back.held × Rose old.back.disk_faults new.back.disk_faults)
 
--- What the consoles show behind them.
+-- What the consoles show after them.
 abbrev pub TextsRunTo : ℕ → Result Unit RunFault → Whole → Whole → Type 0
 TextsRunTo limit result old new =
     Ends result (HasTexts limit (run_of old) old.back.held old.bare.texts new.bare.texts)
@@ -148,7 +148,7 @@ pub record GoesOnce (limit : ℕ) (old new : Whole) : Type 0 where
   pub run : HasRunOnce limit (run_of old) (run_of new) old.back.held new.back.held
   pub texts : HasTextsPart limit (run_of old) (run_of new) old.back.held new.back.held old.bare.texts new.bare.texts
 
--- The same of a supervisor that met no fault, and all else as behind a run to a limit.
+-- The same of a supervisor that met no fault, and all else as after a run to a limit.
 pub record AdvancesOnce (limit : ℕ) (old new : Whole) : Type 0 where
   pub goes : GoesOnce limit old new
   pub grows : TextsGrow old.bare.texts new.bare.texts

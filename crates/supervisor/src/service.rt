@@ -59,7 +59,7 @@ fn leave(
     }
 }
 
-/// The tick behind a step.
+/// The tick after a step.
 fn tick_after(clock: u64) -> u64
     requires { clock ≤ 100000000 }
     ensures { result ≡ suc clock }
@@ -166,7 +166,7 @@ impl State {
         self.clock += u64::from(self.swap) * moved;
     }
 
-    /// The clock, the queues and the service behind a step of the user that is served, which made no common operation.
+    /// The clock, the queues and the service after a step of the user that is served, which made no common operation.
     #[inline(always)]
     #[tactic(auto, unfolding(system_model::specs::Joined::counted))]
     pub(crate) fn count_step(&mut self, v: Service, step: Step)
@@ -196,7 +196,7 @@ impl State {
         self.service = note_step(&mut self.entries, v, cause);
     }
 
-    /// The same behind a step that made a common operation, with its entry.
+    /// The same after a step that made a common operation, with its entry.
     pub(crate) fn count_shared(&mut self, v: Service, step: Step, common: Entry)
         requires room { vec_len self.old.entries + 4 ≤ vec_capacity self.old.entries }
         requires within { v.user ≤ length self.old.sessions.items }
@@ -214,7 +214,7 @@ impl State {
         self.count_step(v, rest);
     }
 
-    /// The clock, the queues and the service behind so many steps of the user that is served, which went on.
+    /// The clock, the queues and the service after so many steps of the user that is served, which went on.
     #[tactic(auto, unfolding(system_model::specs::Runs::elapsed))]
     pub(crate) fn count_ticks(&mut self, v: Service, ticks: u64)
         requires ran { v.ran ≤ self.old.clock }

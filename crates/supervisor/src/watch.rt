@@ -31,7 +31,7 @@ fn lengths(sessions: &[Session]) -> ArrayVec<usize, 30>
     lens
 }
 
-/// What the consoles show behind a step without an event. It stands apart, since the lengths of all transcripts take
+/// What the consoles show after a step without an event. It stands apart, since the lengths of all transcripts take
 /// room and most steps need none.
 #[inline(never)]
 fn settle_texts(texts: &mut ConsoleTexts, consoles: &[Console], sessions: &[Session])

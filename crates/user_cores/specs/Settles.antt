@@ -1,4 +1,4 @@
--- proof: the cores of users behind a step of one of them.
+-- proof: the cores of users after a step of one of them.
 use Rattle.std.specs.Prelude.{◌≡◌, ◌≢◌, ℕ, ◌≤◌, ◌<◌, true, List, length}
 use Rattle.time_sharing.specs.Machine.{Ending, Went, Stopped, Resized, Replaced, LoggedOut}
 use Rattle.image_map.specs.Images.{size_of}
@@ -13,7 +13,7 @@ pub record IsResized (k n : ℕ) (had has : Held) : Type 0 where
   pub others : (u : ℕ) → 1 ≤ u → u ≢ k → size_of has.sizes u ≡ size_of had.sizes u
   pub rules : KeepsRules had has
 
--- the words of a user behind a step of it that ended so and left it so many blocks
+-- the words of a user after a step of it that ended so and left it so many blocks
 abbrev pub settled : Ending → ℕ → List ℕ → List ℕ
 settled Went blocks core = core
 settled Stopped blocks core = recut blocks core

@@ -144,7 +144,7 @@ pub trait Backing {
         ensures worked { WorksIn 0 user (state self.old) (state self.new) }
         ensures disk { (state self.new).disk_faults ≡ (state self.old).disk_faults };
 
-    /// All files. Nothing may be asked behind it.
+    /// All files. Nothing may be asked after it.
     fn take_lists(&mut self, alloc: Global) -> Result<Lists, StepFault>
         requires usable { Usable self.old }
         ensures lists { (state self.old).held.tells ≡ true → IfOk result (λ lists. lists.own.items

@@ -15,7 +15,7 @@ use file_model::refusal_number;
 use program_model::Call;
 use tia_entry::{store_words, words_in};
 
-/// A step of a program that goes on behind a call.
+/// A step of a program that goes on after a call.
 pub(crate) const WENT: Step = Step {
     ending: Ending::Went,
     clock: false,

@@ -232,7 +232,7 @@ impl Session {
     }
 
     /// The next step of a program that has its core, with the supervisor entry that it comes to. Without the debugger, as mostly, there is
-    /// nothing to look for before it and nothing to note behind it.
+    /// nothing to look for before it and nothing to note after it.
     #[inline(always)]
     fn run<M: MemoryPort, P: FilePort>(
         &mut self,

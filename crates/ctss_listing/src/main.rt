@@ -1,7 +1,7 @@
 //! The program that lists the cards of a program.
 #![tactic(auto)]
 
-use fap_listing::{ListCards, run};
+use run_listing::{ListCards, run};
 use std::process::ExitCode;
 
 fn main(rt: HostRuntime) -> ExitCode {

@@ -2,4 +2,3 @@ pub mod Words
 pub mod Faults
 pub mod Listing
 pub mod Rows
-pub mod Answer

@@ -1,21 +1,19 @@
-//! The listing of a program: FAP cards come in, and each goes out with its place, its words and its faults, and behind them the
+//! The listing of a program as a text: each of its FAP cards with its place, its words and its faults, and behind them the
 //! literals, the symbols and the figures.
 //!
 //! The definitions stand in fap_model `Listed` and `Causes`, and here in `specs/`: `Words` and `Faults` (what is shown of a
-//! card), `Listing` (the whole text), `Answer` (what the program answers).
+//! card), `Listing` (the whole text).
 #![tactic(auto)]
 
 ghost use Rattle.fap_model.specs.Listings.{ColumnsLie, NamesDiffer};
 
-mod answer;
 mod card;
 mod fault;
 mod listing;
 mod symbol;
 mod word;
 
-pub use answer::{ListCards, write_listing};
-pub use script_show::run;
+pub use listing::{ListedCards, fault_count, list_cards};
 
 /// A column at which a card is at fault is one of a card's.
 #[tactic(auto, using(crate::proofs::Laws::columns_lie))]

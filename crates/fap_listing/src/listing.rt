@@ -1,6 +1,7 @@
 //! The listing as a text.
-ghost use Rattle.std.specs.Prelude.{◌≡◌, ◌*◌, ◌^◌, ◌<◌, ◌≤◌, length};
+ghost use Rattle.std.specs.Prelude.{◌≡◌, ◌*◌, ◌-◌, ◌^◌, ◌<◌, ◌≤◌, IfOk, length};
 ghost use Rattle.fap_assemble.specs.Steps.{texts};
+ghost use Rattle.fap_model.specs.Listed.{listed};
 ghost use Rattle.fap_listing.specs.Listing.{deck_figures, end_text, fault_count, figures_line, first_figures, listing_text, row_faults, row_words, word_count};
 ghost use Rattle.text_writer.specs.Writing.{Adds};
 
@@ -8,8 +9,11 @@ use crate::card::add_rows;
 use crate::symbol::{add_literals, add_symbols};
 use crate::word::add_gap;
 use ctss_io::Sink;
+use ctss_types::NoMemory;
+use fap_assemble::list;
 use fap_model::{CardRow, Listed};
-use fap_read::Card;
+use fap_read::{Card, Cards};
+use std::alloc::Global;
 use text_writer::cards::add_digits;
 use text_writer::columns::add_number;
 use text_writer::{Text, TextWriter};
@@ -23,7 +27,7 @@ fn row_faults(rows: &[CardRow]) -> usize
 }
 
 /// How many faults there are, a missing END with them.
-pub(crate) fn fault_count(listed: &Listed) -> usize
+pub fn fault_count(listed: &Listed) -> usize
     ensures { result ≡ fault_count listed.now }
 {
     let rows = row_faults(listed.rows.as_slice());
@@ -121,20 +125,30 @@ fn add_listing<K: Sink>(out: &mut TextWriter<'_, K>, listed: &Listed, cards: &[C
     add_figures(out, listed);
 }
 
-/// The listing of cards that come to this.
-#[derive(Clone, Copy)]
-pub(crate) struct Listing<'a> {
-    pub(crate) listed: &'a Listed,
-    pub(crate) cards: &'a [Card],
+/// Cards and what they come to.
+#[derive(Drop)]
+pub struct ListedCards {
+    pub cards: Cards,
+    pub listed: Listed,
 }
 
-impl Text for Listing<'_> {
+/// What cards come to.
+pub fn list_cards(alloc: Global, cards: Cards) -> Result<ListedCards, NoMemory>
+    requires { length cards < 2 ^ 32 - 1 }
+    ensures cards { IfOk result (λ made. made.cards ≡ cards) }
+    ensures listed { IfOk result (λ made. made.listed ≡ listed (texts cards)) }
+{
+    let listed = list(alloc, cards.as_slice())?;
+    Ok(ListedCards { cards, listed })
+}
+
+impl Text for ListedCards {
     ghost use Rattle.fap_assemble.specs.Steps.{texts};
     ghost use Rattle.fap_listing.specs.Listing.{listing_text};
 
-    ghost bytes = { λ l. listing_text l.listed.now (texts l.cards.now) };
+    ghost bytes = { λ l. listing_text l.listed (texts l.cards) };
 
     fn add_to<K: Sink>(&self, out: &mut TextWriter<'_, K>) {
-        add_listing(out, self.listed, self.cards);
+        add_listing(out, &self.listed, self.cards.as_slice());
     }
 }

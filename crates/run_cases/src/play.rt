@@ -14,7 +14,7 @@ use anyhow::{Result, bail};
 use console_link::{Accepted, CallMade, MemoryLink};
 use ctss_io::{MemorySink, MemorySource};
 use ctss_top::{ArgList, Outcome, run_ctss};
-use fap_listing::write_listing;
+use run_listing::write_listing;
 use medium::{Damage, MemoryMedium};
 use run_picture::write_picture;
 use std::alloc::{AllocError, Global};

@@ -4,38 +4,19 @@ ghost use Rattle.std.specs.Str.Lines.{lines};
 ghost use Rattle.ctss_modes.specs.Devices.{output_seen};
 ghost use Rattle.fap_assemble.specs.Steps.{texts};
 ghost use Rattle.fap_model.specs.Listed.{listed as listed_of};
-ghost use Rattle.fap_listing.specs.Answer.{is_asked, status_by, status_of, text_of, IsAnswer};
+ghost use Rattle.run_listing.specs.Answer.{is_asked, status_by, status_of, text_of, IsAnswer};
 ghost use Rattle.script_show.specs.Input.{ShowsBytes};
 ghost use Rattle.script_show.specs.Seen.{streams};
 
-use crate::listing::{Listing, fault_count};
 use ctss_io::{Sink, Source};
 use ctss_modes::{Outcome, refuse_words};
 use ctss_types::NoMemory;
-use fap_assemble::list;
+use fap_listing::{ListedCards, fault_count, list_cards};
 use fap_model::Listed;
-use fap_read::{Cards, cards_of_text};
+use fap_read::cards_of_text;
 use script_show::{ArgList, InputShow, ShowProgram, show_input};
 use std::alloc::Global;
 use text_writer::{TextFault, write_text};
-
-/// Cards and what they come to.
-#[derive(Drop)]
-struct CardsListed {
-    cards: Cards,
-    listed: Listed,
-}
-
-/// The cards of a text, a line each, and what they come to.
-fn listed(alloc: Global, bytes: &[u8]) -> Result<CardsListed, NoMemory>
-    requires { length bytes.now ≤ 4194304 }
-    ensures cards { IfOk result (λ made. texts made.cards ≡ lines bytes.now) }
-    ensures listed { IfOk result (λ made. made.listed ≡ listed_of (lines bytes.now)) }
-{
-    let cards = cards_of_text(alloc, bytes)?;
-    let listed = list(alloc, cards.as_slice())?;
-    Ok(CardsListed { cards, listed })
-}
 
 /// The status of cards that come to this.
 fn status(listed: &Listed) -> u8
@@ -45,16 +26,26 @@ fn status(listed: &Listed) -> u8
 }
 
 /// Writes a listing.
-fn write<K: Sink>(alloc: Global, listing: &Listing<'_>, output: &mut K) -> Outcome
-    ensures { (bytes : List ℕ) → texts listing.now.cards.now ≡ lines bytes
-        → listing.now.listed.now ≡ listed_of (lines bytes)
+fn write<K: Sink>(alloc: Global, listing: &ListedCards, output: &mut K) -> Outcome
+    ensures { (bytes : List ℕ) → texts listing.now.cards ≡ lines bytes
+        → listing.now.listed ≡ listed_of (lines bytes)
         → ShowsBytes text_of status_of bytes (output_seen K.Sink output.old) (output_seen K.Sink output.new) result }
 {
     match write_text(alloc, output, listing) {
-        Ok(()) => Outcome::bare(alloc, status(listing.listed), 0, 0),
+        Ok(()) => Outcome::bare(alloc, status(&listing.listed), 0, 0),
         Err(TextFault::Write) => Outcome::bare(alloc, 4, 0, 0),
         Err(TextFault::NoMemory) => Outcome::bare(alloc, 8, 0, 0),
     }
+}
+
+/// The cards of a text, a line each, and what they come to.
+fn listed(alloc: Global, bytes: &[u8]) -> Result<ListedCards, NoMemory>
+    requires { length bytes.now ≤ 4194304 }
+    ensures cards { IfOk result (λ made. texts made.cards ≡ lines bytes.now) }
+    ensures listed { IfOk result (λ made. made.listed ≡ listed_of (lines bytes.now)) }
+{
+    let cards = cards_of_text(alloc, bytes)?;
+    list_cards(alloc, cards)
 }
 
 /// Writes the listing of the cards of a text.
@@ -64,13 +55,7 @@ fn write_cards<K: Sink>(alloc: Global, bytes: &[u8], output: &mut K) -> Outcome
         (output_seen K.Sink output.old) (output_seen K.Sink output.new) result }
 {
     match listed(alloc, bytes) {
-        Ok(made) => {
-            let listing = Listing {
-                listed: &made.listed,
-                cards: made.cards.as_slice(),
-            };
-            write(alloc, &listing, output)
-        }
+        Ok(listing) => write(alloc, &listing, output),
         Err(_) => Outcome::bare(alloc, 8, 0, 0),
     }
 }
@@ -80,7 +65,7 @@ fn write_cards<K: Sink>(alloc: Global, bytes: &[u8], output: &mut K) -> Outcome
 struct CardsShown;
 
 impl InputShow for CardsShown {
-    ghost use Rattle.fap_listing.specs.Answer.{status_of, text_of};
+    ghost use Rattle.run_listing.specs.Answer.{status_of, text_of};
 
     ghost text = { λ _. text_of };
 

@@ -1,8 +1,8 @@
-//! The listing of a program as a text: each of its FAP cards with its place, its words and its faults, and behind them the
-//! literals, the symbols and the figures.
+//! The listing of a program as a text: each of its FAP cards with its place, its words and its faults, and behind them
+//! the literals, the symbols and the figures.
 //!
-//! The definitions stand in fap_model `Listed` and `Causes`, and here in `specs/`: `Words` and `Faults` (what is shown of a
-//! card), `Listing` (the whole text).
+//! The definitions stand in fap_model `Listed` and `Causes`, and here in `specs/`: `Words` and `Faults` (what is shown
+//! of a card), `Listing` (the whole text).
 #![tactic(auto)]
 
 ghost use Rattle.fap_model.specs.Listings.{ColumnsLie, NamesDiffer};
@@ -11,7 +11,7 @@ mod card;
 mod fault;
 mod listing;
 mod symbol;
-mod word;
+pub mod word;
 
 pub use listing::{ListedCards, fault_count, list_cards};
 

@@ -1,4 +1,4 @@
-//! Places and words of cards.
+//! Places and words of cards, and words split by their fields.
 ghost use Rattle.std.specs.Prelude.{◌≡◌, ◌≤◌};
 ghost use Rattle.fap_listing.specs.Words.{blanks, class_split, first_word, has_place, next_place, place_text, split_of, word_gap, word_line, word_lines, word_text};
 ghost use Rattle.text_writer.specs.Writing.{Adds};
@@ -15,7 +15,7 @@ const MOST_BLANKS: usize = 284;
 
 /// How a word is split where it is shown.
 #[derive(Clone, Copy)]
-pub(crate) enum Split {
+pub enum Split {
     /// Into prefix, decrement, tag and address.
     Prefixed,
     /// Into operation, tag and address.
@@ -25,7 +25,7 @@ pub(crate) enum Split {
 }
 
 /// Adds so many blanks.
-pub(crate) fn add_gap<K: Sink>(out: &mut TextWriter<'_, K>, count: u16)
+pub fn add_gap<K: Sink>(out: &mut TextWriter<'_, K>, count: u16)
     requires { count ≤ 284 }
     ensures { Adds K.Sink (blanks count) out.old out.new }
 {
@@ -34,7 +34,7 @@ pub(crate) fn add_gap<K: Sink>(out: &mut TextWriter<'_, K>, count: u16)
 }
 
 /// How the word of an instruction is split.
-fn class_split(class: Class) -> Split
+pub fn class_split(class: Class) -> Split
     ensures { result ≡ class_split class }
 {
     match class {
@@ -55,7 +55,7 @@ pub(crate) fn split_of(op: Option<Operation>) -> Split
 }
 
 /// Adds a word.
-pub(crate) fn add_word<K: Sink>(out: &mut TextWriter<'_, K>, split: Split, word: Word)
+pub fn add_word<K: Sink>(out: &mut TextWriter<'_, K>, split: Split, word: Word)
     ensures { Adds K.Sink (word_text split word) out.old out.new }
 {
     let bits = word.bits();
@@ -81,7 +81,7 @@ pub(crate) fn add_word<K: Sink>(out: &mut TextWriter<'_, K>, split: Split, word:
 }
 
 /// How many blanks fill a word's text up to 15 places.
-fn gap(split: Split) -> u16
+pub fn gap(split: Split) -> u16
     ensures value { blanks result ≡ word_gap split }
     ensures few { result ≤ 3 }
 {

@@ -118,6 +118,13 @@ impl Session {
         works_in(self.state)
     }
 
+    /// The registers of the user's program.
+    pub fn regs(&self) -> Regs
+        ensures { result ≡ self.now.inner.regs }
+    {
+        self.regs
+    }
+
     /// The size of the user's program in blocks.
     pub fn blocks(&self) -> u8
         ensures value { result ≡ blocks_of self.now.inner }

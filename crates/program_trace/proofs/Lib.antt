@@ -1,0 +1,4 @@
+pub mod Alone
+pub mod States
+pub mod Turns
+pub mod Lengths

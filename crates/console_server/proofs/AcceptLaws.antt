@@ -1,8 +1,7 @@
 -- One connection after another is accepted.
-use Rattle.std.specs.Prelude.{Bool, true, false, nat_eq, nat_lt, if◌then◌else◌, length, take, get_or, Option, Some, None}
+use Rattle.std.specs.Prelude.{Bool, true, nat_eq, nat_lt, if◌then◌else◌, length, take, Option}
 use Rattle.std.proofs.Math.Seq.{take-append_seam}
 use Rattle.std.proofs.Common.{◌≡◌, ℕ, ◌<◌, List, [], ◌∷◌, ◌++◌, refl, sym, ◌∙◌, ap, subst, arith, length-append}
-use Rattle.std.proofs.lemmas.Bool.{false≢true}
 use Rattle.std.proofs.lemmas.Bool.Decides.{nat_tests}
 use Rattle.std.proofs.lemmas.List.{append_assoc, append-nil}
 use Rattle.ctss_types.specs.declared.script.Timed.{Timed}
@@ -13,7 +12,7 @@ use Rattle.live_core.specs.Core.{CoreCall}
 use Rattle.console_server.specs.Given.{IsGiven}
 use Rattle.console_server.specs.Readings.{DidAll, Nothing, Then}
 use Rattle.console_server.specs.Turns.{Talk, free_from, seats_with, calls_of_new, dial, calls_accepted, dials, seated, last_accept}
-use Rattle.console_server.specs.Seats.{SeatIsOpen, IsNotOf, AreSeated, StandAll, SeatsAreTaken, AreAccepted, AreDialled, AreDialledPart}
+use Rattle.console_server.specs.Seats.{StandAll, SeatsAreTaken, AreAccepted, AreDialled, AreDialledPart}
 use Rattle.console_server.proofs.Following.{did_both, did_one, given_both}
 
 same_number : (n : ℕ) → nat_eq n n ≡ true

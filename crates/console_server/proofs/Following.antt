@@ -8,8 +8,8 @@ use Rattle.std.proofs.Common.{◌≡◌, ℕ, ◌+◌, ◌<◌, List, [], ◌∷
 use Rattle.std.proofs.lemmas.List.{append_assoc, append-nil, map-append, take_more, take-append-drop}
 use Rattle.ctss_types.specs.declared.script.Timed.{Timed}
 use Rattle.console_link.specs.Links.{LinkSeen, Done, Did}
-use Rattle.live_core.specs.Core.{CoreCall, Took}
-use Rattle.console_server.specs.Given.{IsGiven, IsGivenPart}
+use Rattle.live_core.specs.Core.{CoreSeen, CoreCall, Took}
+use Rattle.console_server.specs.Given.{IsGiven, IsGivenPart, StaysReady}
 use Rattle.console_server.specs.Readings.{DidAll, Nothing, Then, timed, all_timed}
 
 pub did_both : (ds es : List Done) (s t u : LinkSeen) → DidAll ds s t → DidAll es t u → DidAll (ds ++ es) s u
@@ -18,6 +18,11 @@ did_both (d ∷ ds) es s t u (Then _ _ _ m _ did rest) more = Then d (ds ++ es) 
 
 pub did_one : (ds : List Done) (d : Done) (s t u : LinkSeen) → DidAll ds s t → Did d t u → DidAll (ds ++ d ∷ []) s u
 did_one ds d s t u sofar did = did_both ds (d ∷ []) s t u sofar (Then d [] t u u did (Nothing u))
+
+-- a core that twice stays ready
+pub stays_on : {C : Type 0} (see : C → CoreSeen) (holds : C → Type 0) {a b c : C} → StaysReady see holds a b
+    → StaysReady see holds b c → StaysReady see holds a c
+stays_on see holds one two = record { same = two.same ∙ one.same; ready = two.ready }
 
 -- one byte more behind those that were fed
 pub fed_more : (tick console : ℕ) (piece bytes : List ℕ) (b : ℕ) →

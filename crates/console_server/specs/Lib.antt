@@ -1,3 +1,4 @@
+pub mod Cores
 pub mod Given
 pub mod Readings
 pub mod Turns
@@ -5,6 +6,7 @@ pub mod Done
 pub mod History
 pub mod Writings
 pub mod Seats
+pub mod Consoles
 pub mod Server
 pub mod Conversation
 pub mod Visits

@@ -12,6 +12,7 @@ use Rattle.live_core.specs.Core.{CoreCall}
 use Rattle.console_server.specs.Given.{IsGiven, IsGivenPart}
 use Rattle.console_server.specs.Readings.{Gave, DidAll}
 use Rattle.console_server.specs.Turns.{Talk, HeardOf, calls_heard, events_heard, seat_after, IsHeard, IsHeardPart, all_calls_heard, all_events_heard, all_seats_after, AreHeard, AreHeardUntil, calls_accepted, dials, seated, last_accept, Wrote, IsToldOf, calls_told, seat_told, Told, AreTold, all_calls_told, all_seats_told, losses}
+use Rattle.console_server.specs.Turns.{free_from, calls_of_new, seats_with}
 
 pub record StandsFor (task : Task) (talk : Talk) : Type 0 where
   pub id : task.id ≡ talk.id
@@ -87,6 +88,12 @@ pub record SeatsAreTaken {C : Type 0} (goes : C → List CoreCall → C → Type
   pub link : DidAll (calls_accepted texts desk ids) link_had link_has
   pub core : IsGiven goes (dials tick texts desk ids) core_had core_has had has
   pub stands : StandAll now (seated texts desk ids)
+
+-- a new connection got the lowest free console, or was closed
+pub record FillsSeat (texts : List (List ℕ)) (id : ℕ) (desk : List (Option Talk)) (link_had link_has : LinkSeen)
+    (now : List (Option Task)) : Type 0 where
+  pub link : DidAll (calls_of_new (free_from 1 desk) id) link_had link_has
+  pub stands : StandAll now (seats_with texts id desk)
 
 -- a turn's accepts
 pub record AreAccepted {C : Type 0} (goes : C → List CoreCall → C → Type 0) (tick : ℕ) (texts : List (List ℕ)) (desk : List (Option Talk)) (link_had link_has : LinkSeen) (core_had core_has : C) (had has : List Timed) (now : List (Option Task)) : Type 0 where

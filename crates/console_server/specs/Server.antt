@@ -1,6 +1,8 @@
 -- claim: what contracts see of a server, when it can do a turn, and what a turn leaves that was not done to its end.
 use Rattle.std.specs.Prelude.{◌≡◌, ◌≢◌, ℕ, ◌+◌, ◌*◌, ◌<◌, ◌≤◌, Bool, true, false, List, [], ◌∷◌, ◌++◌, length, take, map, replicate, Option, Some, None}
+use Rattle.std.specs.Prelude.{IfErr}
 use Rattle.std.specs.Borrow.{MutBor}
+use Rattle.std.specs.declared.result.Result.{Result}
 use Rattle.faults.specs.Faults.{Rose}
 use Rattle.ctss_types.specs.declared.script.Timed.{Timed}
 use Rattle.ctss_types.specs.declared.fault.RunFault.{RunFault}
@@ -13,6 +15,7 @@ use Rattle.console_server.specs.declared.fault.ServeFault.TheVariants as serve
 use Rattle.console_server.specs.declared.tasks.Task.{Task}
 use Rattle.console_server.specs.declared.server.Server.{Server}
 use Rattle.console_server.specs.declared.server.Tables.{Tables}
+use Rattle.console_server.specs.Cores.{CanGoOn}
 use Rattle.console_server.specs.Readings.{DidAll}
 use Rattle.console_server.specs.Turns.{Desk, TurnAnswers, AreHeard, AreHeardUntil, calls_accepted, last_accept, all_calls_heard, seats_to_read, hangs, dials, events_of_turn}
 use Rattle.console_server.specs.Seats.{AreSeated, StandAll}
@@ -42,10 +45,20 @@ pub record HasTables {C L : Type 0} (look : L → LinkSeen) (s : ServerState C L
   pub flags : length s.failed ≡ 32
   pub seated : AreSeated (look s.link.now).is_open s.seats
 
+-- from the one to the other a server kept its tables, and its link
+pub record KeepsServer {C L : Type 0} (look : L → LinkSeen) (old new : ServerState C L) : Type 0 where
+  pub tables : HasTables look new
+  pub same : new.link.ghost_name ≡ old.link.ghost_name
+
 -- its core can go on
-pub record IsReady {C L : Type 0} (see : C → CoreSeen) (holds : C → Type 0) (s : ServerState C L) : Type 0 where
-  pub ready : (see s.core).is_ended ≡ false
-  pub sound : holds s.core
+abbrev pub IsReady : {C L : Type 0} → (C → CoreSeen) → (C → Type 0) → ServerState C L → Type 0
+IsReady see holds s = CanGoOn see holds s.core
+
+-- it can do a turn
+pub record CanServe {C L : Type 0} (see : C → CoreSeen) (holds : C → Type 0) (look : L → LinkSeen) (s : ServerState C L)
+    : Type 0 where
+  pub tables : HasTables look s
+  pub ready : IsReady see holds s
 
 -- the tasks and flags are those of these connections
 pub record IsDeskOf {C L : Type 0} (s : ServerState C L) (desk : Desk) : Type 0 where
@@ -160,6 +173,12 @@ IsCause serve.Link a b p q = Rose a.faults b.faults
 IsCause serve.Drum a b p q = Rose p.drum_faults q.drum_faults
 IsCause serve.Disk a b p q = Rose p.disk_faults q.disk_faults
 IsCause serve.NoMemory a b p q = Unit {0}
+
+-- behind a turn a fault of the listener, the drum or the disk is one whose count rose, and the listener's hasn't fallen
+pub record CountsFaults (result : Result Unit ServeFault) (link_had link_has : LinkSeen) (core_had core_has : CoreSeen)
+    : Type 0 where
+  pub cause : IfErr result (λ fault. IsCause fault link_had link_has core_had core_has)
+  pub listener : link_had.faults ≤ link_has.faults
 
 -- the close of a console's connection, if it has one, and of all consoles' connections in order
 abbrev pub closes_of : Option Task → List Done

@@ -1,7 +1,8 @@
 //! The core, with the events that were given to it.
-ghost use Rattle.std.specs.Prelude.{false, ◌≡◌, ◌∷◌, [], OnOk, OnErr, ℕ, List, take};
+ghost use Rattle.std.specs.Prelude.{◌≡◌, ◌∷◌, [], OnOk, OnErr, ℕ, List, take};
 ghost use Rattle.console_wire.specs.Items.{half_of, items_at, piece_after, items_from, piece_from};
-ghost use Rattle.console_server.specs.Given.{IsGiven, IsGivenPart};
+ghost use Rattle.console_server.specs.Cores.{CanGoOn};
+ghost use Rattle.console_server.specs.Given.{IsGiven, IsGivenPart, StaysReady};
 ghost use Rattle.console_server.specs.Readings.{timed, all_timed};
 
 use console_wire::{Fed, Wire};
@@ -23,15 +24,12 @@ impl<C: LiveCore> Book<C> {
         console: ConsoleNo,
         event: Event,
     ) -> Result<(), NoMemory>
-        requires ready { (C.seen self.old.core).is_ended ≡ false }
-        requires sound { C.Sound self.old.core }
+        requires ready { CanGoOn C.seen C.Sound self.old.core }
         ensures ok { OnOk result (IsGiven C.Goes (timed tick console event ∷ []) self.old.core self.new.core
             self.old.events.items self.new.events.items) }
         ensures err { OnErr result (IsGiven C.Goes [] self.old.core self.new.core self.old.events.items
             self.new.events.items) }
-        ensures ready { (C.seen self.new.core).is_ended ≡ false }
-        ensures same { C.seen self.new.core ≡ C.seen self.old.core }
-        ensures sound { C.Sound self.new.core }
+        ensures core { StaysReady C.seen C.Sound self.old.core self.new.core }
     {
         self.events.reserve(1)?;
         let given: Event = event;
@@ -59,17 +57,14 @@ impl<C: LiveCore> Book<C> {
         wire: &mut Wire,
         byte: u8,
     ) -> Result<(), NoMemory>
-        requires ready { (C.seen self.old.core).is_ended ≡ false }
-        requires sound { C.Sound self.old.core }
+        requires ready { CanGoOn C.seen C.Sound self.old.core }
         ensures ok { (piece : List ℕ) → wire.old ≡ half_of piece
             → OnOk result (IsGiven C.Goes (all_timed tick console (items_at piece byte)) self.old.core self.new.core
             self.old.events.items self.new.events.items) }
         ensures half { (piece : List ℕ) → wire.old ≡ half_of piece → wire.new ≡ half_of (piece_after piece byte) }
         ensures err { OnErr result (IsGiven C.Goes [] self.old.core self.new.core self.old.events.items
             self.new.events.items) }
-        ensures ready { (C.seen self.new.core).is_ended ≡ false }
-        ensures same { C.seen self.new.core ≡ C.seen self.old.core }
-        ensures sound { C.Sound self.new.core }
+        ensures core { StaysReady C.seen C.Sound self.old.core self.new.core }
     {
         match wire.push(byte) {
             Fed::More => Ok(()),
@@ -87,8 +82,7 @@ impl<C: LiveCore> Book<C> {
         wire: &mut Wire,
         bytes: &[u8],
     ) -> Result<(), NoMemory>
-        requires ready { (C.seen self.old.core).is_ended ≡ false }
-        requires sound { C.Sound self.old.core }
+        requires ready { CanGoOn C.seen C.Sound self.old.core }
         ensures ok { (piece : List ℕ) → wire.old ≡ half_of piece
             → OnOk result (IsGiven C.Goes (all_timed tick console (items_from piece bytes.now)) self.old.core
             self.new.core self.old.events.items self.new.events.items) }
@@ -97,9 +91,7 @@ impl<C: LiveCore> Book<C> {
         ensures err { (piece : List ℕ) → wire.old ≡ half_of piece
             → OnErr result (IsGivenPart C.Goes (all_timed tick console (items_from piece bytes.now)) self.old.core
             self.new.core self.old.events.items self.new.events.items) }
-        ensures ready { (C.seen self.new.core).is_ended ≡ false }
-        ensures same { C.seen self.new.core ≡ C.seen self.old.core }
-        ensures sound { C.Sound self.new.core }
+        ensures core { StaysReady C.seen C.Sound self.old.core self.new.core }
     {
         for byte in bytes {
             self.feed_one(tick, console, wire, *byte)?;

@@ -1,7 +1,11 @@
 //! Reading one console.
-ghost use Rattle.std.specs.Prelude.{false, ◌≡◌, ◌≤◌, ℕ, List, length, Option, OnOk, OnErr};
+ghost use Rattle.std.specs.Prelude.{List, length, Option, OnOk, OnErr};
+ghost use Rattle.console_server.specs.Cores.{CanGoOn};
+ghost use Rattle.console_server.specs.Given.{StaysReady};
 ghost use Rattle.console_server.specs.Turns.{Talk};
-ghost use Rattle.console_server.specs.Seats.{Stands, SeatIsOpen, SeatIsHeard, SeatIsHeardPart, IsNotOf, KeepsSeat, AreSeated, StandAll, SeatsAreHeard, AreHeardPart};
+ghost use Rattle.console_server.specs.Seats.{Stands, SeatIsOpen, SeatIsHeard, SeatIsHeardPart};
+ghost use Rattle.console_server.specs.Seats.{StandAll, SeatsAreHeard, AreHeardPart};
+ghost use Rattle.console_server.specs.Consoles.{ServesOne, AreConsoles, KeepsSeats};
 
 use crate::book::Book;
 use crate::reading::drain;
@@ -20,21 +24,15 @@ pub(crate) fn hear<C: LiveCore, L: Link>(
     console: ConsoleNo,
 ) -> Result<(), NoMemory>
     requires here { SeatIsOpen (L.seen link.old).is_open seat.old }
-    requires ready { (C.seen book.old.core).is_ended ≡ false }
-    requires sound { C.Sound book.old.core }
+    requires ready { CanGoOn C.seen C.Sound book.old.core }
     ensures ok { (talk : Option Talk) → Stands seat.old talk
         → OnOk result (SeatIsHeard C.Goes tick console talk (L.seen link.old) (L.seen link.new) book.old.core
         book.new.core book.old.events.items book.new.events.items seat.new) }
     ensures err { (talk : Option Talk) → Stands seat.old talk
         → OnErr result (SeatIsHeardPart C.Goes tick console talk (L.seen link.old) (L.seen link.new) book.old.core
         book.new.core book.old.events.items book.new.events.items) }
-    ensures left { SeatIsOpen (L.seen link.new).is_open seat.new }
-    ensures others { (k : ℕ) → IsNotOf seat.old k → (L.seen link.new).is_open k ≡ (L.seen link.old).is_open k }
-    ensures keeps { KeepsSeat seat.old seat.new }
-    ensures listener { (L.seen link.new).faults ≡ (L.seen link.old).faults }
-    ensures ready { (C.seen book.new.core).is_ended ≡ false }
-    ensures same { C.seen book.new.core ≡ C.seen book.old.core }
-    ensures sound { C.Sound book.new.core }
+    ensures seat { ServesOne seat.old seat.new (L.seen link.old) (L.seen link.new) }
+    ensures core { StaysReady C.seen C.Sound book.old.core book.new.core }
 {
     let Some(mut task) = seat.take() else {
         return Ok(());
@@ -64,22 +62,16 @@ pub(crate) fn hear_all<C: LiveCore, L: Link>(
     seats: &mut Vec<Option<Task>>,
     tick: u64,
 ) -> Result<(), NoMemory>
-    requires many { length seats.old.items ≤ 32 }
-    requires seated { AreSeated (L.seen link.old).is_open seats.old.items }
-    requires ready { (C.seen book.old.core).is_ended ≡ false }
-    requires sound { C.Sound book.old.core }
+    requires seats { AreConsoles (L.seen link.old).is_open seats.old.items }
+    requires ready { CanGoOn C.seen C.Sound book.old.core }
     ensures ok { (desk : List (Option Talk)) → StandAll seats.old.items desk
         → OnOk result (SeatsAreHeard C.Goes tick (length desk) desk (L.seen link.old) (L.seen link.new) book.old.core
         book.new.core book.old.events.items book.new.events.items seats.new.items) }
     ensures err { (desk : List (Option Talk)) → StandAll seats.old.items desk
         → OnErr result (AreHeardPart C.Goes tick desk (L.seen link.old) (L.seen link.new)
         book.old.core book.new.core book.old.events.items book.new.events.items) }
-    ensures seated { AreSeated (L.seen link.new).is_open seats.new.items }
-    ensures listener { (L.seen link.new).faults ≡ (L.seen link.old).faults }
-    ensures many { length seats.new.items ≡ length seats.old.items }
-    ensures ready { (C.seen book.new.core).is_ended ≡ false }
-    ensures same { C.seen book.new.core ≡ C.seen book.old.core }
-    ensures sound { C.Sound book.new.core }
+    ensures seats { KeepsSeats seats.old.items seats.new.items (L.seen link.old) (L.seen link.new) }
+    ensures core { StaysReady C.seen C.Sound book.old.core book.new.core }
 {
     'consoles: for i in 0..seats.len() {
         let Some(console) = ConsoleNo::new(i as u8 + 1) else {

@@ -1,8 +1,11 @@
 //! Reading the connections.
-ghost use Rattle.std.specs.Prelude.{false, ◌≡◌, ◌<◌, ◌≤◌, ℕ, List, length, take, true, IfOk, OnErr};
+ghost use Rattle.std.specs.Prelude.{◌≡◌, ◌<◌, ◌≤◌, ℕ, List, length, take, true, IfOk, OnErr};
 ghost use Rattle.console_link.specs.Links.{Did, DidRead, given, GotFits};
 ghost use Rattle.console_wire.specs.Items.{half_of};
+ghost use Rattle.console_server.specs.Cores.{CanGoOn};
+ghost use Rattle.console_server.specs.Given.{StaysReady};
 ghost use Rattle.console_server.specs.Readings.{Drained, DrainedPart};
+ghost use Rattle.console_server.specs.Consoles.{KeepsOpen};
 
 use crate::book::Book;
 use console_link::{Link, LinkGot};
@@ -24,8 +27,8 @@ fn read_some<L: Link>(link: &mut L, id: u32, buffer: &mut [u8], most: usize) -> 
     link.read(id, &mut buffer[..most])
 }
 
-/// Reads a connection until it is not ready, over, or has given 1024 bytes, and gives the core what its bytes complete. Answers
-/// whether the connection is over.
+/// Reads a connection until it is not ready, over, or has given 1024 bytes, and gives the core what its bytes complete.
+/// Answers whether the connection is over.
 pub(crate) fn drain<C: LiveCore, L: Link>(
     book: &mut Book<C>,
     link: &mut L,
@@ -35,19 +38,15 @@ pub(crate) fn drain<C: LiveCore, L: Link>(
     console: ConsoleNo,
 ) -> Result<bool, NoMemory>
     requires here { (L.seen link.old).is_open id ≡ true }
-    requires ready { (C.seen book.old.core).is_ended ≡ false }
-    requires sound { C.Sound book.old.core }
+    requires ready { CanGoOn C.seen C.Sound book.old.core }
     ensures ok { (piece : List ℕ) → wire.old ≡ half_of piece
         → IfOk result (λ over. Drained C.Goes tick console id piece over (L.seen link.old) (L.seen link.new)
         book.old.core book.new.core book.old.events.items book.new.events.items wire.new) }
     ensures err { (piece : List ℕ) → wire.old ≡ half_of piece
         → OnErr result (DrainedPart C.Goes tick console id piece (L.seen link.old) (L.seen link.new) book.old.core
         book.new.core book.old.events.items book.new.events.items) }
-    ensures same { (k : ℕ) → (L.seen link.new).is_open k ≡ (L.seen link.old).is_open k }
-    ensures listener { (L.seen link.new).faults ≡ (L.seen link.old).faults }
-    ensures ready { (C.seen book.new.core).is_ended ≡ false }
-    ensures core { C.seen book.new.core ≡ C.seen book.old.core }
-    ensures sound { C.Sound book.new.core }
+    ensures link { KeepsOpen (L.seen link.old) (L.seen link.new) }
+    ensures core { StaysReady C.seen C.Sound book.old.core book.new.core }
 {
     let mut buffer = [0u8; MOST];
     let mut left = MOST;

@@ -1,10 +1,10 @@
 //! Consoles for new connections.
-ghost use Rattle.std.specs.Prelude.{Err, ◌≡◌, ◌<◌, ◌≤◌, IfSome, false, true, ℕ, [], List, length, get_or, Option, None, OnOk, OnErr, IfErr};
-ghost use Rattle.faults.specs.Faults.{Rose};
-ghost use Rattle.console_server.specs.Given.{IsGiven};
-ghost use Rattle.console_server.specs.Readings.{DidAll};
-ghost use Rattle.console_server.specs.Turns.{Talk, free_from, put_first, talk_of, seats_with, calls_of_new, dial};
-ghost use Rattle.console_server.specs.Seats.{AreSeated, StandAll, IsNotOf, AreAccepted, AcceptsAreCut};
+ghost use Rattle.std.specs.Prelude.{◌≡◌, ◌<◌, IfSome, [], List, length, get_or, Option, None, OnOk, OnErr, IfErr};
+ghost use Rattle.console_server.specs.Cores.{CanGoOn};
+ghost use Rattle.console_server.specs.Given.{IsGiven, StaysReady};
+ghost use Rattle.console_server.specs.Turns.{Talk, free_from, dial};
+ghost use Rattle.console_server.specs.Seats.{AreSeated, StandAll, FillsSeat, AreAccepted, AcceptsAreCut};
+ghost use Rattle.console_server.specs.Consoles.{AreConsoles, MaySeat, KeepsSeats, CountsListener};
 
 use crate::book::Book;
 use crate::tasks::Task;
@@ -42,27 +42,17 @@ pub(crate) fn seat<C: LiveCore, L: Link>(
     tick: u64,
     id: u32,
 ) -> Result<(), NoMemory>
-    requires many { length seats.old.items ≤ 32 }
-    requires here { (L.seen link.old).is_open id ≡ true }
-    requires fresh { (c : ℕ) → IsNotOf (get_or seats.old.items c None) id }
-    requires seated { AreSeated (L.seen link.old).is_open seats.old.items }
-    requires ready { (C.seen book.old.core).is_ended ≡ false }
-    requires sound { C.Sound book.old.core }
+    requires seats { MaySeat (L.seen link.old).is_open seats.old.items id }
+    requires ready { CanGoOn C.seen C.Sound book.old.core }
     ensures ok { (desk : List (Option Talk)) → StandAll seats.old.items desk
         → OnOk result (IsGiven C.Goes (dial tick (free_from 1 desk)) book.old.core book.new.core book.old.events.items
         book.new.events.items) }
     ensures err { OnErr result (IsGiven C.Goes [] book.old.core book.new.core book.old.events.items
         book.new.events.items) }
-    ensures link { (desk : List (Option Talk)) → StandAll seats.old.items desk
-        → DidAll (calls_of_new (free_from 1 desk) id) (L.seen link.old) (L.seen link.new) }
-    ensures stands { (desk : List (Option Talk)) → StandAll seats.old.items desk
-        → StandAll seats.new.items (seats_with (C.seen book.old.core).texts id desk) }
-    ensures seated { AreSeated (L.seen link.new).is_open seats.new.items }
-    ensures listener { (L.seen link.new).faults ≡ (L.seen link.old).faults }
-    ensures many { length seats.new.items ≡ length seats.old.items }
-    ensures ready { (C.seen book.new.core).is_ended ≡ false }
-    ensures same { C.seen book.new.core ≡ C.seen book.old.core }
-    ensures sound { C.Sound book.new.core }
+    ensures fills { (desk : List (Option Talk)) → StandAll seats.old.items desk
+        → FillsSeat (C.seen book.old.core).texts id desk (L.seen link.old) (L.seen link.new) seats.new.items }
+    ensures seats { KeepsSeats seats.old.items seats.new.items (L.seen link.old) (L.seen link.new) }
+    ensures core { StaysReady C.seen C.Sound book.old.core book.new.core }
 {
     let Some(i) = free_seat(seats) else {
         link.close(id);
@@ -84,10 +74,8 @@ pub(crate) fn accept_all<C: LiveCore, L: Link>(
     seats: &mut Vec<Option<Task>>,
     tick: u64,
 ) -> Result<(), SeatingFault>
-    requires many { length seats.old.items ≤ 32 }
-    requires seated { AreSeated (L.seen link.old).is_open seats.old.items }
-    requires ready { (C.seen book.old.core).is_ended ≡ false }
-    requires sound { C.Sound book.old.core }
+    requires seats { AreConsoles (L.seen link.old).is_open seats.old.items }
+    requires ready { CanGoOn C.seen C.Sound book.old.core }
     ensures ok { (desk : List (Option Talk)) → StandAll seats.old.items desk
         → OnOk result (AreAccepted C.Goes tick (C.seen book.old.core).texts desk (L.seen link.old) (L.seen link.new)
         book.old.core book.new.core book.old.events.items book.new.events.items seats.new.items) }
@@ -95,13 +83,10 @@ pub(crate) fn accept_all<C: LiveCore, L: Link>(
         → IfErr result (λ fault. AcceptsAreCut C.Goes tick (C.seen book.old.core).texts desk fault
         (L.seen link.old) (L.seen link.new)
         book.old.core book.new.core book.old.events.items book.new.events.items) }
-    ensures listener { (L.seen link.old).faults ≤ (L.seen link.new).faults }
-    ensures cause { result ≡ Err SeatingFault.Listener → Rose (L.seen link.old).faults (L.seen link.new).faults }
+    ensures cause { CountsListener result (L.seen link.old) (L.seen link.new) }
     ensures seated { AreSeated (L.seen link.new).is_open seats.new.items }
     ensures many { length seats.new.items ≡ length seats.old.items }
-    ensures ready { (C.seen book.new.core).is_ended ≡ false }
-    ensures same { C.seen book.new.core ≡ C.seen book.old.core }
-    ensures sound { C.Sound book.new.core }
+    ensures core { StaysReady C.seen C.Sound book.old.core book.new.core }
 {
     let mut count = 0u8;
     'accepts: while count < 32 {

@@ -1,10 +1,11 @@
 //! A server over a core and a link.
-ghost use Rattle.std.specs.Prelude.{◌≡◌, ◌<◌, ◌≤◌, false, [], ℕ, length, replicate, None, IfOk, OnOk, IfErr};
-ghost use Rattle.live_core.specs.Core.{WentTo};
+ghost use Rattle.std.specs.Prelude.{◌≡◌, ◌<◌, ◌≤◌, false, [], replicate, None, IfOk, OnOk, IfErr};
+ghost use Rattle.console_server.specs.Cores.{HasGoneOn};
 ghost use Rattle.console_server.specs.Readings.{DidAll};
 ghost use Rattle.console_server.specs.Turns.{Desk};
 ghost use Rattle.console_server.specs.Conversation.{TurnsAreDone, TurnsAreCut};
-ghost use Rattle.console_server.specs.Server.{state, AreUnused, HasTables, IsReady, IsDeskOf, TurnIsDone, TurnIsCut, IsCause, closes};
+ghost use Rattle.console_server.specs.Server.{state, AreUnused, HasTables, CanServe, KeepsServer, IsReady, IsDeskOf};
+ghost use Rattle.console_server.specs.Server.{TurnIsDone, TurnIsCut, IsCause, CountsFaults, closes};
 
 use crate::book::Book;
 use crate::closing::close_all;
@@ -43,7 +44,8 @@ fn no_tasks(alloc: Global) -> Result<Vec<Option<Task>>, NoMemory>
     Ok(seats)
 }
 
-/// The tables of a server that has served nobody: all of it that takes memory before its core and its link are handed in.
+/// The tables of a server that has served nobody: all of it that takes memory before its core and its link are handed
+/// in.
 #[derive(Drop)]
 pub struct Tables {
     events: Vec<Timed>,
@@ -95,21 +97,17 @@ impl<'a, C: LiveCore + Drop, L: Link> Server<'a, C, L> {
     /// limit, and sends what the consoles have shown. After a fault only `finish` may be called.
     pub fn turn(&mut self, number: u64) -> Result<(), ServeFault>
         requires number { number < 100000 }
-        requires tables { HasTables L.seen (state self.old) }
-        requires ready { IsReady C.seen C.Sound (state self.old) }
+        requires server { CanServe C.seen C.Sound L.seen (state self.old) }
         ensures done { (desk : Desk) → IsDeskOf (state self.old) desk
             → OnOk result (TurnIsDone C.Goes C.seen L.seen number desk (state self.old) (state self.new)) }
         ensures cut { (desk : Desk) → IsDeskOf (state self.old) desk
             → IfErr result (λ fault. TurnIsCut C.Goes C.seen L.seen number desk fault
             (state self.old) (state self.new)) }
-        ensures cause { IfErr result (λ fault. IsCause fault
+        ensures cause { CountsFaults result
             (L.seen (state self.old).link.now) (L.seen (state self.new).link.now)
-            (C.seen (state self.old).core) (C.seen (state self.new).core)) }
-        ensures listener { (L.seen (state self.old).link.now).faults ≤ (L.seen (state self.new).link.now).faults }
-        ensures went { OnOk result (WentTo None (C.seen (state self.old).core) (C.seen (state self.new).core)) }
-        ensures tables { HasTables L.seen (state self.new) }
-        ensures ready { OnOk result (IsReady C.seen C.Sound (state self.new)) }
-        ensures same { (state self.new).link.ghost_name ≡ (state self.old).link.ghost_name }
+            (C.seen (state self.old).core) (C.seen (state self.new).core) }
+        ensures went { OnOk result (HasGoneOn C.seen C.Sound (state self.old).core (state self.new).core) }
+        ensures tables { KeepsServer L.seen (state self.old) (state self.new) }
     {
         do_turn(
             &mut self.book,
@@ -123,8 +121,7 @@ impl<'a, C: LiveCore + Drop, L: Link> Server<'a, C, L> {
     /// So many turns, the first of which is number 0. After a fault only `finish` may be called.
     pub fn turns(&mut self, count: u64) -> Result<(), ServeFault>
         requires count { count ≤ 100000 }
-        requires tables { HasTables L.seen (state self.old) }
-        requires ready { IsReady C.seen C.Sound (state self.old) }
+        requires server { CanServe C.seen C.Sound L.seen (state self.old) }
         ensures done { (desk : Desk) → IsDeskOf (state self.old) desk
             → OnOk result (TurnsAreDone C.Goes C.seen L.seen count desk (state self.old) (state self.new)) }
         ensures cut { (desk : Desk) → IsDeskOf (state self.old) desk
@@ -133,9 +130,8 @@ impl<'a, C: LiveCore + Drop, L: Link> Server<'a, C, L> {
         ensures cause { IfErr result (λ fault. IsCause fault
             (L.seen (state self.old).link.now) (L.seen (state self.new).link.now)
             (C.seen (state self.old).core) (C.seen (state self.new).core)) }
-        ensures tables { HasTables L.seen (state self.new) }
+        ensures tables { KeepsServer L.seen (state self.old) (state self.new) }
         ensures ready { OnOk result (IsReady C.seen C.Sound (state self.new)) }
-        ensures same { (state self.new).link.ghost_name ≡ (state self.old).link.ghost_name }
     {
         'turns: for number in 0..count {
             self.turn(number)?;

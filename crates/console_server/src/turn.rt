@@ -1,12 +1,12 @@
 //! One turn.
-ghost use Rattle.std.specs.Prelude.{Err, ◌∷◌, ◌≡◌, ◌≤◌, ◌<◌, ◌+◌, ◌*◌, false, ℕ, [], List, length, Option, None, OnOk, OnErr, IfErr};
-ghost use Rattle.faults.specs.Faults.{Rose};
-ghost use Rattle.live_core.specs.Core.{WentTo};
-ghost use Rattle.console_server.specs.Given.{IsGiven, IsGivenPart};
-ghost use Rattle.console_server.specs.Turns.{Talk, Desk, hangs};
-ghost use Rattle.console_server.specs.Seats.{AreSeated, StandAll};
+ghost use Rattle.std.specs.Prelude.{◌∷◌, ◌≡◌, ◌≤◌, ◌<◌, [], length, OnOk, OnErr, IfErr};
+ghost use Rattle.console_server.specs.Cores.{CanGoOn, HasGoneOn};
+ghost use Rattle.console_server.specs.Given.{IsGiven, IsGivenPart, StaysReady};
+ghost use Rattle.console_server.specs.Turns.{Desk, hangs};
+ghost use Rattle.console_server.specs.Seats.{StandAll};
+ghost use Rattle.console_server.specs.Consoles.{AreTables, KeepsTables};
 ghost use Rattle.console_server.specs.Done.{IsDone};
-ghost use Rattle.console_server.specs.Server.{IsCut, IsCause};
+ghost use Rattle.console_server.specs.Server.{IsCut, CountsFaults};
 
 use crate::book::Book;
 use crate::fault::ServeFault;
@@ -25,15 +25,12 @@ fn hang<C: LiveCore>(
     tick: u64,
     console: ConsoleNo,
 ) -> Result<(), NoMemory>
-    requires ready { (C.seen book.old.core).is_ended ≡ false }
-    requires sound { C.Sound book.old.core }
+    requires ready { CanGoOn C.seen C.Sound book.old.core }
     ensures ok { OnOk result (IsGiven C.Goes (hangs tick console (is_lost ∷ [])) book.old.core book.new.core
         book.old.events.items book.new.events.items) }
     ensures err { OnErr result (IsGiven C.Goes [] book.old.core book.new.core book.old.events.items
         book.new.events.items) }
-    ensures ready { (C.seen book.new.core).is_ended ≡ false }
-    ensures same { C.seen book.new.core ≡ C.seen book.old.core }
-    ensures sound { C.Sound book.new.core }
+    ensures core { StaysReady C.seen C.Sound book.old.core book.new.core }
 {
     if !is_lost {
         return Ok(());
@@ -44,15 +41,12 @@ fn hang<C: LiveCore>(
 /// The core hears of the connections that failed in the last turn's writes.
 fn hang_all<C: LiveCore>(book: &mut Book<C>, failed: &[bool], tick: u64) -> Result<(), NoMemory>
     requires many { length failed.now ≤ 32 }
-    requires ready { (C.seen book.old.core).is_ended ≡ false }
-    requires sound { C.Sound book.old.core }
+    requires ready { CanGoOn C.seen C.Sound book.old.core }
     ensures ok { OnOk result (IsGiven C.Goes (hangs tick 1 failed.now) book.old.core book.new.core
         book.old.events.items book.new.events.items) }
     ensures err { OnErr result (IsGivenPart C.Goes (hangs tick 1 failed.now)
         book.old.core book.new.core book.old.events.items book.new.events.items) }
-    ensures ready { (C.seen book.new.core).is_ended ≡ false }
-    ensures same { C.seen book.new.core ≡ C.seen book.old.core }
-    ensures sound { C.Sound book.new.core }
+    ensures core { StaysReady C.seen C.Sound book.old.core book.new.core }
 {
     'consoles: for i in 0..failed.len() {
         let Some(console) = ConsoleNo::new(i as u8 + 1) else {
@@ -72,26 +66,19 @@ pub(crate) fn do_turn<C: LiveCore, L: Link>(
     number: u64,
 ) -> Result<(), ServeFault>
     requires number { number < 100000 }
-    requires many { length seats.old.items ≤ 32 }
-    requires flags { length failed.old.items ≡ length seats.old.items }
-    requires seated { AreSeated (L.seen link.old).is_open seats.old.items }
-    requires ready { (C.seen book.old.core).is_ended ≡ false }
-    requires sound { C.Sound book.old.core }
+    requires tables { AreTables (L.seen link.old).is_open seats.old.items failed.old.items }
+    requires ready { CanGoOn C.seen C.Sound book.old.core }
     ensures done { (desk : Desk) → StandAll seats.old.items desk.seats → desk.failed ≡ failed.old.items
         → OnOk result (IsDone C.Goes C.seen number desk (L.seen link.old) (L.seen link.new) book.old.core
         book.new.core book.old.events.items book.new.events.items seats.new.items failed.new.items) }
     ensures cut { (desk : Desk) → StandAll seats.old.items desk.seats → desk.failed ≡ failed.old.items
         → IfErr result (λ fault. IsCut C.Goes C.seen number desk fault (L.seen link.old) (L.seen link.new)
         book.old.core book.new.core book.old.events.items book.new.events.items) }
-    ensures cause { IfErr result (λ fault. IsCause fault (L.seen link.old) (L.seen link.new) (C.seen book.old.core)
-        (C.seen book.new.core)) }
-    ensures listener { (L.seen link.old).faults ≤ (L.seen link.new).faults }
-    ensures went { OnOk result (WentTo None (C.seen book.old.core) (C.seen book.new.core)) }
-    ensures ready { OnOk result ((C.seen book.new.core).is_ended ≡ false) }
-    ensures sound { OnOk result (C.Sound book.new.core) }
-    ensures seated { AreSeated (L.seen link.new).is_open seats.new.items }
-    ensures many { length seats.new.items ≡ length seats.old.items }
-    ensures flags { length failed.new.items ≡ length failed.old.items }
+    ensures cause { CountsFaults result (L.seen link.old) (L.seen link.new) (C.seen book.old.core)
+        (C.seen book.new.core) }
+    ensures went { OnOk result (HasGoneOn C.seen C.Sound book.old.core book.new.core) }
+    ensures tables { KeepsTables (L.seen link.new).is_open seats.old.items seats.new.items failed.old.items
+        failed.new.items }
 {
     let tick = 1000 * number;
     match link.wait(10) {

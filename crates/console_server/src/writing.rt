@@ -1,7 +1,8 @@
 //! Writing to the connections.
 ghost use Rattle.std.specs.Prelude.{◌≡◌, ◌<◌, ◌≤◌, ◌-◌, ℕ, [], List, Option, true, length, take, drop, get_or};
 ghost use Rattle.console_server.specs.Turns.{Talk};
-ghost use Rattle.console_server.specs.Seats.{AreSeated, StandAll, SeatsAreTold, Stands, SeatIsOpen, SeatIsTold, IsNotOf, KeepsSeat};
+ghost use Rattle.console_server.specs.Seats.{Stands, SeatIsOpen, SeatIsTold, StandAll, SeatsAreTold};
+ghost use Rattle.console_server.specs.Consoles.{KeepsOpen, ServesOne, AreTables, KeepsTables};
 ghost use Rattle.console_server.specs.Writings.{IsSent};
 
 use crate::tasks::Task;
@@ -23,8 +24,7 @@ pub(crate) fn send<L: Link>(link: &mut L, id: u32, text: &[u8]) -> Sent
     ensures sent { (rest : List ℕ) → text.now ≡ take 4096 rest → IsSent id rest result.lost result.count
         (L.seen link.old) (L.seen link.new) }
     ensures within { result.count ≤ length text.now }
-    ensures same { (k : ℕ) → (L.seen link.new).is_open k ≡ (L.seen link.old).is_open k }
-    ensures listener { (L.seen link.new).faults ≡ (L.seen link.old).faults }
+    ensures link { KeepsOpen (L.seen link.old) (L.seen link.new) }
 {
     let mut count = 0usize;
     'writing: while count < text.len() {
@@ -37,8 +37,8 @@ pub(crate) fn send<L: Link>(link: &mut L, id: u32, text: &[u8]) -> Sent
     Sent { count, lost: false }
 }
 
-/// Sends a console's connection what its text has behind the place up to which it was sent, 4096 bytes at most. Where that fails the
-/// connection is closed, and it answers so.
+/// Sends a console's connection what its text has behind the place up to which it was sent, 4096 bytes at most. Where
+/// that fails the connection is closed, and it answers so.
 #[tactic(auto, using(crate::proofs::TellLaws::told_none, crate::proofs::TellLaws::window_is, crate::proofs::TellLaws::told_lost, crate::proofs::TellLaws::told_on, crate::proofs::SeatLaws::not_closed))]
 pub(crate) fn tell<C: LiveCore, L: Link>(
     core: &C,
@@ -50,10 +50,7 @@ pub(crate) fn tell<C: LiveCore, L: Link>(
     ensures told { (talk : Option Talk) → Stands seat.old talk
         → SeatIsTold (get_or (C.seen core.now).texts (console - 1) []) talk result (L.seen link.old) (L.seen link.new)
         seat.new }
-    ensures left { SeatIsOpen (L.seen link.new).is_open seat.new }
-    ensures others { (k : ℕ) → IsNotOf seat.old k → (L.seen link.new).is_open k ≡ (L.seen link.old).is_open k }
-    ensures keeps { KeepsSeat seat.old seat.new }
-    ensures listener { (L.seen link.new).faults ≡ (L.seen link.old).faults }
+    ensures seat { ServesOne seat.old seat.new (L.seen link.old) (L.seen link.new) }
 {
     let Some(mut task) = seat.take() else {
         return false;
@@ -77,16 +74,13 @@ pub(crate) fn tell_all<C: LiveCore, L: Link>(
     seats: &mut Vec<Option<Task>>,
     failed: &mut Vec<bool>,
 )
-    requires many { length seats.old.items ≤ 32 }
-    requires flags { length failed.old.items ≡ length seats.old.items }
-    requires seated { AreSeated (L.seen link.old).is_open seats.old.items }
+    requires tables { AreTables (L.seen link.old).is_open seats.old.items failed.old.items }
     ensures told { (desk : List (Option Talk)) → StandAll seats.old.items desk
         → SeatsAreTold (C.seen core.now).texts (length desk) desk (L.seen link.old) (L.seen link.new) seats.new.items
         failed.new.items }
-    ensures seated { AreSeated (L.seen link.new).is_open seats.new.items }
+    ensures tables { KeepsTables (L.seen link.new).is_open seats.old.items seats.new.items failed.old.items
+        failed.new.items }
     ensures listener { (L.seen link.new).faults ≡ (L.seen link.old).faults }
-    ensures many { length seats.new.items ≡ length seats.old.items }
-    ensures flags { length failed.new.items ≡ length failed.old.items }
 {
     'consoles: for i in 0..seats.len() {
         let Some(console) = ConsoleNo::new(i as u8 + 1) else {

@@ -1,3 +1,4 @@
 pub mod Families
 pub mod LogicFamilies
 pub mod IndexFamilies
+pub mod Does

@@ -1,14 +1,14 @@
 //! Loads, stores, fixed-point arithmetic and the signs of the accumulator: what each instruction does.
-ghost use Rattle.std.specs.Prelude.{◌≡◌, ◌<◌, ◌^◌, not, true, false};
+ghost use Rattle.std.specs.Prelude.{◌≡◌, ◌<◌, not, true, false};
 ghost use Rattle.opcode_table.specs.Table.{kind_of};
-ghost use Rattle.opcode_table.specs.Words.{HasFields};
 ghost use Rattle.machine_model.specs.Fixed.{fixed_row};
-ghost use Rattle.machine_model.specs.Results.{ended, Goes, Keeps};
+ghost use Rattle.machine_model.specs.Results.{Goes};
 ghost use Rattle.word36.specs.Bits.{is_minus, magnitude_of};
 ghost use Rattle.arith36.specs.Arith.{sum_of, product_of};
 ghost use Rattle.machine_model.specs.Fixed.{round, with_left, with_tag, with_prefix};
 ghost use Rattle.machine_model.specs.Step.{past, with_sum, with_pair};
 ghost use Rattle.operations.specs.Families.{is_load_or_store, is_part_store, is_sum, is_product, is_test, is_change};
+ghost use Rattle.operations.specs.Does.{IsAtPlace, DoesRow};
 
 use arith36::{
     Divide, Side, add, add_magnitude, compare, dvp, mpr, mpy, round as rounded_sum, sub,
@@ -22,13 +22,9 @@ use word36::Word;
 #[inline(always)]
 pub fn apply<M: MemoryPort>(regs: &mut Regs, core: &mut M, i: &Instr, y: u16) -> OpEnd
     requires kind { kind_of i.now.op ≡ Kind.Fixed }
-    requires fields { HasFields i.now }
-    requires y { y < 2 ^ 15 }
-    requires ic { regs.old.ic < 2 ^ 15 }
-    ensures row { ended result regs.new (M.words core.new) ≡ fixed_row i.now.op i.now regs.old (M.words core.old) y }
-    ensures outside { Keeps result regs.old regs.new (M.words core.old) (M.words core.new) }
+    requires place { IsAtPlace i.now y regs.old }
+    ensures does { DoesRow fixed_row i.now y result regs.old regs.new (M.words core.old) (M.words core.new) }
     ensures keeps { M.Keeps core.old core.new }
-    ensures ic { regs.new.ic < 2 ^ 15 }
 {
     match i.op {
         Op::Cla | Op::Cls | Op::Ldq | Op::Stz | Op::Sto | Op::Stq => load_or_store(
@@ -50,14 +46,10 @@ pub fn apply<M: MemoryPort>(regs: &mut Regs, core: &mut M, i: &Instr, y: u16) ->
 #[inline(always)]
 pub fn load_or_store<M: MemoryPort>(regs: &mut Regs, core: &mut M, i: &Instr, y: u16) -> OpEnd
     requires family { is_load_or_store i.now.op ≡ true }
-    requires fields { HasFields i.now }
-    requires y { y < 2 ^ 15 }
-    requires ic { regs.old.ic < 2 ^ 15 }
-    ensures row { ended result regs.new (M.words core.new) ≡ fixed_row i.now.op i.now regs.old (M.words core.old) y }
-    ensures outside { Keeps result regs.old regs.new (M.words core.old) (M.words core.new) }
+    requires place { IsAtPlace i.now y regs.old }
+    ensures does { DoesRow fixed_row i.now y result regs.old regs.new (M.words core.old) (M.words core.new) }
     ensures goes { Goes result }
     ensures keeps { M.Keeps core.old core.new }
-    ensures ic { regs.new.ic < 2 ^ 15 }
 {
     match i.op {
         Op::Cla => {
@@ -113,14 +105,10 @@ pub fn load_or_store<M: MemoryPort>(regs: &mut Regs, core: &mut M, i: &Instr, y:
 #[inline(always)]
 pub fn store_part<M: MemoryPort>(regs: &mut Regs, core: &mut M, i: &Instr, y: u16) -> OpEnd
     requires family { is_part_store i.now.op ≡ true }
-    requires fields { HasFields i.now }
-    requires y { y < 2 ^ 15 }
-    requires ic { regs.old.ic < 2 ^ 15 }
-    ensures row { ended result regs.new (M.words core.new) ≡ fixed_row i.now.op i.now regs.old (M.words core.old) y }
-    ensures outside { Keeps result regs.old regs.new (M.words core.old) (M.words core.new) }
+    requires place { IsAtPlace i.now y regs.old }
+    ensures does { DoesRow fixed_row i.now y result regs.old regs.new (M.words core.old) (M.words core.new) }
     ensures goes { Goes result }
     ensures keeps { M.Keeps core.old core.new }
-    ensures ic { regs.new.ic < 2 ^ 15 }
 {
     match i.op {
         Op::Slq => {
@@ -182,14 +170,10 @@ pub fn store_part<M: MemoryPort>(regs: &mut Regs, core: &mut M, i: &Instr, y: u1
 #[inline(always)]
 pub fn sum<M: MemoryPort>(regs: &mut Regs, core: &mut M, i: &Instr, y: u16) -> OpEnd
     requires family { is_sum i.now.op ≡ true }
-    requires fields { HasFields i.now }
-    requires y { y < 2 ^ 15 }
-    requires ic { regs.old.ic < 2 ^ 15 }
-    ensures row { ended result regs.new (M.words core.new) ≡ fixed_row i.now.op i.now regs.old (M.words core.old) y }
-    ensures outside { Keeps result regs.old regs.new (M.words core.old) (M.words core.new) }
+    requires place { IsAtPlace i.now y regs.old }
+    ensures does { DoesRow fixed_row i.now y result regs.old regs.new (M.words core.old) (M.words core.new) }
     ensures goes { Goes result }
     ensures keeps { M.Keeps core.old core.new }
-    ensures ic { regs.new.ic < 2 ^ 15 }
 {
     match i.op {
         Op::Add => {
@@ -232,14 +216,10 @@ pub fn sum<M: MemoryPort>(regs: &mut Regs, core: &mut M, i: &Instr, y: u16) -> O
 #[inline(always)]
 pub fn product<M: MemoryPort>(regs: &mut Regs, core: &mut M, i: &Instr, y: u16) -> OpEnd
     requires family { is_product i.now.op ≡ true }
-    requires fields { HasFields i.now }
-    requires y { y < 2 ^ 15 }
-    requires ic { regs.old.ic < 2 ^ 15 }
-    ensures row { ended result regs.new (M.words core.new) ≡ fixed_row i.now.op i.now regs.old (M.words core.old) y }
-    ensures outside { Keeps result regs.old regs.new (M.words core.old) (M.words core.new) }
+    requires place { IsAtPlace i.now y regs.old }
+    ensures does { DoesRow fixed_row i.now y result regs.old regs.new (M.words core.old) (M.words core.new) }
     ensures goes { Goes result }
     ensures keeps { M.Keeps core.old core.new }
-    ensures ic { regs.new.ic < 2 ^ 15 }
 {
     match i.op {
         Op::Mpy => {
@@ -284,13 +264,9 @@ pub fn product<M: MemoryPort>(regs: &mut Regs, core: &mut M, i: &Instr, y: u16) 
 #[inline(always)]
 fn divide_or_halt<M: MemoryPort>(regs: &mut Regs, core: &mut M, i: &Instr, y: u16) -> OpEnd
     requires family { i.now.op ≡ Op.Dvh }
-    requires fields { HasFields i.now }
-    requires y { y < 2 ^ 15 }
-    requires ic { regs.old.ic < 2 ^ 15 }
-    ensures row { ended result regs.new (M.words core.new) ≡ fixed_row i.now.op i.now regs.old (M.words core.old) y }
-    ensures outside { Keeps result regs.old regs.new (M.words core.old) (M.words core.new) }
+    requires place { IsAtPlace i.now y regs.old }
+    ensures does { DoesRow fixed_row i.now y result regs.old regs.new (M.words core.old) (M.words core.new) }
     ensures keeps { M.Keeps core.old core.new }
-    ensures ic { regs.new.ic < 2 ^ 15 }
 {
     let Ok(w) = core.load(y) else {
         return OpEnd::Outside(y);
@@ -314,14 +290,10 @@ fn divide_or_halt<M: MemoryPort>(regs: &mut Regs, core: &mut M, i: &Instr, y: u1
 #[inline(always)]
 pub fn test<M: MemoryPort>(regs: &mut Regs, core: &mut M, i: &Instr, y: u16) -> OpEnd
     requires family { is_test i.now.op ≡ true }
-    requires fields { HasFields i.now }
-    requires y { y < 2 ^ 15 }
-    requires ic { regs.old.ic < 2 ^ 15 }
-    ensures row { ended result regs.new (M.words core.new) ≡ fixed_row i.now.op i.now regs.old (M.words core.old) y }
-    ensures outside { Keeps result regs.old regs.new (M.words core.old) (M.words core.new) }
+    requires place { IsAtPlace i.now y regs.old }
+    ensures does { DoesRow fixed_row i.now y result regs.old regs.new (M.words core.old) (M.words core.new) }
     ensures goes { Goes result }
     ensures keeps { M.Keeps core.old core.new }
-    ensures ic { regs.new.ic < 2 ^ 15 }
 {
     match i.op {
         Op::Cas => {
@@ -367,14 +339,10 @@ pub fn test<M: MemoryPort>(regs: &mut Regs, core: &mut M, i: &Instr, y: u16) -> 
 #[inline(always)]
 pub fn change<M: MemoryPort>(regs: &mut Regs, core: &mut M, i: &Instr, y: u16) -> OpEnd
     requires family { is_change i.now.op ≡ true }
-    requires fields { HasFields i.now }
-    requires y { y < 2 ^ 15 }
-    requires ic { regs.old.ic < 2 ^ 15 }
-    ensures row { ended result regs.new (M.words core.new) ≡ fixed_row i.now.op i.now regs.old (M.words core.old) y }
-    ensures outside { Keeps result regs.old regs.new (M.words core.old) (M.words core.new) }
+    requires place { IsAtPlace i.now y regs.old }
+    ensures does { DoesRow fixed_row i.now y result regs.old regs.new (M.words core.old) (M.words core.new) }
     ensures goes { Goes result }
     ensures keeps { M.Keeps core.old core.new }
-    ensures ic { regs.new.ic < 2 ^ 15 }
 {
     match i.op {
         Op::Xca => {

@@ -1,11 +1,11 @@
 //! Index registers, transfers and stops: what each instruction does.
 ghost use Rattle.std.specs.Prelude.{◌≡◌, ◌<◌, ◌^◌, true};
 ghost use Rattle.opcode_table.specs.Table.{kind_of};
-ghost use Rattle.opcode_table.specs.Words.{HasFields};
 ghost use Rattle.machine_model.specs.Index.{index_row};
-ghost use Rattle.machine_model.specs.Results.{ended, Goes, Keeps};
+ghost use Rattle.machine_model.specs.Results.{Goes};
 ghost use Rattle.machine_model.specs.Step.{complement, acc_address, acc_decrement, is_greater};
 ghost use Rattle.operations.specs.IndexFamilies.{is_index_load, is_index_store, is_transfer, is_count, is_stop};
+ghost use Rattle.operations.specs.Does.{IsAtPlace, DoesRow};
 
 use arith36::{Side, compare};
 use cpu_regs::{MemoryPort, OpEnd, Regs};
@@ -16,13 +16,9 @@ use word36::Acc;
 #[inline(always)]
 pub fn apply<M: MemoryPort>(regs: &mut Regs, core: &mut M, i: &Instr, y: u16) -> OpEnd
     requires kind { kind_of i.now.op ≡ Kind.Index }
-    requires fields { HasFields i.now }
-    requires y { y < 2 ^ 15 }
-    requires ic { regs.old.ic < 2 ^ 15 }
-    ensures row { ended result regs.new (M.words core.new) ≡ index_row i.now.op i.now regs.old (M.words core.old) y }
-    ensures outside { Keeps result regs.old regs.new (M.words core.old) (M.words core.new) }
+    requires place { IsAtPlace i.now y regs.old }
+    ensures does { DoesRow index_row i.now y result regs.old regs.new (M.words core.old) (M.words core.new) }
     ensures keeps { M.Keeps core.old core.new }
-    ensures ic { regs.new.ic < 2 ^ 15 }
 {
     match i.op {
         Op::Lxa
@@ -58,14 +54,10 @@ pub fn apply<M: MemoryPort>(regs: &mut Regs, core: &mut M, i: &Instr, y: u16) ->
 #[inline(always)]
 pub fn load_index<M: MemoryPort>(regs: &mut Regs, core: &mut M, i: &Instr, y: u16) -> OpEnd
     requires family { is_index_load i.now.op ≡ true }
-    requires fields { HasFields i.now }
-    requires y { y < 2 ^ 15 }
-    requires ic { regs.old.ic < 2 ^ 15 }
-    ensures row { ended result regs.new (M.words core.new) ≡ index_row i.now.op i.now regs.old (M.words core.old) y }
-    ensures outside { Keeps result regs.old regs.new (M.words core.old) (M.words core.new) }
+    requires place { IsAtPlace i.now y regs.old }
+    ensures does { DoesRow index_row i.now y result regs.old regs.new (M.words core.old) (M.words core.new) }
     ensures goes { Goes result }
     ensures keeps { M.Keeps core.old core.new }
-    ensures ic { regs.new.ic < 2 ^ 15 }
 {
     match i.op {
         Op::Lxa => {
@@ -138,14 +130,10 @@ pub fn load_index<M: MemoryPort>(regs: &mut Regs, core: &mut M, i: &Instr, y: u1
 #[inline(always)]
 pub fn store_index<M: MemoryPort>(regs: &mut Regs, core: &mut M, i: &Instr, y: u16) -> OpEnd
     requires family { is_index_store i.now.op ≡ true }
-    requires fields { HasFields i.now }
-    requires y { y < 2 ^ 15 }
-    requires ic { regs.old.ic < 2 ^ 15 }
-    ensures row { ended result regs.new (M.words core.new) ≡ index_row i.now.op i.now regs.old (M.words core.old) y }
-    ensures outside { Keeps result regs.old regs.new (M.words core.old) (M.words core.new) }
+    requires place { IsAtPlace i.now y regs.old }
+    ensures does { DoesRow index_row i.now y result regs.old regs.new (M.words core.old) (M.words core.new) }
     ensures goes { Goes result }
     ensures keeps { M.Keeps core.old core.new }
-    ensures ic { regs.new.ic < 2 ^ 15 }
 {
     match i.op {
         Op::Sxa => {
@@ -212,14 +200,10 @@ pub fn store_index<M: MemoryPort>(regs: &mut Regs, core: &mut M, i: &Instr, y: u
 #[inline(always)]
 pub fn transfer<M: MemoryPort>(regs: &mut Regs, core: &mut M, i: &Instr, y: u16) -> OpEnd
     requires family { is_transfer i.now.op ≡ true }
-    requires fields { HasFields i.now }
-    requires y { y < 2 ^ 15 }
-    requires ic { regs.old.ic < 2 ^ 15 }
-    ensures row { ended result regs.new (M.words core.new) ≡ index_row i.now.op i.now regs.old (M.words core.old) y }
-    ensures outside { Keeps result regs.old regs.new (M.words core.old) (M.words core.new) }
+    requires place { IsAtPlace i.now y regs.old }
+    ensures does { DoesRow index_row i.now y result regs.old regs.new (M.words core.old) (M.words core.new) }
     ensures goes { Goes result }
     ensures keeps { M.Keeps core.old core.new }
-    ensures ic { regs.new.ic < 2 ^ 15 }
 {
     match i.op {
         Op::Tra => {
@@ -275,14 +259,10 @@ pub fn transfer<M: MemoryPort>(regs: &mut Regs, core: &mut M, i: &Instr, y: u16)
 #[inline(always)]
 pub fn count<M: MemoryPort>(regs: &mut Regs, core: &mut M, i: &Instr, y: u16) -> OpEnd
     requires family { is_count i.now.op ≡ true }
-    requires fields { HasFields i.now }
-    requires y { y < 2 ^ 15 }
-    requires ic { regs.old.ic < 2 ^ 15 }
-    ensures row { ended result regs.new (M.words core.new) ≡ index_row i.now.op i.now regs.old (M.words core.old) y }
-    ensures outside { Keeps result regs.old regs.new (M.words core.old) (M.words core.new) }
+    requires place { IsAtPlace i.now y regs.old }
+    ensures does { DoesRow index_row i.now y result regs.old regs.new (M.words core.old) (M.words core.new) }
     ensures goes { Goes result }
     ensures keeps { M.Keeps core.old core.new }
-    ensures ic { regs.new.ic < 2 ^ 15 }
 {
     match i.op {
         Op::Txi => {
@@ -326,14 +306,10 @@ pub fn count<M: MemoryPort>(regs: &mut Regs, core: &mut M, i: &Instr, y: u16) ->
 #[inline(always)]
 pub fn pass<M: MemoryPort>(regs: &mut Regs, core: &mut M, i: &Instr, y: u16) -> OpEnd
     requires family { i.now.op ≡ Op.Nop }
-    requires fields { HasFields i.now }
-    requires y { y < 2 ^ 15 }
-    requires ic { regs.old.ic < 2 ^ 15 }
-    ensures row { ended result regs.new (M.words core.new) ≡ index_row i.now.op i.now regs.old (M.words core.old) y }
-    ensures outside { Keeps result regs.old regs.new (M.words core.old) (M.words core.new) }
+    requires place { IsAtPlace i.now y regs.old }
+    ensures does { DoesRow index_row i.now y result regs.old regs.new (M.words core.old) (M.words core.new) }
     ensures goes { Goes result }
     ensures keeps { M.Keeps core.old core.new }
-    ensures ic { regs.new.ic < 2 ^ 15 }
 {
     regs.skip(1);
     OpEnd::Went
@@ -343,13 +319,9 @@ pub fn pass<M: MemoryPort>(regs: &mut Regs, core: &mut M, i: &Instr, y: u16) -> 
 #[inline(always)]
 fn stop<M: MemoryPort>(regs: &mut Regs, core: &mut M, i: &Instr, y: u16) -> OpEnd
     requires family { is_stop i.now.op ≡ true }
-    requires fields { HasFields i.now }
-    requires y { y < 2 ^ 15 }
-    requires ic { regs.old.ic < 2 ^ 15 }
-    ensures row { ended result regs.new (M.words core.new) ≡ index_row i.now.op i.now regs.old (M.words core.old) y }
-    ensures outside { Keeps result regs.old regs.new (M.words core.old) (M.words core.new) }
+    requires place { IsAtPlace i.now y regs.old }
+    ensures does { DoesRow index_row i.now y result regs.old regs.new (M.words core.old) (M.words core.new) }
     ensures keeps { M.Keeps core.old core.new }
-    ensures ic { regs.new.ic < 2 ^ 15 }
 {
     match i.op {
         Op::Htr => {

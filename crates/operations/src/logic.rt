@@ -3,11 +3,14 @@ ghost use Rattle.std.specs.Prelude.{◌≡◌, ◌<◌, ◌*◌, ◌^◌, bit_an
 ghost use Rattle.opcode_table.specs.Table.{kind_of};
 ghost use Rattle.opcode_table.specs.Words.{HasFields};
 ghost use Rattle.machine_model.specs.Logic.{logic_row};
-ghost use Rattle.machine_model.specs.Results.{ended, Goes, Keeps};
+ghost use Rattle.machine_model.specs.Results.{Goes};
 ghost use Rattle.arith36.specs.Shift.{acc_left, long_left, long_right, logical_left, logical_right};
 ghost use Rattle.machine_model.specs.Logic.{count_of};
-ghost use Rattle.machine_model.specs.Step.{past, with_sum, with_shifted, with_logic, without, has_ones, has_zeros, half_of};
-ghost use Rattle.operations.specs.LogicFamilies.{is_load_or_store, is_combination, is_shift, is_of_accumulator, is_of_word, is_of_half};
+ghost use Rattle.machine_model.specs.Step.{past, with_sum, with_shifted, with_logic};
+ghost use Rattle.machine_model.specs.Step.{without, has_ones, has_zeros, half_of};
+ghost use Rattle.operations.specs.LogicFamilies.{is_load_or_store, is_combination, is_shift};
+ghost use Rattle.operations.specs.LogicFamilies.{is_of_accumulator, is_of_word, is_of_half};
+ghost use Rattle.operations.specs.Does.{IsAtPlace, DoesRow};
 
 use arith36::shift::{als, ars, lgl, lgr, lls, lrs, rql};
 use arith36::{Side, acl, compare_logical};
@@ -19,13 +22,9 @@ use word36::{Acc, Word};
 #[inline(always)]
 pub fn apply<M: MemoryPort>(regs: &mut Regs, core: &mut M, i: &Instr, y: u16) -> OpEnd
     requires kind { kind_of i.now.op ≡ Kind.Logic }
-    requires fields { HasFields i.now }
-    requires y { y < 2 ^ 15 }
-    requires ic { regs.old.ic < 2 ^ 15 }
-    ensures row { ended result regs.new (M.words core.new) ≡ logic_row i.now.op i.now regs.old (M.words core.old) y }
-    ensures outside { Keeps result regs.old regs.new (M.words core.old) (M.words core.new) }
+    requires place { IsAtPlace i.now y regs.old }
+    ensures does { DoesRow logic_row i.now y result regs.old regs.new (M.words core.old) (M.words core.new) }
     ensures keeps { M.Keeps core.old core.new }
-    ensures ic { regs.new.ic < 2 ^ 15 }
 {
     match i.op {
         Op::Cal | Op::Ldi | Op::Slw | Op::Sti => load_or_store(regs, core, i, y),
@@ -49,14 +48,10 @@ pub fn apply<M: MemoryPort>(regs: &mut Regs, core: &mut M, i: &Instr, y: u16) ->
 #[inline(always)]
 pub fn load_or_store<M: MemoryPort>(regs: &mut Regs, core: &mut M, i: &Instr, y: u16) -> OpEnd
     requires family { is_load_or_store i.now.op ≡ true }
-    requires fields { HasFields i.now }
-    requires y { y < 2 ^ 15 }
-    requires ic { regs.old.ic < 2 ^ 15 }
-    ensures row { ended result regs.new (M.words core.new) ≡ logic_row i.now.op i.now regs.old (M.words core.old) y }
-    ensures outside { Keeps result regs.old regs.new (M.words core.old) (M.words core.new) }
+    requires place { IsAtPlace i.now y regs.old }
+    ensures does { DoesRow logic_row i.now y result regs.old regs.new (M.words core.old) (M.words core.new) }
     ensures goes { Goes result }
     ensures keeps { M.Keeps core.old core.new }
-    ensures ic { regs.new.ic < 2 ^ 15 }
 {
     match i.op {
         Op::Cal => {
@@ -97,14 +92,10 @@ pub fn load_or_store<M: MemoryPort>(regs: &mut Regs, core: &mut M, i: &Instr, y:
 #[inline(always)]
 pub fn combine<M: MemoryPort>(regs: &mut Regs, core: &mut M, i: &Instr, y: u16) -> OpEnd
     requires family { is_combination i.now.op ≡ true }
-    requires fields { HasFields i.now }
-    requires y { y < 2 ^ 15 }
-    requires ic { regs.old.ic < 2 ^ 15 }
-    ensures row { ended result regs.new (M.words core.new) ≡ logic_row i.now.op i.now regs.old (M.words core.old) y }
-    ensures outside { Keeps result regs.old regs.new (M.words core.old) (M.words core.new) }
+    requires place { IsAtPlace i.now y regs.old }
+    ensures does { DoesRow logic_row i.now y result regs.old regs.new (M.words core.old) (M.words core.new) }
     ensures goes { Goes result }
     ensures keeps { M.Keeps core.old core.new }
-    ensures ic { regs.new.ic < 2 ^ 15 }
 {
     match i.op {
         Op::Acl => {
@@ -172,14 +163,10 @@ pub fn combine<M: MemoryPort>(regs: &mut Regs, core: &mut M, i: &Instr, y: u16) 
 #[inline(always)]
 pub fn shift<M: MemoryPort>(regs: &mut Regs, core: &mut M, i: &Instr, y: u16) -> OpEnd
     requires family { is_shift i.now.op ≡ true }
-    requires fields { HasFields i.now }
-    requires y { y < 2 ^ 15 }
-    requires ic { regs.old.ic < 2 ^ 15 }
-    ensures row { ended result regs.new (M.words core.new) ≡ logic_row i.now.op i.now regs.old (M.words core.old) y }
-    ensures outside { Keeps result regs.old regs.new (M.words core.old) (M.words core.new) }
+    requires place { IsAtPlace i.now y regs.old }
+    ensures does { DoesRow logic_row i.now y result regs.old regs.new (M.words core.old) (M.words core.new) }
     ensures goes { Goes result }
     ensures keeps { M.Keeps core.old core.new }
-    ensures ic { regs.new.ic < 2 ^ 15 }
 {
     match i.op {
         Op::Xcl => {
@@ -233,14 +220,10 @@ pub fn shift<M: MemoryPort>(regs: &mut Regs, core: &mut M, i: &Instr, y: u16) ->
 #[inline(always)]
 pub fn indicate<M: MemoryPort>(regs: &mut Regs, core: &mut M, i: &Instr, y: u16) -> OpEnd
     requires family { is_of_accumulator i.now.op ≡ true }
-    requires fields { HasFields i.now }
-    requires y { y < 2 ^ 15 }
-    requires ic { regs.old.ic < 2 ^ 15 }
-    ensures row { ended result regs.new (M.words core.new) ≡ logic_row i.now.op i.now regs.old (M.words core.old) y }
-    ensures outside { Keeps result regs.old regs.new (M.words core.old) (M.words core.new) }
+    requires place { IsAtPlace i.now y regs.old }
+    ensures does { DoesRow logic_row i.now y result regs.old regs.new (M.words core.old) (M.words core.new) }
     ensures goes { Goes result }
     ensures keeps { M.Keeps core.old core.new }
-    ensures ic { regs.new.ic < 2 ^ 15 }
 {
     match i.op {
         Op::Pai => {
@@ -285,14 +268,10 @@ pub fn indicate<M: MemoryPort>(regs: &mut Regs, core: &mut M, i: &Instr, y: u16)
 #[inline(always)]
 pub fn indicate_by_word<M: MemoryPort>(regs: &mut Regs, core: &mut M, i: &Instr, y: u16) -> OpEnd
     requires family { is_of_word i.now.op ≡ true }
-    requires fields { HasFields i.now }
-    requires y { y < 2 ^ 15 }
-    requires ic { regs.old.ic < 2 ^ 15 }
-    ensures row { ended result regs.new (M.words core.new) ≡ logic_row i.now.op i.now regs.old (M.words core.old) y }
-    ensures outside { Keeps result regs.old regs.new (M.words core.old) (M.words core.new) }
+    requires place { IsAtPlace i.now y regs.old }
+    ensures does { DoesRow logic_row i.now y result regs.old regs.new (M.words core.old) (M.words core.new) }
     ensures goes { Goes result }
     ensures keeps { M.Keeps core.old core.new }
-    ensures ic { regs.new.ic < 2 ^ 15 }
 {
     match i.op {
         Op::Osi => {
@@ -341,14 +320,10 @@ pub fn indicate_by_word<M: MemoryPort>(regs: &mut Regs, core: &mut M, i: &Instr,
 #[inline(always)]
 pub fn indicate_by_half<M: MemoryPort>(regs: &mut Regs, core: &mut M, i: &Instr, y: u16) -> OpEnd
     requires family { is_of_half i.now.op ≡ true }
-    requires fields { HasFields i.now }
-    requires y { y < 2 ^ 15 }
-    requires ic { regs.old.ic < 2 ^ 15 }
-    ensures row { ended result regs.new (M.words core.new) ≡ logic_row i.now.op i.now regs.old (M.words core.old) y }
-    ensures outside { Keeps result regs.old regs.new (M.words core.old) (M.words core.new) }
+    requires place { IsAtPlace i.now y regs.old }
+    ensures does { DoesRow logic_row i.now y result regs.old regs.new (M.words core.old) (M.words core.new) }
     ensures goes { Goes result }
     ensures keeps { M.Keeps core.old core.new }
-    ensures ic { regs.new.ic < 2 ^ 15 }
 {
     match i.op {
         Op::Sir => {

@@ -28,7 +28,7 @@ returns-clause-cut g c =
     talk_cut goes see look c.turns-ended.result c.args.count old new c.args.core _ _ _ _ c.new-server.ensures.state
     (subst (λ (n : ℕ). IfErr c.turns-ended.result (λ fault. TurnsAreCut goes see look n empty_desk fault old new)) c.from.ensures
     (c.turns-ended.ensures.cut empty_desk (first_desk goes see look old c.args.core _ c.new-server.ensures.state)))
-    c.turns-ended.ensures.tables.many c.finish-finished.ensures.link c.finish-finished.ensures.core (search rules)
+    c.turns-ended.ensures.tables.tables.many c.finish-finished.ensures.link c.finish-finished.ensures.core (search rules)
 
 pub returns-clause-sound : goal.returns-clause-sound
 returns-clause-sound g c =

@@ -6,9 +6,8 @@ use Rattle.console_server.proofs.server.Server.turns.Goals as goal
 pub turns-init : goal.turns-init
 turns-init g c = record {
   done = λ desk is. turns_none g.C.LiveCore.Goes g.met.C.LiveCore.goes_nowhere g.met.C.LiveCore.goes_on g.C.LiveCore.seen g.L.Link.seen desk _ is;
-  tables = c.requires.tables;
-  ready = c.requires.ready;
-  same = refl;
+  tables = record { tables = c.requires.server.tables; same = refl };
+  ready = c.requires.server.ready;
   listener = omega arith;
   drum = omega arith;
   disk = omega arith;
@@ -20,12 +19,14 @@ turns-preserved g c = record {
       let done = c.turns.invariant.done desk is in
       turns_more g.C.LiveCore.Goes g.met.C.LiveCore.goes_nowhere g.met.C.LiveCore.goes_on g.C.LiveCore.seen g.L.Link.seen c.turns.number desk _ _ _ done
       (c.in_ok-turn.ensures.done _ (desk_is g.C.LiveCore.Goes g.met.C.LiveCore.goes_nowhere g.met.C.LiveCore.goes_on g.C.LiveCore.seen g.L.Link.seen c.turns.number desk _ _ done));
-  tables = c.in_ok-turn.ensures.tables;
-  ready = c.in_ok-turn.ensures.ready;
-  same = c.in_ok-turn.ensures.same ∙ c.turns.invariant.same;
-  listener = omega (arith, c.turns.invariant.listener, c.in_ok-turn.ensures.listener);
-  drum = omega (arith, c.turns.invariant.drum, c.in_ok-turn.ensures.went.drum);
-  disk = omega (arith, c.turns.invariant.disk, c.in_ok-turn.ensures.went.disk);
+  tables = record {
+    tables = c.in_ok-turn.ensures.tables.tables;
+    same = c.in_ok-turn.ensures.tables.same ∙ c.turns.invariant.tables.same;
+  };
+  ready = c.in_ok-turn.ensures.went.ready;
+  listener = omega (arith, c.turns.invariant.listener, c.in_ok-turn.ensures.cause.listener);
+  drum = omega (arith, c.turns.invariant.drum, c.in_ok-turn.ensures.went.went.drum);
+  disk = omega (arith, c.turns.invariant.disk, c.in_ok-turn.ensures.went.went.disk);
 }
 
 pub returns-in_err-turn-clause-cut : goal.returns-in_err-turn-clause-cut

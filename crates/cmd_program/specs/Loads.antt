@@ -1,5 +1,5 @@
 -- proof: what an answer says of a file, and what a filled program says of it.
-use Rattle.std.specs.Prelude.{◌≡◌, ℕ, Bool, List, Ok, Err}
+use Rattle.std.specs.Prelude.{◌≡◌, ℕ, ◌<◌, ◌^◌, Bool, List, Ok, Err, OnOk, OnErr}
 use Rattle.std.specs.declared.result.Result.{Result}
 use Rattle.ctss_types.specs.declared.file.FileBody.{FileBody}
 use Rattle.cpu_regs.specs.declared.regs.Regs.{Regs}
@@ -32,3 +32,11 @@ pub record IsFilled (fill : Fill) (words : List ℕ) (before after : Regs) (old 
 abbrev pub FillsOver : Bool → List FileBody → Fill → (before after : Regs) → (old new : List ℕ) → Type 0
 FillsOver tells files fill before after old new =
     (fs : List FileBody) × ((known tells fs ≡ files) × IsFilled fill (words_got (got (fill_name fill) fs)) before after old new)
+
+-- a core and registers were filled so, and the counter is a place; or they are as before
+pub record Fills (tells : Bool) (files : List FileBody) (fill : Fill) {T E : Type 0} (result : Result T E)
+    (before after : Regs) (old new : List ℕ) : Type 0 where
+  pub filled : OnOk result (FillsOver tells files fill before after old new)
+  pub ic : OnOk result (after.ic < 2 ^ 15)
+  pub same_words : OnErr result (new ≡ old)
+  pub same_regs : OnErr result (after ≡ before)

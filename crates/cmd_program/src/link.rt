@@ -1,12 +1,13 @@
 //! The deck of modules that stand in files.
 ghost use Rattle.std.specs.Prelude.{◌≡◌, None, IsErrOf};
 ghost use Rattle.std.specs.Option.{option_copied};
-ghost use Rattle.faults.specs.Faults.{Rose};
 ghost use Rattle.file_model.specs.Files.{got};
 ghost use Rattle.link_model.specs.Files.{module_name, said_of, files_linked};
 ghost use Rattle.link_model.specs.Links.{link_of};
 ghost use Rattle.link_model.specs.Modules.{module_of_words};
-ghost use Rattle.cmd_program.specs.Links.{Links, LinksOver, fault_of, words_told, or_bad_module, words_kept, AreRead, ReadsNext, ReadsOver};
+ghost use Rattle.cmd_program.specs.Links.{Links, LinksOver, fault_of, words_told, or_bad_module, words_kept};
+ghost use Rattle.cmd_program.specs.Links.{AreRead, ReadsNext, ReadsOver};
+ghost use Rattle.cmd_program.specs.Ports.{OnlyReads};
 
 use bss_loader::{LinkFault, ModuleFault, link, read_module};
 use ctss_types::{FileName, NoMemory, Sequence, WordList, name_word};
@@ -57,11 +58,7 @@ fn read_words<F: FilePort>(name: Word, files: &mut F) -> Result<WordList, LinkFi
     requires usable { F.Usable files.old }
     ensures answer { LinksOver (F.tells files.old) (F.files files.old) result
         (λ fs. words_told (got (module_name name) fs)) }
-    ensures left { ¬ IsErrOf result LinkFilesFault.Disk → F.files files.new ≡ F.files files.old }
-    ensures telling { ¬ IsErrOf result LinkFilesFault.Disk → F.tells files.new ≡ F.tells files.old }
-    ensures usable { ¬ IsErrOf result LinkFilesFault.Disk → F.Usable files.new }
-    ensures keeps { F.Keeps files.old files.new }
-    ensures cause { IsErrOf result LinkFilesFault.Disk → Rose (F.faults files.old) (F.faults files.new) }
+    ensures reads { OnlyReads F.FilePort result LinkFilesFault.Disk files.old files.new }
 {
     match files.get(module_name(name)) {
         Ok(words) => Ok(words),
@@ -103,11 +100,7 @@ fn first_module<F: FilePort>(
     requires read { AreRead (F.tells files.old) (F.files files.old) kept.old }
     requires none { words_kept name kept.old ≡ None }
     ensures answer { ReadsNext (F.tells files.old) (F.files files.old) name kept.old kept.new result }
-    ensures left { ¬ IsErrOf result LinkFilesFault.Disk → F.files files.new ≡ F.files files.old }
-    ensures telling { ¬ IsErrOf result LinkFilesFault.Disk → F.tells files.new ≡ F.tells files.old }
-    ensures usable { ¬ IsErrOf result LinkFilesFault.Disk → F.Usable files.new }
-    ensures keeps { F.Keeps files.old files.new }
-    ensures cause { IsErrOf result LinkFilesFault.Disk → Rose (F.faults files.old) (F.faults files.new) }
+    ensures reads { OnlyReads F.FilePort result LinkFilesFault.Disk files.old files.new }
 {
     let words = read_words(name, files)?;
     let module = module_of(alloc, words.as_slice())?;
@@ -126,11 +119,7 @@ fn next_module<F: FilePort>(
     requires usable { F.Usable files.old }
     requires read { AreRead (F.tells files.old) (F.files files.old) kept.old }
     ensures answer { ReadsNext (F.tells files.old) (F.files files.old) name kept.old kept.new result }
-    ensures left { ¬ IsErrOf result LinkFilesFault.Disk → F.files files.new ≡ F.files files.old }
-    ensures telling { ¬ IsErrOf result LinkFilesFault.Disk → F.tells files.new ≡ F.tells files.old }
-    ensures usable { ¬ IsErrOf result LinkFilesFault.Disk → F.Usable files.new }
-    ensures keeps { F.Keeps files.old files.new }
-    ensures cause { IsErrOf result LinkFilesFault.Disk → Rose (F.faults files.old) (F.faults files.new) }
+    ensures reads { OnlyReads F.FilePort result LinkFilesFault.Disk files.old files.new }
 {
     match words_kept(kept.as_slice(), name) {
         Some(words) => module_of(alloc, words),
@@ -146,11 +135,7 @@ fn read_modules<F: FilePort>(
 ) -> Result<Sequence<Module>, LinkFilesFault>
     requires usable { F.Usable files.old }
     ensures answer { ReadsOver (F.tells files.old) (F.files files.old) result (files_linked names.now) }
-    ensures left { ¬ IsErrOf result LinkFilesFault.Disk → F.files files.new ≡ F.files files.old }
-    ensures telling { ¬ IsErrOf result LinkFilesFault.Disk → F.tells files.new ≡ F.tells files.old }
-    ensures usable { ¬ IsErrOf result LinkFilesFault.Disk → F.Usable files.new }
-    ensures keeps { F.Keeps files.old files.new }
-    ensures cause { IsErrOf result LinkFilesFault.Disk → Rose (F.faults files.old) (F.faults files.new) }
+    ensures reads { OnlyReads F.FilePort result LinkFilesFault.Disk files.old files.new }
 {
     let mut kept = Sequence::new(alloc);
     let mut modules = Sequence::new(alloc);
@@ -193,11 +178,7 @@ pub fn link_files<F: FilePort>(
 ) -> Result<WordList, LinkFilesFault>
     requires usable { F.Usable files.old }
     ensures answer { LinksOver (F.tells files.old) (F.files files.old) result (files_linked names.now) }
-    ensures left { ¬ IsErrOf result LinkFilesFault.Disk → F.files files.new ≡ F.files files.old }
-    ensures telling { ¬ IsErrOf result LinkFilesFault.Disk → F.tells files.new ≡ F.tells files.old }
-    ensures usable { ¬ IsErrOf result LinkFilesFault.Disk → F.Usable files.new }
-    ensures keeps { F.Keeps files.old files.new }
-    ensures cause { IsErrOf result LinkFilesFault.Disk → Rose (F.faults files.old) (F.faults files.new) }
+    ensures reads { OnlyReads F.FilePort result LinkFilesFault.Disk files.old files.new }
 {
     let modules = read_modules(alloc, names, files)?;
     deck_of_modules(alloc, modules.as_slice())

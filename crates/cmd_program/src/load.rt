@@ -1,11 +1,11 @@
 //! The two steps of a load: of a deck, or of a saved program.
-ghost use Rattle.std.specs.Prelude.{◌≡◌, ◌≤◌, ◌<◌, ◌*◌, ◌^◌, IfOk, OnOk, OnErr, IsErrOf};
-ghost use Rattle.faults.specs.Faults.{Rose};
+ghost use Rattle.std.specs.Prelude.{◌≡◌, ◌≤◌, ◌<◌, ◌*◌, ◌^◌, IfOk};
 ghost use Rattle.file_model.specs.Files.{got};
 ghost use Rattle.program_model.specs.Decks.{deck_of};
 ghost use Rattle.program_model.specs.Fills.{fill_name, StartsInCore};
 ghost use Rattle.program_model.specs.Saved.{saved_of};
-ghost use Rattle.cmd_program.specs.Loads.{PreparesOver, IsFilled, FillsOver};
+ghost use Rattle.cmd_program.specs.Loads.{PreparesOver, IsFilled, Fills};
+ghost use Rattle.cmd_program.specs.Ports.{OnlyReads};
 
 use crate::saved::{saved_in, saved_regs, store_saved};
 use crate::{deck_in, store_deck};
@@ -34,11 +34,7 @@ pub fn prepare<F: FilePort>(name: FileName, quota: u8, files: &mut F) -> Result<
     ensures blocks { IfOk result (λ d. d.blocks ≤ quota) }
     ensures start { IfOk result (λ d. d.start < 256 * d.blocks) }
     ensures most { IfOk result (λ d. d.blocks ≤ 128) }
-    ensures left { ¬ IsErrOf result PrepareFault.Disk → F.files files.new ≡ F.files files.old }
-    ensures telling { ¬ IsErrOf result PrepareFault.Disk → F.tells files.new ≡ F.tells files.old }
-    ensures usable { ¬ IsErrOf result PrepareFault.Disk → F.Usable files.new }
-    ensures keeps { F.Keeps files.old files.new }
-    ensures cause { IsErrOf result PrepareFault.Disk → Rose (F.faults files.old) (F.faults files.new) }
+    ensures reads { OnlyReads F.FilePort result PrepareFault.Disk files.old files.new }
 {
     match files.get(name) {
         Ok(words) => match deck_in(words.as_slice(), quota) {
@@ -61,11 +57,7 @@ pub fn prepare_saved<F: FilePort>(
     ensures answer { PreparesOver (F.tells files.old) (F.files files.old) result (λ fs. saved_of quota (got name fs)) }
     ensures blocks { IfOk result (λ b. b ≤ quota) }
     ensures most { IfOk result (λ b. b ≤ 128) }
-    ensures left { ¬ IsErrOf result PrepareFault.Disk → F.files files.new ≡ F.files files.old }
-    ensures telling { ¬ IsErrOf result PrepareFault.Disk → F.tells files.new ≡ F.tells files.old }
-    ensures usable { ¬ IsErrOf result PrepareFault.Disk → F.Usable files.new }
-    ensures keeps { F.Keeps files.old files.new }
-    ensures cause { IsErrOf result PrepareFault.Disk → Rose (F.faults files.old) (F.faults files.new) }
+    ensures reads { OnlyReads F.FilePort result PrepareFault.Disk files.old files.new }
 {
     match files.get(name) {
         Ok(words) => match saved_in(words.as_slice(), quota) {
@@ -116,17 +108,10 @@ pub fn fill<M: MemoryPort, F: FilePort>(
 ) -> Result<(), StepFault>
     requires start { StartsInCore fill.now }
     requires usable { F.Usable files.old }
-    ensures filled { OnOk result (FillsOver (F.tells files.old) (F.files files.old) fill.now
-        regs.old regs.new (M.words core.old) (M.words core.new)) }
-    ensures ic { OnOk result (regs.new.ic < 2 ^ 15) }
-    ensures same_words { OnErr result (M.words core.new ≡ M.words core.old) }
-    ensures same_regs { OnErr result (regs.new ≡ regs.old) }
+    ensures fills { Fills (F.tells files.old) (F.files files.old) fill.now result
+        regs.old regs.new (M.words core.old) (M.words core.new) }
     ensures core_keeps { M.Keeps core.old core.new }
-    ensures left { ¬ IsErrOf result StepFault.Disk → F.files files.new ≡ F.files files.old }
-    ensures telling { ¬ IsErrOf result StepFault.Disk → F.tells files.new ≡ F.tells files.old }
-    ensures usable { ¬ IsErrOf result StepFault.Disk → F.Usable files.new }
-    ensures keeps { F.Keeps files.old files.new }
-    ensures cause { IsErrOf result StepFault.Disk → Rose (F.faults files.old) (F.faults files.new) }
+    ensures reads { OnlyReads F.FilePort result StepFault.Disk files.old files.new }
 {
     match files.get(fill_name(fill)) {
         Ok(words) => store(fill, words.as_slice(), regs, core),

@@ -1,9 +1,8 @@
 //! The operations that leave the files as they are.
-ghost use Rattle.std.specs.Prelude.{◌≡◌, IfOk, IsErrOf};
-ghost use Rattle.faults.specs.Faults.{Rose};
+ghost use Rattle.std.specs.Prelude.{IfOk, IsErrOf};
 ghost use Rattle.file_map.specs.Answers.{IsNoRefusal};
 ghost use Rattle.file_model.specs.Commons.{ReplyFits};
-ghost use Rattle.common_file.specs.Applied.{IsApplied};
+ghost use Rattle.common_file.specs.Applied.{IsApplied, Applies};
 ghost use Rattle.ctss_types.specs.declared.file.CommonOp.{CommonOp};
 
 use ctss_types::{FileName, Reply};
@@ -35,15 +34,7 @@ pub(crate) fn read_words<F: FilePort>(
     files: &mut F,
 ) -> Result<Reply, PortFault>
     requires usable { F.Usable files.old }
-    ensures done { IfOk result (λ reply. IsApplied (F.tells files.old) (F.quota files.old)
-        (CommonOp.Read name place count) reply (F.files files.old) (F.files files.new)) }
-    ensures fits { IfOk result ReplyFits }
-    ensures memory { IsErrOf result PortFault.NoMemory → F.files files.new ≡ F.files files.old }
-    ensures fault { IsNoRefusal result }
-    ensures telling { ¬ IsErrOf result PortFault.Disk → F.tells files.new ≡ F.tells files.old }
-    ensures usable { ¬ IsErrOf result PortFault.Disk → F.Usable files.new }
-    ensures keeps { F.Keeps files.old files.new }
-    ensures cause { IsErrOf result PortFault.Disk → Rose (F.faults files.old) (F.faults files.new) }
+    ensures { Applies F.FilePort (CommonOp.Read name place count) result files.old files.new }
 {
     match files.read(name, place, count) {
         Ok(words) => Ok(Reply::Words(words)),
@@ -57,15 +48,7 @@ pub(crate) fn read_words<F: FilePort>(
 #[tactic(auto, using(crate::proofs::Replies::get_told, crate::proofs::Replies::get_refused))]
 pub(crate) fn get_words<F: FilePort>(name: FileName, files: &mut F) -> Result<Reply, PortFault>
     requires usable { F.Usable files.old }
-    ensures done { IfOk result (λ reply. IsApplied (F.tells files.old) (F.quota files.old)
-        (CommonOp.Get name) reply (F.files files.old) (F.files files.new)) }
-    ensures fits { IfOk result ReplyFits }
-    ensures memory { IsErrOf result PortFault.NoMemory → F.files files.new ≡ F.files files.old }
-    ensures fault { IsNoRefusal result }
-    ensures telling { ¬ IsErrOf result PortFault.Disk → F.tells files.new ≡ F.tells files.old }
-    ensures usable { ¬ IsErrOf result PortFault.Disk → F.Usable files.new }
-    ensures keeps { F.Keeps files.old files.new }
-    ensures cause { IsErrOf result PortFault.Disk → Rose (F.faults files.old) (F.faults files.new) }
+    ensures { Applies F.FilePort (CommonOp.Get name) result files.old files.new }
 {
     match files.get(name) {
         Ok(words) => Ok(Reply::Words(words)),

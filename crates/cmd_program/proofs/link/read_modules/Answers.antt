@@ -11,8 +11,8 @@ returns-in_err-module-clause-answer g c =
 
 pub loop-name-preserved : goal.loop-name-preserved
 loop-name-preserved g c =
-    let telling = c.in_ok-module.ensures.telling (λ e. cc) in
-    let left = c.in_ok-module.ensures.left (λ e. cc) in
+    let telling = c.in_ok-module.ensures.reads.telling (λ e. cc) in
+    let left = c.in_ok-module.ensures.reads.left (λ e. cc) in
     record {
       read =
           read_still (g.F.FilePort.tells c.loop-name.files) (g.F.FilePort.tells c.next_module.new.files) (g.F.FilePort.files c.loop-name.files)
@@ -23,6 +23,6 @@ loop-name-preserved g c =
           c.loop-name-test.true c.name-item.is c.in_ok-push.ensures.ok c.loop-name.invariant.behind c.in_ok-module.ensures.answer;
       left = left ∙ c.loop-name.invariant.left;
       telling = telling ∙ c.loop-name.invariant.telling;
-      usable = c.in_ok-module.ensures.usable (λ e. cc);
-      keeps = g.met.F.FilePort.goes_on _ _ _ c.loop-name.invariant.keeps c.in_ok-module.ensures.keeps;
+      usable = c.in_ok-module.ensures.reads.usable (λ e. cc);
+      keeps = g.met.F.FilePort.goes_on _ _ _ c.loop-name.invariant.keeps c.in_ok-module.ensures.reads.keeps;
     }

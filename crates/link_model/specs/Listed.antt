@@ -3,11 +3,12 @@ use Rattle.std.specs.Prelude.{◌≡◌, ℕ, zero, suc, ◌+◌, List, [], ◌�
 use Rattle.std.specs.List.{flat_map}
 use Rattle.fap_model.specs.declared.types.Operation.{Operation}
 use Rattle.fap_model.specs.declared.types.Operation.TheVariants.{Bss as bss}
-use Rattle.fap_model.specs.Decks.{cards_read, has_end, fault_entry}
+use Rattle.fap_model.specs.Places.{or_zero}
+use Rattle.fap_model.specs.Decks.{cards_read, has_end, words_by, fault_entry}
 use Rattle.fap_model.specs.Listed.{symbol_value, mentions_from, defined_on, used_on}
 use Rattle.link_model.specs.Modules.{ModulePlace}
 use Rattle.link_model.specs.Moves.{Moved, nothing_moved, module_operation, moved_size, moved_behind, moved_after}
-use Rattle.link_model.specs.ModuleCards.{Relocated, relocated_of, module_fault, module_faults, cell, cells_by, entries_of, module_start, module_of_cards}
+use Rattle.link_model.specs.ModuleCards.{Relocated, relocated_of, card_kind, module_fault, module_faults, cell, entries_of, module_start, module_of_cards}
 pub use Rattle.link_model.specs.declared.types.ModuleRow.{ModuleRow}
 pub use Rattle.link_model.specs.declared.types.ListedModule.{ListedModule}
 
@@ -16,10 +17,14 @@ abbrev pub places_reserved : Relocated → Moved → (fault : ℕ) → Option Op
 places_reserved r m zero (Some bss) card = moved_size r.externs m (Some bss) card
 places_reserved r m f o card = 0
 
--- the words of a card, with their kinds, of one that isn't at fault; what is reserved is no word
-abbrev pub words_placed : Relocated → Moved → (fault : ℕ) → Option Operation → List ℕ → List ModulePlace
-words_placed r m zero (Some bss) card = []
-words_placed r m zero o card = cells_by r m o card
+-- the kind of a card's words, if it has any
+abbrev pub kind_placed : Relocated → Moved → Option Operation → List ℕ → ℕ
+kind_placed r m None card = 0
+kind_placed r m (Some o) card = or_zero (card_kind o r m card)
+
+-- the words of a card, of one that isn't at fault; what is reserved is no word
+abbrev pub words_placed : Relocated → Moved → (fault : ℕ) → Option Operation → List ℕ → List ℕ
+words_placed r m zero o card = words_by r.whole m.known o card
 words_placed r m (suc f) o card = []
 
 abbrev pub module_row : Relocated → Moved → (before : List (List ℕ)) → List ℕ → ModuleRow
@@ -28,6 +33,7 @@ module_row r m before card =
       place = m.known.place;
       fault = module_fault r m before card;
       reserved = places_reserved r m (module_fault r m before card) (module_operation card) card;
+      kind = kind_placed r m (module_operation card) card;
       words = words_placed r m (module_fault r m before card) (module_operation card) card;
     }
 
@@ -60,7 +66,7 @@ module_faults_shown n (row ∷ rows) = fault_entry n row.fault ++ module_faults_
 
 -- the places of a row: what its card reserves, or its words
 abbrev pub row_places : ModuleRow → List ModulePlace
-row_places row = replicate row.reserved (cell 0 0) ++ row.words
+row_places row = replicate row.reserved (cell 0 0) ++ map (cell row.kind) row.words
 
 -- the faults that the rows show, with the missing END's, are those of the cards
 abbrev pub ModuleShowsFaults : Type 0

@@ -9,16 +9,23 @@
 mod types;
 
 ghost use Rattle.link_model.specs.Listed.{ModuleShowsFaults, ModuleShowsPlaces};
-ghost use Rattle.link_model.specs.Rows.{RowOfModules, RowOfLinks, RowOfModuleFaults, RowOfFiles};
+ghost use Rattle.link_model.specs.Rows.{RowOfModules, RowOfListedModule, RowOfLinks, RowOfModuleFaults, RowOfFiles};
 
 pub use types::{
-    EntryList, LinkRefusal, ListedModule, Module, ModuleEntry, ModulePlace, ModuleRow, NameList, PlaceList,
+    EntryList, LinkRefusal, ListedModule, Module, ModuleEntry, ModulePlace, ModuleRow, NameList,
+    PlaceList,
 };
 
 /// Two lists of cards as modules, and the words of their files.
 #[tactic(auto, using(crate::proofs::RowsComputed::row_of_modules))]
 pub fn row_of_modules()
     ensures { RowOfModules }
+{}
+
+/// What a listing shows of a module.
+#[tactic(auto, using(crate::proofs::RowsComputed::row_of_listed_module))]
+pub fn row_of_listed_module()
+    ensures { RowOfListedModule }
 {}
 
 /// The deck of two modules, and why others make none.

@@ -60,7 +60,9 @@ pub struct ModuleRow {
     pub fault: u8,
     /// How many places it reserves.
     pub reserved: u64,
-    pub words: PlaceList,
+    /// The kind of its words. It may pass the kinds of places where cards have more EXTERNs than a module takes.
+    pub kind: u64,
+    pub words: WordList,
 }
 
 /// What all cards of a module come to, as a listing shows it.

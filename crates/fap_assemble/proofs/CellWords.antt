@@ -135,12 +135,17 @@ words_named r m oct card = said_words r.whole m.known oct card
 words_named r m bci card = said_words r.whole m.known bci card
 words_named r m end card = refl
 
+pub words_read : (r : Relocated) (m : Moved) (a : Whole) (o : Operation) (card : List ℕ) (flag : Bool) (s : Option Said) → a.end_place ≡ r.whole.end_place → a.literals ≡ r.whole.literals
+    → flag ≡ flag_of card → s ≡ option_map (said (names_of o r m) m.known.place) (says.field_for o card)
+    → words_said a o flag s ≡ decks.words_by r.whole m.known (Some o) card
+words_read r m a o card flag s p l f h =
+    said_same a r.whole o flag s p l ∙ ap (λ (b : Bool). words_said r.whole o b s) f ∙ ap (words_said r.whole o (flag_of card)) h ∙ words_named r m o card
+
 pub cells_read : (r : Relocated) (m : Moved) (a : Whole) (o : Operation) (card : List ℕ) (flag : Bool) (s : Option Said) (kind : ℕ) → a.end_place ≡ r.whole.end_place → a.literals ≡ r.whole.literals
     → flag ≡ flag_of card → s ≡ option_map (said (names_of o r m) m.known.place) (says.field_for o card) → kind ≡ or_zero (card_kind o r m card)
     → map (cell kind) (words_said a o flag s) ≡ word_cells r m o card
 cells_read r m a o card flag s kind p l f h k =
-    rw k (ap (λ (ws : List ℕ). map (cell (or_zero (card_kind o r m card))) ws)
-    (said_same a r.whole o flag s p l ∙ ap (λ (b : Bool). words_said r.whole o b s) f ∙ ap (words_said r.whole o (flag_of card)) h ∙ words_named r m o card))
+    rw k (ap (λ (ws : List ℕ). map (cell (or_zero (card_kind o r m card))) ws) (words_read r m a o card flag s p l f h))
 
 pub cells_plain : (r : Relocated) (m : Moved) (o : Operation) (card : List ℕ) → o ≢ bss → word_cells r m o card ≡ cells_by r m (Some o) card
 cells_plain r m (machine o) card h = refl

@@ -21,3 +21,4 @@ pub mod CellWords
 pub mod CellPasses
 pub mod KindsFew
 pub mod ModuleEnds
+pub mod ModuleListings

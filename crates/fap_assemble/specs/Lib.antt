@@ -21,3 +21,4 @@ pub mod Judging
 pub mod ModuleFollows
 pub mod CellWords
 pub mod ModuleEnds
+pub mod ModuleListings

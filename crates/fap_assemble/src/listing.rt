@@ -45,7 +45,7 @@ fn given_words(alloc: Global, said: Option<Said>) -> WordList
 }
 
 /// The words of a card with an operation.
-fn words_said(
+pub(crate) fn words_said(
     alloc: Global,
     whole: &Whole,
     op: Operation,

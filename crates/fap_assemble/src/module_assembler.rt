@@ -48,7 +48,12 @@ fn faults_of(
 }
 
 /// The start that the END card says.
-fn start(alloc: Global, cards: &[Card], end: usize, r: &Relocated) -> Result<u16, NoMemory>
+pub(crate) fn start(
+    alloc: Global,
+    cards: &[Card],
+    end: usize,
+    r: &Relocated,
+) -> Result<u16, NoMemory>
     requires end { end ≡ end_index cards.now }
     requires within { end < length cards.now }
     requires told { relocated_in r.now ≡ relocated_of (texts cards.now) }
@@ -91,7 +96,7 @@ fn entries_at(alloc: Global, names: &[Word], r: &Relocated) -> Result<EntryList,
 }
 
 /// Each ENTRY's symbol with its value.
-fn entries_of(alloc: Global, read: &[Card], r: &Relocated) -> Result<EntryList, NoMemory>
+pub(crate) fn entries_of(alloc: Global, read: &[Card], r: &Relocated) -> Result<EntryList, NoMemory>
     requires { length read.now < 2 ^ 32 }
     ensures { IfOk result (λ es. es ≡ entries_of (relocated_in r.now) (texts read.now)) }
 {

@@ -259,7 +259,7 @@ fn plain_fault(
 }
 
 /// The least fault of a module's card, 0 where there is none.
-fn module_fault(
+pub(crate) fn module_fault(
     alloc: Global,
     r: &Relocated,
     past: &Past,

@@ -1,4 +1,5 @@
 pub mod Words
 pub mod Faults
 pub mod Listing
+pub mod ModuleListing
 pub mod Rows

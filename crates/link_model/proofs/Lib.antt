@@ -1,1 +1,2 @@
 pub mod RowsComputed
+pub mod Listings

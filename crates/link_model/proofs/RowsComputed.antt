@@ -3,7 +3,8 @@ use Rattle.std.proofs.Common.{refl}
 use Rattle.ctss_types.specs.Words.{name_of}
 use Rattle.link_model.specs.Links.{link_of}
 use Rattle.link_model.specs.ModuleCards.{module_made}
-use Rattle.link_model.specs.Rows.{RowOfModules, RowOfLinks, RowOfModuleFaults, RowOfFiles}
+use Rattle.link_model.specs.Listed.{listed_module}
+use Rattle.link_model.specs.Rows.{RowOfModules, RowOfListedModule, RowOfLinks, RowOfModuleFaults, RowOfFiles}
 
 pub row_of_modules : RowOfModules
 unfolding module_made name_of
@@ -20,6 +21,10 @@ row_of_modules =
       no_rel = refl;
       starred = refl;
     }
+
+pub row_of_listed_module : RowOfListedModule
+unfolding listed_module name_of
+row_of_listed_module = record { printer_is = refl }
 
 pub row_of_links : RowOfLinks
 unfolding link_of name_of

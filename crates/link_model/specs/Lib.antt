@@ -5,4 +5,5 @@ pub mod Weights
 pub mod Moves
 pub mod ModuleCards
 pub mod Laid
+pub mod Listed
 pub mod Rows

@@ -1,4 +1,4 @@
--- claim: worked rows: two files of cards, their modules and the deck that they make.
+-- claim: worked rows: two files of cards, their modules, the deck that they make, and what a listing shows of one.
 use Rattle.std.specs.Prelude.{◌≡◌, ℕ, true, false, List, [], ◌∷◌, Some, None, Ok, Err, codes}
 use Rattle.ctss_types.specs.Words.{name_of}
 use Rattle.ctss_types.specs.declared.file.FileBody.{FileBody}
@@ -7,6 +7,7 @@ use Rattle.link_model.specs.Files.{module_name, files_linked}
 use Rattle.link_model.specs.Modules.{Module, ModuleEntry, ModulePlace, module_words, module_of_words}
 use Rattle.link_model.specs.Links.{link_of, deck, doubly, undefined}
 use Rattle.link_model.specs.ModuleCards.{is_relocatable, relocatable, faulty, module_made}
+use Rattle.link_model.specs.Listed.{ModuleRow, listed_module}
 
 abbrev pub greeting : List (List ℕ)
 greeting =
@@ -49,6 +50,25 @@ pub record RowOfModules : Type 0 where
   pub high_start : module_of_words (0o000400000000 ∷ 0 ∷ []) ≡ None
   pub no_rel : is_relocatable (codes "*" ∷ codes "       END" ∷ []) ≡ false
   pub starred : is_relocatable (codes "*" ∷ codes "       REL*" ∷ []) ≡ true
+
+abbrev pub row : (place kind : ℕ) → List ℕ → ModuleRow
+row place kind words = record { place = place; fault = 0; reserved = 0; kind = kind; words = words }
+
+pub record RowOfListedModule : Type 0 where
+  pub printer_is :
+      listed_module printer
+      ≡ record {
+        rows = row 0 0 [] ∷ row 0 0 [] ∷ row 0 1 (0o010100000001 ∷ []) ∷ row 1 0 [] ∷ [];
+        symbols = record { name = name_of (codes "PRINT"); value = 0 } ∷ [];
+        definitions = record { name = name_of (codes "PRINT"); card = 3 } ∷ [];
+        uses = [];
+        entries = entry (name_of (codes "PRINT")) 0 ∷ [];
+        externs = [];
+        literals = 0o665126436760 ∷ [];
+        end_place = 1;
+        start = 0;
+        has_end = true;
+      }
 
 pub record RowOfLinks : Type 0 where
   pub both :

@@ -1,4 +1,5 @@
 use ctss_types::{Sequence, WordList};
+use fap_model::{Mention, SymbolValue};
 use word36::Word;
 
 /// Why the modules of files aren't linked.
@@ -48,4 +49,38 @@ pub struct Module {
     pub entries: EntryList,
     pub externs: NameList,
     pub places: PlaceList,
+}
+
+/// What a card of a module comes to, as a listing shows it.
+#[derive(Debug, Drop)]
+pub struct ModuleRow {
+    /// The place before which the card stands.
+    pub place: u64,
+    /// The number of its fault, 0 where there is none.
+    pub fault: u8,
+    /// How many places it reserves.
+    pub reserved: u64,
+    /// The kind of its words. It may pass the kinds of places where cards have more EXTERNs than a module takes.
+    pub kind: u64,
+    pub words: WordList,
+}
+
+/// What all cards of a module come to, as a listing shows it.
+#[derive(Debug, Drop)]
+pub struct ListedModule {
+    /// What each card comes to, up to the first END.
+    pub rows: Sequence<ModuleRow>,
+    /// The symbols in order of definition.
+    pub symbols: Sequence<SymbolValue>,
+    /// The cards with a symbol in their columns.
+    pub definitions: Sequence<Mention>,
+    /// The cards with symbols in their field. One that has a symbol twice is there twice.
+    pub uses: Sequence<Mention>,
+    pub entries: EntryList,
+    pub externs: NameList,
+    pub literals: WordList,
+    /// The place behind the last card before END, at which the literals stand.
+    pub end_place: u64,
+    pub start: u16,
+    pub has_end: bool,
 }

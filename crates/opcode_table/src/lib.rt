@@ -8,5 +8,5 @@ mod words;
 
 pub use index::row_coded;
 pub use op::{Class, Instr, Kind, Op, Row};
-pub use rows::{class, kind, op_named};
+pub use rows::{class, kind, name, op_named};
 pub use words::{decode, decode_prefixed, encode, instr_coded};

@@ -127,7 +127,7 @@ pub(crate) fn row(op: Op) -> &'static Row
 }
 
 /// The name of an operation, without its blanks.
-fn text(op: Op) -> &'static str
+pub fn name(op: Op) -> &'static str
     ensures { result.now ≡ text_of op }
 {
     match str::from_utf8(&row(op).2[..3]) {
@@ -144,7 +144,7 @@ impl fmt::Display for Op {
     ghost output = { λ o. Some (text_of o) };
 
     fn fmt<W: fmt::Write>(&self, f: &mut fmt::Formatter<W>) -> fmt::Result {
-        f.write_str(text(*self))
+        f.write_str(name(*self))
     }
 }
 

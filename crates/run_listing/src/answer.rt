@@ -3,7 +3,7 @@ ghost use Rattle.std.specs.Prelude.{◌≡◌, ◌≤◌, ℕ, List, IfOk, lengt
 ghost use Rattle.std.specs.Str.Lines.{lines};
 ghost use Rattle.ctss_modes.specs.Devices.{output_seen};
 ghost use Rattle.fap_assemble.specs.Steps.{texts};
-ghost use Rattle.fap_model.specs.Listed.{listed as listed_of};
+ghost use Rattle.fap_listing.specs.Cards.{made_of};
 ghost use Rattle.run_listing.specs.Answer.{is_asked, status_by, status_of, text_of, IsAnswer};
 ghost use Rattle.script_show.specs.Input.{ShowsBytes};
 ghost use Rattle.script_show.specs.Seen.{streams};
@@ -11,28 +11,28 @@ ghost use Rattle.script_show.specs.Seen.{streams};
 use ctss_io::{Sink, Source};
 use ctss_modes::{Outcome, refuse_words};
 use ctss_types::NoMemory;
-use fap_listing::{ListedCards, fault_count, list_cards};
-use fap_model::Listed;
+use fap_listing::{ListedCards, Made, fault_count, list_cards};
 use fap_read::cards_of_text;
 use script_show::{ArgList, InputShow, ShowProgram, show_input};
 use std::alloc::Global;
 use text_writer::{TextFault, write_text};
 
 /// The status of cards that come to this.
-fn status(listed: &Listed) -> u8
-    ensures { result ≡ status_by listed.now }
+fn status(made: &Made) -> u8
+    ensures { result ≡ status_by made.now }
 {
-    if fault_count(listed) == 0 { 0 } else { 9 }
+    if fault_count(made) == 0 { 0 } else { 9 }
 }
 
 /// Writes a listing.
+#[tactic(auto, using(fap_listing::proofs::Cards::made_listing))]
 fn write<K: Sink>(alloc: Global, listing: &ListedCards, output: &mut K) -> Outcome
     ensures { (bytes : List ℕ) → texts listing.now.cards ≡ lines bytes
-        → listing.now.listed ≡ listed_of (lines bytes)
+        → listing.now.made ≡ made_of (lines bytes)
         → ShowsBytes text_of status_of bytes (output_seen K.Sink output.old) (output_seen K.Sink output.new) result }
 {
     match write_text(alloc, output, listing) {
-        Ok(()) => Outcome::bare(alloc, status(&listing.listed), 0, 0),
+        Ok(()) => Outcome::bare(alloc, status(&listing.made), 0, 0),
         Err(TextFault::Write) => Outcome::bare(alloc, 4, 0, 0),
         Err(TextFault::NoMemory) => Outcome::bare(alloc, 8, 0, 0),
     }
@@ -41,8 +41,8 @@ fn write<K: Sink>(alloc: Global, listing: &ListedCards, output: &mut K) -> Outco
 /// The cards of a text, a line each, and what they come to.
 fn listed(alloc: Global, bytes: &[u8]) -> Result<ListedCards, NoMemory>
     requires { length bytes.now ≤ 4194304 }
-    ensures cards { IfOk result (λ made. texts made.cards ≡ lines bytes.now) }
-    ensures listed { IfOk result (λ made. made.listed ≡ listed_of (lines bytes.now)) }
+    ensures cards { IfOk result (λ l. texts l.cards ≡ lines bytes.now) }
+    ensures made { IfOk result (λ l. l.made ≡ made_of (lines bytes.now)) }
 {
     let cards = cards_of_text(alloc, bytes)?;
     list_cards(alloc, cards)

@@ -108,6 +108,6 @@ listing_text l cards =
     ++ (symbols_text l.symbols l.definitions l.uses
     ++ (line [] ++ figures_line l)))))
 
--- the listing of cards
-abbrev pub listing_of : List (List ℕ) → List ℕ
-listing_of cards = listing_text (listed cards) cards
+-- the listing of a deck's cards
+abbrev pub deck_listing_of : List (List ℕ) → List ℕ
+deck_listing_of cards = listing_text (listed cards) cards

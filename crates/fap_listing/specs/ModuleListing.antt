@@ -1,12 +1,11 @@
 -- claim: the listing of a module: its cards with their places, words, kinds and faults, and then its literals, symbols, entries, externs and figures.
-use Rattle.std.specs.Prelude.{ℕ, ◌+◌, not, nat_eq, if◌then◌else◌, List, [], ◌∷◌, ◌++◌, length, map, drop, count_by, codes}
+use Rattle.std.specs.Prelude.{ℕ, ◌+◌, not, nat_eq, if◌then◌else◌, List, [], ◌∷◌, ◌++◌, length, drop, count_by, codes}
 use Rattle.std.specs.List.{flat_map}
 use Rattle.std.specs.Fmt.{decimal}
 use Rattle.word36.specs.Octal.{octal_digits}
 use Rattle.bcd48.specs.Words.{characters_of}
 use Rattle.text_model.specs.Parts.{line, column}
 use Rattle.link_model.specs.declared.types.ModuleEntry.{ModuleEntry}
-use Rattle.link_model.specs.declared.types.ModulePlace.{ModulePlace}
 use Rattle.link_model.specs.declared.types.ModuleRow.{ModuleRow}
 use Rattle.link_model.specs.declared.types.ListedModule.{ListedModule}
 use Rattle.link_model.specs.Moves.{module_operation}
@@ -19,19 +18,16 @@ use Rattle.fap_listing.specs.Listing.{shown_text, first_card, end_text, literals
 abbrev pub kind_mark : (kind : ℕ) → List ℕ
 kind_mark kind = if nat_eq kind 0 then codes " " else (if nat_eq kind 1 then codes "M" else codes "X")
 
-abbrev pub first_kind : List ModulePlace → List ℕ
-first_kind [] = codes " "
-first_kind (p ∷ ps) = kind_mark p.kind
-
--- the words without their kinds
-abbrev pub only_words : List ModulePlace → List ℕ
-only_words ps = map (λ (p : ModulePlace). p.word) ps
+-- that of the first word, in one place
+abbrev pub first_kind : (kind : ℕ) → List ℕ → List ℕ
+first_kind kind [] = codes " "
+first_kind kind (w ∷ ws) = kind_mark kind
 
 -- the card of this number, with its place, its first word and the kind of this word
 abbrev pub module_card_line : (n : ℕ) → ModuleRow → List ℕ → List ℕ
 module_card_line n row card =
     line (column 4 n ++ (blanks 2 ++ (place_text (module_operation card) row.place ++ (blanks 2
-    ++ (first_word (split_of (module_operation card)) (only_words row.words) ++ (first_kind row.words ++ (blanks 1 ++ shown_text card)))))))
+    ++ (first_word (split_of (module_operation card)) row.words ++ (first_kind row.kind row.words ++ (blanks 1 ++ shown_text card)))))))
 
 -- what is wrong by the number of a fault; the faults of a module have no columns
 abbrev pub module_wanted : (fault : ℕ) → List ℕ
@@ -50,7 +46,7 @@ module_fault_lines fault =
 abbrev pub module_row_text : (n : ℕ) → ModuleRow → List ℕ → List ℕ
 module_row_text n row card =
     module_card_line n row card
-    ++ (word_lines (split_of (module_operation card)) (next_place row.place) (drop 1 (only_words row.words))
+    ++ (word_lines (split_of (module_operation card)) (next_place row.place) (drop 1 row.words)
     ++ (module_fault_lines row.fault ++ looks card))
 
 -- of each card

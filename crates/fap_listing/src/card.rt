@@ -17,7 +17,7 @@ use text_writer::columns::add_column;
 use word36::Word;
 
 /// The operation of a card that isn't a comment.
-fn operation_in(text: &[u8]) -> Option<Operation>
+pub(crate) fn operation_in(text: &[u8]) -> Option<Operation>
     ensures { result ≡ operation_in text.now }
 {
     if is_comment(text) {
@@ -40,7 +40,7 @@ fn add_byte<K: Sink>(out: &mut TextWriter<'_, K>, byte: u8)
 
 /// Adds a card as it stands.
 #[tactic(auto, using(crate::proofs::Rows::shown_is))]
-fn add_text<K: Sink>(out: &mut TextWriter<'_, K>, text: &[u8])
+pub(crate) fn add_text<K: Sink>(out: &mut TextWriter<'_, K>, text: &[u8])
     ensures { Adds K.Sink (shown_text text.now) out.old out.new }
 {
     add_bytes(out, text);
@@ -71,7 +71,7 @@ fn add_card<K: Sink>(out: &mut TextWriter<'_, K>, number: u64, row: &CardRow, te
 }
 
 /// The words behind the first.
-fn later_words(words: &[Word]) -> &[Word]
+pub(crate) fn later_words(words: &[Word]) -> &[Word]
     ensures { result.now ≡ drop 1 words.now }
 {
     words.split_at(words.len().min(1)).1
@@ -90,7 +90,7 @@ fn add_row<K: Sink>(out: &mut TextWriter<'_, K>, number: u64, row: &CardRow, tex
 }
 
 /// The text of the first card, and none where there is no card.
-fn first_text(cards: &[Card]) -> &[u8]
+pub(crate) fn first_text(cards: &[Card]) -> &[u8]
     ensures { result.now ≡ first_card (texts cards.now) }
 {
     match cards.first() {
@@ -100,7 +100,7 @@ fn first_text(cards: &[Card]) -> &[u8]
 }
 
 /// The cards behind the first.
-fn later_cards(cards: &[Card]) -> &[Card]
+pub(crate) fn later_cards(cards: &[Card]) -> &[Card]
     ensures { texts result.now ≡ drop 1 (texts cards.now) }
 {
     cards.split_at(cards.len().min(1)).1

@@ -1,7 +1,6 @@
-//! The listing as a text.
-ghost use Rattle.std.specs.Prelude.{◌≡◌, ◌*◌, ◌-◌, ◌^◌, ◌<◌, ◌≤◌, IfOk, length};
+//! The listing of a deck's cards as a text.
+ghost use Rattle.std.specs.Prelude.{◌≡◌, ◌*◌, ◌-◌, ◌^◌, ◌<◌, ◌≤◌, length};
 ghost use Rattle.fap_assemble.specs.Steps.{texts};
-ghost use Rattle.fap_model.specs.Listed.{listed};
 ghost use Rattle.fap_listing.specs.Listing.{deck_figures, end_text, fault_count, figures_line, first_figures, listing_text, row_faults, row_words, word_count};
 ghost use Rattle.text_writer.specs.Writing.{Adds};
 
@@ -9,14 +8,11 @@ use crate::card::add_rows;
 use crate::symbol::{add_literals, add_symbols};
 use crate::word::add_gap;
 use ctss_io::Sink;
-use ctss_types::NoMemory;
-use fap_assemble::list;
 use fap_model::{CardRow, Listed};
-use fap_read::{Card, Cards};
-use std::alloc::Global;
+use fap_read::Card;
+use text_writer::TextWriter;
 use text_writer::cards::add_digits;
 use text_writer::columns::add_number;
-use text_writer::{Text, TextWriter};
 
 /// How many rows are at fault.
 fn row_faults(rows: &[CardRow]) -> usize
@@ -27,7 +23,7 @@ fn row_faults(rows: &[CardRow]) -> usize
 }
 
 /// How many faults there are, a missing END with them.
-pub fn fault_count(listed: &Listed) -> usize
+pub(crate) fn fault_count(listed: &Listed) -> usize
     ensures { result ≡ fault_count listed.now }
 {
     let rows = row_faults(listed.rows.as_slice());
@@ -94,7 +90,7 @@ fn add_figures<K: Sink>(out: &mut TextWriter<'_, K>, listed: &Listed)
 
 /// Adds that an END is missing, if it is.
 #[tactic(auto, using(text_writer::proofs::Added::adds_none))]
-fn add_end<K: Sink>(out: &mut TextWriter<'_, K>, has_end: bool, count: usize)
+pub(crate) fn add_end<K: Sink>(out: &mut TextWriter<'_, K>, has_end: bool, count: usize)
     requires { count < 2 ^ 63 }
     ensures { Adds K.Sink (end_text has_end count) out.old out.new }
 {
@@ -108,7 +104,7 @@ fn add_end<K: Sink>(out: &mut TextWriter<'_, K>, has_end: bool, count: usize)
 }
 
 /// Adds the listing of cards that come to this.
-fn add_listing<K: Sink>(out: &mut TextWriter<'_, K>, listed: &Listed, cards: &[Card])
+pub(crate) fn add_listing<K: Sink>(out: &mut TextWriter<'_, K>, listed: &Listed, cards: &[Card])
     ensures { Adds K.Sink (listing_text listed.now (texts cards.now)) out.old out.new }
 {
     out.line(b"CARD  PLACE  WORD             CARD AS IT STANDS");
@@ -123,32 +119,4 @@ fn add_listing<K: Sink>(out: &mut TextWriter<'_, K>, listed: &Listed, cards: &[C
     );
     out.end_line();
     add_figures(out, listed);
-}
-
-/// Cards and what they come to.
-#[derive(Drop)]
-pub struct ListedCards {
-    pub cards: Cards,
-    pub listed: Listed,
-}
-
-/// What cards come to.
-pub fn list_cards(alloc: Global, cards: Cards) -> Result<ListedCards, NoMemory>
-    requires { length cards < 2 ^ 32 - 1 }
-    ensures cards { IfOk result (λ made. made.cards ≡ cards) }
-    ensures listed { IfOk result (λ made. made.listed ≡ listed (texts cards)) }
-{
-    let listed = list(alloc, cards.as_slice())?;
-    Ok(ListedCards { cards, listed })
-}
-
-impl Text for ListedCards {
-    ghost use Rattle.fap_assemble.specs.Steps.{texts};
-    ghost use Rattle.fap_listing.specs.Listing.{listing_text};
-
-    ghost bytes = { λ l. listing_text l.listed (texts l.cards) };
-
-    fn add_to<K: Sink>(&self, out: &mut TextWriter<'_, K>) {
-        add_listing(out, &self.listed, self.cards.as_slice());
-    }
 }

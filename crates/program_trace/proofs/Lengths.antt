@@ -3,7 +3,7 @@ use Rattle.std.proofs.Common.{◌≡◌, ℕ, zero, suc, ◌+◌, ◌/◌, ◌%�
 use Rattle.word36.specs.Octal.{octal_digits}
 use Rattle.opcode_table.specs.declared.op.Instr.{Instr}
 use Rattle.fap_model.specs.declared.types.SymbolValue.{SymbolValue}
-use Rattle.program_trace.specs.Instruction.{address_field, tag_field, decrement_field, field_text}
+use Rattle.program_trace.specs.Instructions.{address_field, tag_field, decrement_field, field_text}
 
 pub digits_length : (k n : ℕ) → length (octal_digits k n) ≡ k
 unfolding octal_digits

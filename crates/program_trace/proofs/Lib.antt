@@ -1,4 +1,5 @@
-pub mod Alone
+pub mod Sessions
 pub mod States
 pub mod Turns
 pub mod Lengths
+pub mod Files

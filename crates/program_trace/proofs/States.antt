@@ -2,8 +2,8 @@
 use Rattle.std.proofs.Common.{◌≡◌, ℕ, zero, suc, ◌<◌, Bool, true, false, List, [], ◌∷◌, length, Some, refl, sym, ap, ◌∙◌, arith}
 use Rattle.std.specs.Prelude.{slice_get, if◌then◌else◌}
 use Rattle.time_sharing.specs.Machine.{Line}
-use Rattle.program_trace.specs.Alone.{TracedUser, stepped, goes_on, gone, loaded}
-use Rattle.program_trace.specs.Traced.{TracedStep, step_between, steps_from, traced, ShowsStates}
+use Rattle.program_trace.specs.Lone.{TracedUser, stepped, goes_on, gone, loaded}
+use Rattle.program_trace.specs.Traces.{TracedStep, step_between, steps_from, traced, ShowsStates}
 
 pub gone_on : (n : ℕ) (a : TracedUser) → goes_on a ≡ true → gone (suc n) a ≡ gone n (stepped a)
 unfolding gone

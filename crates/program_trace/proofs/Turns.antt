@@ -11,7 +11,7 @@ use Rattle.user_model.specs.User.{User, asks_common, in_store, store_after, step
 use Rattle.user_session.specs.declared.turn.Step.{Step}
 use Rattle.user_session.specs.Stores.{stored, Over, IsToMake}
 use Rattle.user_session.specs.Turns.{IsWait, IsAsked, IsReplied}
-use Rattle.program_trace.specs.Alone.{TracedUser, track_quota, common_reply, common_after, stepped}
+use Rattle.program_trace.specs.Lone.{TracedUser, track_quota, common_reply, common_after, stepped}
 use Rattle.program_trace.specs.Steps.{IsStepBeside, IsWaitBeside, IsTurnBeside, alone_with}
 
 -- where the disk tells its records, what is known of a store is the store

@@ -1,7 +1,8 @@
-pub mod Alone
-pub mod Traced
-pub mod Instruction
-pub mod Changes
-pub mod Text
-pub mod Program
+pub mod Lone
+pub mod Traces
+pub mod Instructions
+pub mod Registers
+pub mod Texts
+pub mod Programs
 pub mod Steps
+pub mod Steppings

@@ -1,16 +1,10 @@
 -- proof: a step of a user beside common files, with the words of its program and its files before and after.
-use Rattle.std.specs.Prelude.{◌≡◌, ℕ, true, false, List, length, map, Option, Some, None, Ok, Err, slice_get}
-use Rattle.std.specs.declared.result.Result.{Result}
-use Rattle.ctss_types.specs.Line.{trimmed}
+use Rattle.std.specs.Prelude.{◌≡◌, ℕ, false, List, Option, Some, None}
 use Rattle.ctss_types.specs.declared.file.FileBody.{FileBody}
 use Rattle.user_model.specs.Inner.{Stored}
 use Rattle.user_model.specs.User.{User, can_step, asks_common, in_store, IsStep}
 use Rattle.user_session.specs.declared.turn.Step.{Step}
-use Rattle.program_trace.specs.Alone.{TracedUser, stepped, common_reply, common_after}
-use Rattle.program_trace.specs.Program.{ProgramFault, Line}
-use Rattle.program_trace.specs.declared.run.Found.{Found}
-use Rattle.program_trace.specs.declared.alone.Stepping.{Stepping}
-use Rattle.program_trace.specs.declared.alone.Stepping.TheVariants.{Waits, Went}
+use Rattle.program_trace.specs.Lone.{TracedUser, common_reply, common_after}
 
 -- a step was done with the reply of these common files, which it left so
 pub record IsStepBeside (s : Step) (now : ℕ) (old new : User) (before after : Stored) (had has : List FileBody) : Type 0 where
@@ -33,22 +27,3 @@ IsTurnBeside (Some s) now old new before after had has = IsStepBeside s now old 
 -- a user whose program's words and files lie apart, and the common files
 abbrev pub alone_with : User → (core : List ℕ) → (files common : List FileBody) → TracedUser
 alone_with p core files common = record { user = in_store (record { core = core; files = files }) p; common = common }
-
--- a step, or none where none can be done
-abbrev pub IsStepping : TracedUser → Stepping → Type 0
-IsStepping a (Waits b) = (can_step a.user ≡ false) × (b ≡ a)
-IsStepping a (Went b) = (can_step a.user ≡ true) × (b ≡ stepped a)
-
--- what the next step of a program finds
-abbrev pub found_in : TracedUser → Found
-found_in a =
-    record {
-      word = slice_get a.user.inner.core a.user.inner.regs.ic;
-      regs = a.user.inner.regs;
-      item_count = length a.user.transcript;
-    }
-
--- the lines of cards, or the first card that is none
-abbrev pub lines_told : Option ℕ → List (List ℕ) → Result (List (List ℕ)) ProgramFault
-lines_told None cards = Ok (map trimmed cards)
-lines_told (Some n) cards = Err (Line n)

@@ -1,5 +1,5 @@
 //! A user whose program is run alone.
-ghost use Rattle.std.specs.Prelude.{◌≡◌, ◌≤◌, ◌<◌, ◌+◌, ◌-◌, ◌*◌, ◌^◌, ℕ, [], ◌∷◌, codes, true, length, take, replicate, ◌++◌, IfOk, fold, map};
+ghost use Rattle.std.specs.Prelude.{IfOk, OnOk, [], codes, fold, length, map, replicate, slice_get, take, true, ℕ, ◌*◌, ◌++◌, ◌+◌, ◌-◌, ◌<◌, ◌^◌, ◌∷◌, ◌≡◌, ◌≤◌};
 ghost use Rattle.ctss_types.specs.declared.file.CommonOp.{CommonOp};
 ghost use Rattle.user_model.specs.Inner.{recut, zeros};
 ghost use Rattle.user_model.specs.Session.{first_state, works_in};
@@ -8,16 +8,14 @@ ghost use Rattle.user_session.specs.Stores.{stored, IsToMake};
 ghost use Rattle.user_session.specs.Turns.{IsReplied};
 ghost use Rattle.file_model.specs.Commons.{ReplyFits, files_after, reply_to};
 ghost use Rattle.program_model.specs.Lines.{with_words};
-ghost use Rattle.program_trace.specs.Alone.{begun, deck_files, tracer, track_quota};
-ghost use Rattle.program_trace.specs.Traced.{regs_left};
-ghost use Rattle.program_trace.specs.Steps.{IsStepping, IsTurnBeside};
+ghost use Rattle.program_trace.specs.Lone.{begun, deck_files, tracer, track_quota};
+ghost use Rattle.program_trace.specs.Traces.{regs_left};
+ghost use Rattle.program_trace.specs.Steps.{IsTurnBeside};
 
 use common_file::apply;
 use cpu_regs::plain::PlainCore;
 use cpu_regs::{MemoryPort, Regs};
-use ctss_types::{
-    Account, CommonOp, Ending, FileName, Item, LineText, NoMemory, Reply, name_word,
-};
+use ctss_types::{Account, CommonOp, Ending, FileName, Item, LineText, NoMemory, Reply, name_word};
 use file_map::{FilePort, Files, PortFault};
 use std::alloc::Global;
 use std::marker::Model;
@@ -32,15 +30,15 @@ const TRACK_QUOTA: u16 = 1000;
 /// nobody else has.
 #[derive(Drop)]
 pub(crate) struct ProgramAlone {
-    session: Session,
-    core: PlainCore,
-    files: Files,
-    common: Files,
+    pub(crate) session: Session,
+    pub(crate) core: PlainCore,
+    pub(crate) files: Files,
+    pub(crate) common: Files,
 }
 
 impl Model for ProgramAlone {
     ghost use Rattle.std.specs.Prelude.{◌≡◌, ◌*◌, length};
-    ghost use Rattle.program_trace.specs.Alone.{TracedUser, tracer, track_quota};
+    ghost use Rattle.program_trace.specs.Lone.{TracedUser, tracer, track_quota};
     ghost use Rattle.program_trace.specs.Steps.{alone_with};
 
     ghost Value = { TracedUser };
@@ -86,7 +84,7 @@ fn recut_core(alloc: Global, core: &PlainCore, blocks: u8) -> Result<PlainCore, 
 }
 
 /// The core behind a step that ended so, with so many blocks.
-fn settled(
+pub(crate) fn settled(
     alloc: Global,
     core: PlainCore,
     ending: Ending,
@@ -117,7 +115,7 @@ fn reply_to(files: &mut Files, op: &CommonOp) -> Result<Reply, NoMemory>
 }
 
 /// A step of a session with the reply of these common files, if one can be done.
-fn step_beside(
+pub(crate) fn step_beside(
     session: &mut Session,
     core: &mut PlainCore,
     files: &mut Files,
@@ -159,16 +157,13 @@ fn type_line(session: &mut Session, line: LineText) -> Result<(), NoMemory>
     }
 }
 
-/// A step was done, or none can be.
-#[derive(Drop)]
-pub(crate) enum Stepping {
-    Waits(ProgramAlone),
-    Went(ProgramAlone),
-}
-
 impl ProgramAlone {
     /// A session in which LOADGO was typed, and these lines behind it.
-    pub(crate) fn begin(alloc: Global, deck: &[Word], lines: &[LineText]) -> Result<ProgramAlone, NoMemory>
+    pub(crate) fn begin(
+        alloc: Global,
+        deck: &[Word],
+        lines: &[LineText],
+    ) -> Result<ProgramAlone, NoMemory>
         ensures { IfOk result (λ a. a ≡ begun deck.now lines.now) }
     {
         let mut session = Session::new(alloc, &tracer())?;
@@ -223,34 +218,5 @@ impl ProgramAlone {
         ensures { result.now ≡ self.now.user.transcript }
     {
         self.session.items()
-    }
-
-    /// A step, if one can be done.
-    pub(crate) fn step(self, alloc: Global) -> Result<Stepping, NoMemory>
-        requires { self.user.own < 2 ^ 34 }
-        ensures { IfOk result (IsStepping self) }
-    {
-        let ProgramAlone {
-            mut session,
-            mut core,
-            mut files,
-            mut common,
-        } = self;
-        let now = session.own();
-        let step = step_beside(&mut session, &mut core, &mut files, &mut common, now)?;
-        let core = match step {
-            Some(step) => settled(alloc, core, step.ending, session.blocks())?,
-            None => core,
-        };
-        let alone = ProgramAlone {
-            session,
-            core,
-            files,
-            common,
-        };
-        Ok(match step {
-            Some(_) => Stepping::Went(alone),
-            None => Stepping::Waits(alone),
-        })
     }
 }

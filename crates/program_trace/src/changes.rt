@@ -1,6 +1,6 @@
 //! Registers that a step changed.
 ghost use Rattle.std.specs.Prelude.{◌≡◌, ◌≤◌, ◌++◌, codes};
-ghost use Rattle.program_trace.specs.Changes.{acc_change, acc_text, changes_to, index_change, index_changes, indicator_change, on_text, register_changes, word_change};
+ghost use Rattle.program_trace.specs.Registers.{acc_change, acc_text, changes_to, index_change, index_changes, indicator_change, on_text, register_changes, word_change};
 ghost use Rattle.text_writer.specs.Writing.{Adds};
 
 use cpu_regs::Regs;
@@ -40,12 +40,7 @@ fn add_acc_change<K: Sink>(out: &mut TextWriter<'_, K>, before: Acc, after: Acc)
 
 /// Adds a register of a word, if it isn't what it was.
 #[tactic(auto, using(text_writer::proofs::Added::adds_none))]
-fn add_word_change<K: Sink>(
-    out: &mut TextWriter<'_, K>,
-    name: &[u8],
-    before: Word,
-    after: Word,
-)
+fn add_word_change<K: Sink>(out: &mut TextWriter<'_, K>, name: &[u8], before: Word, after: Word)
     ensures { Adds K.Sink (word_change name.now before after) out.old out.new }
 {
     if before.bits() != after.bits() {
@@ -56,12 +51,7 @@ fn add_word_change<K: Sink>(
 
 /// Adds an index register, if it isn't what it was.
 #[tactic(auto, using(text_writer::proofs::Added::adds_none))]
-fn add_index_change<K: Sink>(
-    out: &mut TextWriter<'_, K>,
-    before: &Regs,
-    after: &Regs,
-    tag: u8,
-)
+fn add_index_change<K: Sink>(out: &mut TextWriter<'_, K>, before: &Regs, after: &Regs, tag: u8)
     requires { tag ≤ 7 }
     ensures { Adds K.Sink (index_change before.now after.now tag) out.old out.new }
 {
@@ -114,11 +104,7 @@ fn add_register_changes<K: Sink>(out: &mut TextWriter<'_, K>, before: &Regs, aft
 
 /// Adds what a step changed of the registers, where it leaves a program.
 #[tactic(auto, using(text_writer::proofs::Added::adds_none))]
-pub(crate) fn add_changes<K: Sink>(
-    out: &mut TextWriter<'_, K>,
-    before: &Regs,
-    after: &Option<Regs>,
-)
+pub(crate) fn add_changes<K: Sink>(out: &mut TextWriter<'_, K>, before: &Regs, after: &Option<Regs>)
     ensures { Adds K.Sink (changes_to before.now after.now) out.old out.new }
 {
     if let Some(after) = after {

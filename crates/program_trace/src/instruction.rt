@@ -1,6 +1,6 @@
 //! Instructions in words.
 ghost use Rattle.std.specs.Prelude.{◌≡◌, length};
-ghost use Rattle.program_trace.specs.Instruction.{address_by, address_field, decoded_text, decrement_field, field_column, field_text, flag_mark, has_address, has_tag, instruction_text, is_prefixed, split_for, symbol_with, tag_field, word_column};
+ghost use Rattle.program_trace.specs.Instructions.{address_by, address_field, decoded_text, decrement_field, field_column, field_text, flag_mark, has_address, has_tag, instruction_text, is_prefixed, split_for, symbol_with, tag_field, word_column};
 ghost use Rattle.text_writer.specs.Writing.{Adds};
 
 use ctss_io::Sink;
@@ -64,11 +64,7 @@ fn has_tag(class: Class, tag: u8) -> bool
 
 /// Adds the address, if the operation has one.
 #[tactic(auto, using(text_writer::proofs::Added::adds_none))]
-fn add_address_field<K: Sink>(
-    out: &mut TextWriter<'_, K>,
-    symbols: &[SymbolValue],
-    i: &Instr,
-)
+fn add_address_field<K: Sink>(out: &mut TextWriter<'_, K>, symbols: &[SymbolValue], i: &Instr)
     ensures { Adds K.Sink (address_field symbols.now i.now) out.old out.new }
 {
     if has_address(class(i.op)) {
@@ -158,11 +154,7 @@ fn split_for(instr: &Option<Instr>) -> Split
 }
 
 /// Adds what a word says as an instruction.
-fn add_decoded<K: Sink>(
-    out: &mut TextWriter<'_, K>,
-    symbols: &[SymbolValue],
-    instr: &Option<Instr>,
-)
+fn add_decoded<K: Sink>(out: &mut TextWriter<'_, K>, symbols: &[SymbolValue], instr: &Option<Instr>)
     ensures { Adds K.Sink (decoded_text symbols.now instr.now) out.old out.new }
 {
     match instr {

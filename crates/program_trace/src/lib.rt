@@ -1,7 +1,7 @@
 //! A program run alone, and its trace: what each of its steps finds and leaves, and how it ends.
 //!
-//! The definitions stand in `specs/`: `Program` (the program of cards, with the lines that it may read), `Alone` (the
-//! user, its files and its steps), `Traced` (the trace), `Instruction` and `Changes` (what is shown of a step), `Text`
+//! The definitions stand in `specs/`: `Programs` (the program of cards, with the lines that it may read), `Lone` (the
+//! user, its files and its steps), `Traces` (the trace), `Instructions` and `Registers` (what is shown of a step), `Texts`
 //! (the whole text).
 #![tactic(auto)]
 
@@ -10,10 +10,11 @@ mod changes;
 mod instruction;
 mod program;
 mod run;
+mod stepping;
 mod text;
 mod types;
 
-ghost use Rattle.program_trace.specs.Traced.{ShowsStates};
+ghost use Rattle.program_trace.specs.Traces.{ShowsStates};
 
 pub use program::{Program, ProgramFault, program_of};
 pub use run::trace;

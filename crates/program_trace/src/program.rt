@@ -1,13 +1,13 @@
 //! The program that cards make.
 ghost use Rattle.std.specs.Prelude.{◌≡◌, ◌<◌, ◌-◌, ◌^◌, IfOk, length};
-ghost use Rattle.fap_model.specs.Listed.{listed};
+ghost use Rattle.fap_model.specs.Listed.{listed as listed_of};
 ghost use Rattle.fap_assemble.specs.Steps.{texts};
-ghost use Rattle.program_trace.specs.Program.{cards_behind, most_lines, no_line, program_of};
-ghost use Rattle.program_trace.specs.Steps.{lines_told};
+ghost use Rattle.program_trace.specs.Programs.{cards_behind, most_lines, no_line, program_of};
+ghost use Rattle.program_trace.specs.Steppings.{lines_told};
 
 use ctss_types::{LineList, LineText, NoMemory, Sequence, WordList};
 use fap_assemble::{AsmFault, assemble};
-use fap_listing::ListedCards;
+use fap_model::Listed;
 use fap_read::Card;
 use std::alloc::Global;
 
@@ -32,12 +32,11 @@ pub enum ProgramFault {
 }
 
 /// The cards behind the first END.
-fn cards_behind(listed: &ListedCards) -> &[Card]
-    requires { listed.now.listed ≡ listed (texts listed.now.cards) }
-    ensures { texts result.now ≡ cards_behind (texts listed.now.cards) }
+fn cards_behind<'a>(cards: &'a [Card], listed: &Listed) -> &'a [Card]
+    requires { listed.now ≡ listed_of (texts cards.now) }
+    ensures { texts result.now ≡ cards_behind (texts cards.now) }
 {
-    let cards = listed.cards.as_slice();
-    cards.split_at(listed.listed.rows.len().min(cards.len())).1
+    cards.split_at(listed.rows.len().min(cards.len())).1
 }
 
 /// The lines of cards, the first of which has this number.
@@ -64,22 +63,23 @@ fn lines_of(
     Ok(Ok(lines))
 }
 
-/// The program of cards, or why there is none.
+/// The program of cards that come to this, or why there is none.
 pub fn program_of(
     alloc: Global,
-    listed: &ListedCards,
+    cards: &[Card],
+    listed: &Listed,
 ) -> Result<Result<Program, ProgramFault>, NoMemory>
-    requires listed { listed.now.listed ≡ listed (texts listed.now.cards) }
-    requires few { length listed.now.cards < 2 ^ 32 - 1 }
-    ensures { IfOk result (λ told. told ≡ program_of (texts listed.now.cards)) }
+    requires listed { listed.now ≡ listed_of (texts cards.now) }
+    requires few { length cards.now < 2 ^ 32 - 1 }
+    ensures { IfOk result (λ told. told ≡ program_of (texts cards.now)) }
 {
-    let deck = match assemble(alloc, listed.cards.as_slice()) {
+    let deck = match assemble(alloc, cards) {
         Ok(deck) => deck.words,
         Err(AsmFault::Faults(_)) => return Ok(Err(ProgramFault::Cards)),
         Err(AsmFault::NoMemory) => return Err(NoMemory),
     };
-    let first = listed.listed.rows.len() as u64 + 1;
-    Ok(match lines_of(alloc, first, cards_behind(listed))? {
+    let first = listed.rows.len() as u64 + 1;
+    Ok(match lines_of(alloc, first, cards_behind(cards, listed))? {
         Ok(lines) => Ok(Program { deck, lines }),
         Err(fault) => Err(fault),
     })

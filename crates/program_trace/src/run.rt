@@ -1,10 +1,11 @@
 //! What a program does that is run alone.
-ghost use Rattle.std.specs.Prelude.{◌≡◌, ◌≤◌, ◌<◌, ◌+◌, ◌^◌, IfOk, length, drop};
-ghost use Rattle.program_trace.specs.Alone.{TracedUser, gone, loaded};
-ghost use Rattle.program_trace.specs.Traced.{end_of, step_between, steps_from, traced};
-ghost use Rattle.program_trace.specs.Steps.{found_in};
+ghost use Rattle.std.specs.Prelude.{◌≡◌, ◌≤◌, ◌<◌, ◌^◌, ◌++◌, IfOk, drop};
+ghost use Rattle.program_trace.specs.Lone.{TracedUser, gone, loaded};
+ghost use Rattle.program_trace.specs.Traces.{end_of, step_between, steps_from, traced};
+ghost use Rattle.program_trace.specs.Steppings.{found_in};
 
-use crate::alone::{ProgramAlone, Stepping};
+use crate::alone::ProgramAlone;
+use crate::stepping::Stepping;
 use crate::types::{Trace, TraceEnd, TracedStep};
 use cpu_regs::Regs;
 use ctss_types::{Item, Items, LineText, NoMemory, Sequence};
@@ -43,11 +44,7 @@ fn items_behind(alloc: Global, items: &[Item], count: usize) -> Result<Items, No
 }
 
 /// The step from what was found to the user behind it.
-fn step_between(
-    alloc: Global,
-    found: &Found,
-    alone: &ProgramAlone,
-) -> Result<TracedStep, NoMemory>
+fn step_between(alloc: Global, found: &Found, alone: &ProgramAlone) -> Result<TracedStep, NoMemory>
     ensures { (old : TracedUser) → found.now ≡ found_in old
         → IfOk result (λ step. step ≡ step_between old alone.now) }
 {
@@ -114,12 +111,7 @@ fn end_of(alloc: Global, alone: ProgramAlone) -> Result<TraceEnd, NoMemory>
 }
 
 /// The trace of a program that is run alone, of at most so many steps, with the lines that it may read.
-pub fn trace(
-    alloc: Global,
-    deck: &[Word],
-    lines: &[LineText],
-    most: u32,
-) -> Result<Trace, NoMemory>
+pub fn trace(alloc: Global, deck: &[Word], lines: &[LineText], most: u32) -> Result<Trace, NoMemory>
     ensures { IfOk result (λ t. t ≡ traced most deck.now lines.now) }
 {
     let begun = loaded(alloc, deck, lines)?;

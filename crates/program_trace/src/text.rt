@@ -1,7 +1,7 @@
 //! The text of a trace.
 ghost use Rattle.std.specs.Prelude.{◌≡◌, ◌≤◌, ◌<◌, ◌+◌, ◌^◌, length};
 ghost use Rattle.std.specs.List.{flat_map};
-ghost use Rattle.program_trace.specs.Text.{card_at, card_text, covers, end_line, end_place, end_text, item_line, last_place, place_text, step_line, step_text, steps_text, symbol_text, trace_text};
+ghost use Rattle.program_trace.specs.Texts.{card_at, card_text, covers, end_line, end_place, end_text, item_line, last_place, place_text, step_line, step_text, steps_text, symbol_text, trace_text};
 ghost use Rattle.text_writer.specs.Writing.{Adds};
 
 use crate::changes::add_changes;
@@ -76,11 +76,7 @@ fn add_step<K: Sink>(
 }
 
 /// Adds steps.
-fn add_steps<K: Sink>(
-    out: &mut TextWriter<'_, K>,
-    symbols: &[SymbolValue],
-    steps: &[TracedStep],
-)
+fn add_steps<K: Sink>(out: &mut TextWriter<'_, K>, symbols: &[SymbolValue], steps: &[TracedStep])
     ensures { Adds K.Sink (steps_text symbols.now 1 steps.now) out.old out.new }
 {
     let mut number = 1;
@@ -205,12 +201,14 @@ pub struct TraceText<'a> {
 }
 
 impl Text for TraceText<'_> {
-    ghost use Rattle.program_trace.specs.Text.{trace_text};
+    ghost use Rattle.program_trace.specs.Texts.{trace_text};
 
     ghost bytes = { λ t. trace_text t.rows.now t.symbols.now t.trace.now };
 
     fn add_to<K: Sink>(&self, out: &mut TextWriter<'_, K>) {
-        out.line(b"  STEP  PLACE  WORD             OPERATION             READ, WRITTEN AND CHANGED");
+        out.line(
+            b"  STEP  PLACE  WORD             OPERATION             READ, WRITTEN AND CHANGED",
+        );
         add_steps(out, self.symbols, self.trace.steps.as_slice());
         out.end_line();
         add_end(out, self.rows, self.symbols, self.trace);

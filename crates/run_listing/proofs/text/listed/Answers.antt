@@ -6,5 +6,5 @@ use Rattle.run_listing.proofs.text.listed.Goals as goal
 
 pub list_cards-requires : goal.list_cards-requires
 list_cards-requires c =
-    few_lines c.args.bytes.now (length c.cards_of_text.in_ok) c.requires
+    few_lines c.args.bytes.now (length c.in_ok-cards.cards) c.requires
     (sym (length-map c.in_ok-cards.cards (λ (x : Card). x.text)) ∙ ap length c.in_ok-cards.ensures)

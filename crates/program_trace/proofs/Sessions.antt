@@ -10,7 +10,7 @@ use Rattle.program_model.specs.declared.ProgramState.TheVariants.{Dead}
 use Rattle.user_model.specs.Inner.{recut}
 use Rattle.user_model.specs.Session.{first_state}
 use Rattle.user_model.specs.User.{User, typed, opened, can_step, step}
-use Rattle.program_trace.specs.Alone.{TracedUser, tracer, deck_files, begun, stepped}
+use Rattle.program_trace.specs.Lone.{TracedUser, tracer, deck_files, begun, stepped}
 
 -- words behind the end are passed over
 beyond : (core words : List ℕ) (at : ℕ) → length core ≤ at → with_words core at words ≡ core

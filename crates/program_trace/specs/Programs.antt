@@ -1,5 +1,5 @@
 -- claim: the program that cards make, with the lines behind its END, which it may read.
-use Rattle.std.specs.Prelude.{ℕ, zero, suc, ◌+◌, ◌&&◌, nat_le, if◌then◌else◌, List, [], ◌∷◌, length, drop, map, Option, Some, None, Ok, Err}
+use Rattle.std.specs.Prelude.{ℕ, zero, suc, ◌+◌, Bool, ◌&&◌, nat_le, if◌then◌else◌, List, [], ◌∷◌, length, drop, map, Option, Some, None, Ok, Err}
 use Rattle.std.specs.List.{list_all}
 use Rattle.std.specs.declared.result.Result.{Result}
 use Rattle.bcd48.specs.Characters.{is_character}

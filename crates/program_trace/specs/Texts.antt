@@ -10,9 +10,9 @@ use Rattle.text_model.specs.Parts.{line, column}
 use Rattle.fap_model.specs.declared.types.SymbolValue.{SymbolValue}
 use Rattle.fap_model.specs.declared.types.CardRow.{CardRow}
 use Rattle.fap_listing.specs.Words.{blanks}
-use Rattle.program_trace.specs.Traced.{Trace, TracedStep, TraceEnd, Stopped, Waits, Unfinished}
-use Rattle.program_trace.specs.Instruction.{symbol_with, word_column}
-use Rattle.program_trace.specs.Changes.{changes_to}
+use Rattle.program_trace.specs.Traces.{Trace, TracedStep, TraceEnd, Stopped, Waits, Unfinished}
+use Rattle.program_trace.specs.Instructions.{symbol_with, word_column}
+use Rattle.program_trace.specs.Registers.{changes_to}
 
 -- a line that was read or written; a program quits and hangs nowhere
 abbrev pub item_line : Item → List ℕ

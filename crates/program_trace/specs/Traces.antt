@@ -8,7 +8,7 @@ pub use Rattle.program_trace.specs.declared.types.Trace.{Trace}
 pub use Rattle.program_trace.specs.declared.types.TracedStep.{TracedStep}
 pub use Rattle.program_trace.specs.declared.types.TraceEnd.{TraceEnd}
 pub use Rattle.program_trace.specs.declared.types.TraceEnd.TheVariants.{Stopped, Waits, Unfinished}
-use Rattle.program_trace.specs.Alone.{TracedUser, stepped, goes_on, gone, loaded}
+use Rattle.program_trace.specs.Lone.{TracedUser, stepped, goes_on, gone, loaded}
 
 -- the registers, where a program is left, which has a block at least
 abbrev pub regs_left : (blocks : ℕ) → Regs → Option Regs

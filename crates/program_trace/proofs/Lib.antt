@@ -1,5 +1,0 @@
-pub mod Sessions
-pub mod States
-pub mod Turns
-pub mod Lengths
-pub mod Files

@@ -1,0 +1,4 @@
+pub mod Sessions
+pub mod States
+pub mod Turns
+pub mod Files

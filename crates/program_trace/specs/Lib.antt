@@ -1,0 +1,4 @@
+pub mod Lone
+pub mod Traces
+pub mod Steps
+pub mod Steppings

@@ -1,0 +1,45 @@
+//! A step of a program that is run alone.
+ghost use Rattle.std.specs.Prelude.{◌<◌, ◌^◌, IfOk};
+ghost use Rattle.program_trace.specs.Steppings.{IsStepping};
+
+use crate::alone::{ProgramAlone, settled, step_beside};
+use ctss_types::NoMemory;
+use std::alloc::Global;
+
+/// A step was done, or none can be.
+#[derive(Drop)]
+pub(crate) enum Stepping {
+    Waits(ProgramAlone),
+    Went(ProgramAlone),
+}
+
+impl ProgramAlone {
+    /// A step, if one can be done.
+    pub(crate) fn step(self, alloc: Global) -> Result<Stepping, NoMemory>
+        requires { self.user.own < 2 ^ 34 }
+        ensures { IfOk result (IsStepping self) }
+    {
+        let ProgramAlone {
+            mut session,
+            mut core,
+            mut files,
+            mut common,
+        } = self;
+        let now = session.own();
+        let Some(step) = step_beside(&mut session, &mut core, &mut files, &mut common, now)? else {
+            return Ok(Stepping::Waits(ProgramAlone {
+                session,
+                core,
+                files,
+                common,
+            }));
+        };
+        let core = settled(alloc, core, step.ending, session.blocks())?;
+        Ok(Stepping::Went(ProgramAlone {
+            session,
+            core,
+            files,
+            common,
+        }))
+    }
+}

@@ -11,8 +11,8 @@ use Rattle.ctss_modes.specs.declared.outcome.Outcome.{Outcome}
 use Rattle.ctss_modes.specs.Outcomes.{bare, IsOneOf}
 use Rattle.ctss_modes.specs.Devices.{DevicesSeen}
 use Rattle.ctss_modes.specs.Modes.{runs_script, reads_script, serves}
-use Rattle.ctss_modes.specs.Asm.{DeckIsWritten, CardsAreRefused, InputIsTooLong, CardsAreCutOff}
-use Rattle.ctss_modes.specs.Top.{IsRun, HasCause, IsCutOff, OfWords, RunIsStopped, RunLosesFiles, ScriptIsRefused, IsSilent, Unbegun, NotServed, SpendsFor, asks_run, asks_link, statuses_asked, statuses_of}
+use Rattle.ctss_modes.specs.Statuses.{AnswersFor, Assembles}
+use Rattle.ctss_modes.specs.Top.{IsRun, OfWords, ScriptIsRefused, Unbegun, NotServed, SpendsFor, asks_run, asks_link, statuses_asked, statuses_of}
 use Rattle.ctss_modes.specs.Answer.{Answers, IsAnswer}
 use Rattle.ctss_modes.proofs.Allowed.{always, is_allowed, memory_is_allowed}
 use Rattle.ctss_modes.proofs.Cards.{cut_by_words}
@@ -38,19 +38,12 @@ neither (Load n) status runs h = (λ is. grind (arith, h, is, nat_tests), λ is.
 neither Asm status runs h = absurd (let wrong = runs in cc)
 neither (Serve port turns) status runs h = (λ is. grind (arith, h, is, nat_tests), λ is. grind (arith, h, is, nat_tests))
 
--- what a mode that runs a script promises, by statuses
+-- what a mode that runs a script promises
 pub record Scripted (mode : Mode) (old new : DevicesSeen) (o : Outcome) : Type 0 where
   pub runs : runs_script mode ≡ true
   pub statuses : IsOneOf o.status (statuses_asked (Some mode))
   pub told : WhereTold old.input.left (λ bytes. IsOneOf o.status (statuses_of (Some mode) bytes))
-  pub done : o.status ≡ 0 → IsRun mode old new o
-  pub refused : reads_script mode ≡ true → o.status ≡ 2 → ScriptIsRefused mode old new o
-  pub cause : HasCause old new o
-  pub cut : (words : List (List ℕ)) → mode_of words ≡ Some mode → o.status ≡ 4 → IsCutOff words old new o
-  pub stopped : (words : List (List ℕ)) → mode_of words ≡ Some mode → o.status ≡ 5 → RunIsStopped words old new o
-  pub lost : (words : List (List ℕ)) → mode_of words ≡ Some mode → o.status ≡ 6 → RunLosesFiles words old new o
-  pub silent : IsOneOf o.status (3 ∷ 7 ∷ 8 ∷ []) → IsSilent o.status old new o
-  pub spent : IsOneOf o.status (7 ∷ 8 ∷ []) → SpendsFor mode old new
+  pub answers : AnswersFor mode old new o
   pub unlinked : serves mode ≡ false → new.link ≡ old.link
 
 scripted_words : (mode : Mode) (old new : DevicesSeen) (o : Outcome) → Scripted mode old new o → (words : List (List ℕ)) → mode_of words ≡ Some mode → Answers words old new o
@@ -58,74 +51,61 @@ scripted_words mode old new o s words asked =
     let allowed = is_allowed words (Some mode) old o asked s.statuses s.told in
     let not = neither mode o.status s.runs s.statuses in
     record {
-      headline = λ m is runs h. subst (λ (k : Mode). IsRun k old new o) (one_mode (mode_of words) mode m asked is) (s.done h);
+      headline = λ m is runs h. subst (λ (k : Mode). IsRun k old new o) (one_mode (mode_of words) mode m asked is) (s.answers.ends.done h);
       deck = λ is h. absurd (not_cards mode s.runs (mode_of words) asked is);
       refusals = record {
         of_words = λ h. absurd (not.0 h);
         of_script = λ m is reads h.
             (let same = one_mode (mode_of words) mode m asked is in
-            subst (λ (k : Mode). ScriptIsRefused k old new o) same (s.refused (subst (λ (k : Mode). reads_script k ≡ true) (sym same) reads) h));
+            subst (λ (k : Mode). ScriptIsRefused k old new o) same (s.answers.refused h));
         of_input = λ is h. absurd (not_cards mode s.runs (mode_of words) asked is);
         of_cards = λ h. absurd (not.1 h);
       };
-      causes = s.cause;
-      cut_off = s.cut words asked;
-      stopped = s.stopped words asked;
-      lost = s.lost words asked;
-      silent = s.silent;
-      spent = λ h m is. subst (λ (k : Mode). SpendsFor k old new) (one_mode (mode_of words) mode m asked is) (s.spent h);
+      causes = s.answers.cause;
+      cut_off = s.answers.ends.part words asked;
+      stopped = s.answers.ends.stopped words asked;
+      lost = s.answers.ends.lost words asked;
+      silent = s.answers.silent;
+      spent = λ h m is. subst (λ (k : Mode). SpendsFor k old new) (one_mode (mode_of words) mode m asked is) (s.answers.ends.spent h);
       apart = record {
         media = λ h. absurd (let wrong : true ≡ false = sym s.runs ∙ subst (λ (m : Option Mode). asks_run m ≡ false) asked h in cc);
         link = λ h. s.unlinked (subst (λ (m : Option Mode). asks_link m ≡ false) asked h);
       };
       allowed = allowed;
-      complete = λ none. complete words old new o s.cause allowed none;
+      complete = λ none. complete words old new o s.answers.cause allowed none;
     }
 
 pub scripted : (mode : Mode) (old new : DevicesSeen) (o : Outcome) → Scripted mode old new o → IsAnswer (Some mode) old new o
 scripted mode old new o s = record { to_words = scripted_words mode old new o s }
 
--- what an assembly promises, by statuses
-pub record Assembles (old new : DevicesSeen) (o : Outcome) : Type 0 where
-  pub statuses : IsOneOf o.status (0 ∷ 2 ∷ 3 ∷ 4 ∷ 8 ∷ 9 ∷ [])
-  pub told : WhereTold old.input.left (λ bytes. IsOneOf o.status (statuses_of (Some Asm) bytes))
-  pub deck : o.status ≡ 0 → DeckIsWritten old new o
-  pub faults : o.status ≡ 9 → CardsAreRefused old new o
-  pub long : o.status ≡ 2 → InputIsTooLong old new o
-  pub unread : o.status ≡ 3 → Rose old.input.faults new.input.faults
-  pub unwritten : o.status ≡ 4 → Rose old.output.faults new.output.faults
-  pub cut : o.status ≡ 4 → o ≡ bare 4 0 0
-  pub part : o.status ≡ 4 → CardsAreCutOff old new
-  pub silent : IsOneOf o.status (3 ∷ 8 ∷ []) → IsSilent o.status old new o
-  pub media : new.media ≡ old.media
-  pub link : new.link ≡ old.link
+-- an assembly asks nothing of drum, disk and link
 
-assembles_words : (old new : DevicesSeen) (o : Outcome) → Assembles old new o → (words : List (List ℕ)) → mode_of words ≡ Some Asm → Answers words old new o
-assembles_words old new o s words asked =
-    let causes = cards_have_causes old new o s.statuses s.unread s.unwritten in
-    let allowed = is_allowed words (Some Asm) old o asked s.statuses s.told in
+assembles_words : (old new : DevicesSeen) (o : Outcome) → Assembles old new o → new.media ≡ old.media → new.link ≡ old.link → (words : List (List ℕ)) → mode_of words ≡ Some Asm → Answers words old new o
+assembles_words old new o s media link words asked =
+    let causes = cards_have_causes old new o s.status s.unread s.unwritten in
+    let allowed = is_allowed words (Some Asm) old o asked s.status s.told in
     record {
       headline = λ m is runs h. absurd (not_cards m runs (mode_of words) is asked);
       deck = λ is h. s.deck h;
       refusals = record {
-        of_words = λ h. absurd (grind (arith, h, s.statuses, nat_tests));
+        of_words = λ h. absurd (grind (arith, h, s.status, nat_tests));
         of_script = λ m is reads h. absurd (let wrong : false ≡ true = subst (λ (k : Mode). reads_script k ≡ true) (one_mode (mode_of words) m Asm is asked) reads in cc);
         of_input = λ is h. s.long h;
         of_cards = s.faults;
       };
       causes = causes;
       cut_off = λ h. cut_by_words words old new o asked (s.cut h) (s.part h);
-      stopped = λ h. absurd (grind (arith, h, s.statuses, nat_tests));
-      lost = λ h. absurd (grind (arith, h, s.statuses, nat_tests));
-      silent = λ h. s.silent (grind (arith, h, s.statuses, nat_tests));
-      spent = λ h m is. subst (λ (k : Mode). SpendsFor k old new) (one_mode (mode_of words) Asm m asked is) s.media;
-      apart = record { media = λ h. s.media; link = λ h. s.link };
+      stopped = λ h. absurd (grind (arith, h, s.status, nat_tests));
+      lost = λ h. absurd (grind (arith, h, s.status, nat_tests));
+      silent = λ h. s.silent (grind (arith, h, s.status, nat_tests));
+      spent = λ h m is. subst (λ (k : Mode). SpendsFor k old new) (one_mode (mode_of words) Asm m asked is) media;
+      apart = record { media = λ h. media; link = λ h. link };
       allowed = allowed;
       complete = λ none. complete words old new o causes allowed none;
     }
 
-pub assembles : (old new : DevicesSeen) (o : Outcome) → Assembles old new o → IsAnswer (Some Asm) old new o
-assembles old new o s = record { to_words = assembles_words old new o s }
+pub assembles : (old new : DevicesSeen) (o : Outcome) → Assembles old new o → new.media ≡ old.media → new.link ≡ old.link → IsAnswer (Some Asm) old new o
+assembles old new o s media link = record { to_words = assembles_words old new o s media link }
 
 -- what refused words come to, by statuses
 pub record Refuses (old new : DevicesSeen) (o : Outcome) : Type 0 where

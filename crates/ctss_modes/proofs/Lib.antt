@@ -5,6 +5,7 @@ pub mod Cards
 pub mod Lines
 pub mod Allowed
 pub mod Complete
+pub mod Ending
 pub mod Answering
 pub mod Unread
 pub mod Faults

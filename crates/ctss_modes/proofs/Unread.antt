@@ -20,7 +20,8 @@ use Rattle.ctss_modes.specs.Outcomes.{bare, IsOneOf}
 use Rattle.ctss_modes.specs.Devices.{InputSeen, OutputSeen, devices}
 use Rattle.ctss_modes.specs.Modes.{reads_script}
 use Rattle.ctss_modes.specs.Asm.{InputIsTooLong, CardsAreCutOff, statuses_by, assembled_from}
-use Rattle.ctss_modes.specs.Top.{ScriptIsRefused, HasCause, IsCutOff, IsSilent, statuses_for, statuses_live}
+use Rattle.ctss_modes.specs.Statuses.{AnswersFor, Assembles}
+use Rattle.ctss_modes.specs.Top.{ScriptIsRefused, HasCause, IsCutOff, IsSilent, SpendsFor, statuses_for, statuses_live}
 use Rattle.ctss_modes.specs.Unread.{EndsUnread, EndsBy}
 use Rattle.ctss_modes.proofs.Cards.{cut_of_long, Allowed, long_input, allowed_long, at_any}
 use Rattle.ctss_modes.proofs.Says.{Allows, AllowsLive, refused_long, cut_long, told_long, by_said, live_told_long, by_base}
@@ -148,3 +149,36 @@ module _ (was now : InputSeen) (had has : OutputSeen) (o : Outcome) (u : EndsUnr
 
   pub unread_told_cards : WhereTold was.left (Allowed o.status)
   unread_told_cards = cards_by (list_any (nat_eq o.status) (2 ∷ 4 ∷ [])) refl
+
+  -- the answer of a mode that reads a script, and of an assembly
+
+  pub unread_answers : (mode : Mode) → reads_script mode ≡ true → (media : MediaSeen) (link : LinkSeen) → SpendsFor mode (devices was had media link) (devices now has media link)
+      → AnswersFor mode (devices was had media link) (devices now has media link) o
+  unread_answers mode reads media link spends =
+      record {
+        ends = record {
+          done = λ h. absurd (grind (arith, h, u.statuses, nat_tests));
+          part = λ words asked h. unread_cut words mode asked reads media link h;
+          stopped = λ words asked h. absurd (grind (arith, h, u.statuses, nat_tests));
+          lost = λ words asked h. absurd (grind (arith, h, u.statuses, nat_tests));
+          spent = λ h. spends;
+        };
+        refused = unread_refused mode media link;
+        cause = unread_causes media link;
+        silent = λ h. unread_silent media link (grind (arith, h, u.statuses, nat_tests));
+      }
+
+  pub unread_assembles : (media : MediaSeen) (link : LinkSeen) → Assembles (devices was had media link) (devices now has media link) o
+  unread_assembles media link =
+      record {
+        status = grind (arith, u.statuses, nat_tests);
+        deck = λ h. absurd (grind (arith, h, u.statuses, nat_tests));
+        faults = λ h. absurd (grind (arith, h, u.statuses, nat_tests));
+        long = unread_long media link;
+        unread = u.unread;
+        unwritten = u.unwritten;
+        cut = u.cut;
+        part = unread_part media link;
+        silent = unread_silent media link;
+        told = unread_told_cards;
+      }

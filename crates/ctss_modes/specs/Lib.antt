@@ -7,3 +7,4 @@ pub mod Top
 pub mod Answer
 pub mod Unread
 pub mod Faults
+pub mod Statuses

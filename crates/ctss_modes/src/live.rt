@@ -1,8 +1,7 @@
 //! Live consoles: a base script comes in, and the script of what people did goes out with its report.
-ghost use Rattle.std.specs.Prelude.{◌≡◌, ◌≤◌, ◌∷◌, [], ℕ, List, Some};
+ghost use Rattle.std.specs.Prelude.{◌≤◌, ◌∷◌, []};
 ghost use Rattle.faults.specs.Faults.{WhereTold};
 ghost use Rattle.text_model.specs.Lawful.{IsLawful};
-ghost use Rattle.text_model.specs.Words.{mode_of};
 ghost use Rattle.script_read.specs.Bases.{base_of};
 ghost use Rattle.drum_slots.specs.Kept.{Serves};
 ghost use Rattle.track_store.specs.Tracks.{Serves as Holds};
@@ -10,7 +9,8 @@ ghost use Rattle.live_run.specs.Media.{media_seen};
 ghost use Rattle.ctss_modes.specs.Outcomes.{IsOneOf};
 ghost use Rattle.ctss_modes.specs.Modes.{IsSpelled};
 ghost use Rattle.ctss_modes.specs.Devices.{InputSeen, output_seen, devices, seen};
-ghost use Rattle.ctss_modes.specs.Top.{IsRun, RunIsStopped, RunLosesFiles, ScriptIsRefused, HasCause, IsCutOff, IsSilent, SpendsFor, statuses_live};
+ghost use Rattle.ctss_modes.specs.Statuses.{EndsFor, AnswersFor};
+ghost use Rattle.ctss_modes.specs.Top.{HasCause, IsSilent, statuses_live};
 
 use crate::modes::write_run;
 use crate::outcome::Outcome;
@@ -40,23 +40,8 @@ fn host<K: Sink, D: Medium, F: Medium, L: Link>(
     requires drum { Serves (D.contents drum.old) (D.record_count drum.old) (D.words_each drum.old) 3840 }
     requires disk { Holds (F.contents disk.old) (F.record_count disk.old) (F.words_each disk.old) 10000 }
     ensures status { IsOneOf result.status (0 ∷ 4 ∷ 5 ∷ 6 ∷ 7 ∷ 8 ∷ []) }
-    ensures done { (was now : InputSeen) → IsSpelled (Mode.Serve port turns) was.left now.left base → result.status ≡ 0
-        → IsRun (Mode.Serve port turns)
-        (devices was (output_seen K.Sink sink.old) (media_seen D.Medium F.Medium drum.old disk.old) (L.seen link.old))
-        (devices now (output_seen K.Sink sink.new) (media_seen D.Medium F.Medium drum.new disk.new)
-        (L.seen link.new)) result }
-    ensures part { (words : List (List ℕ)) (was now : InputSeen) → mode_of words ≡ Some (Mode.Serve port turns)
-        → IsSpelled (Mode.Serve port turns) was.left now.left base → result.status ≡ 4 → IsCutOff words
-        (devices was (output_seen K.Sink sink.old) (media_seen D.Medium F.Medium drum.old disk.old) (L.seen link.old))
-        (devices now (output_seen K.Sink sink.new) (media_seen D.Medium F.Medium drum.new disk.new)
-        (L.seen link.new)) result }
-    ensures stopped { (words : List (List ℕ)) (was now : InputSeen) → mode_of words ≡ Some (Mode.Serve port turns)
-        → IsSpelled (Mode.Serve port turns) was.left now.left base → result.status ≡ 5 → RunIsStopped words
-        (devices was (output_seen K.Sink sink.old) (media_seen D.Medium F.Medium drum.old disk.old) (L.seen link.old))
-        (devices now (output_seen K.Sink sink.new) (media_seen D.Medium F.Medium drum.new disk.new)
-        (L.seen link.new)) result }
-    ensures lost { (words : List (List ℕ)) (was now : InputSeen) → mode_of words ≡ Some (Mode.Serve port turns)
-        → IsSpelled (Mode.Serve port turns) was.left now.left base → result.status ≡ 6 → RunLosesFiles words
+    ensures ends { (was now : InputSeen) → IsSpelled (Mode.Serve port turns) was.left now.left base
+        → EndsFor (Mode.Serve port turns)
         (devices was (output_seen K.Sink sink.old) (media_seen D.Medium F.Medium drum.old disk.old) (L.seen link.old))
         (devices now (output_seen K.Sink sink.new) (media_seen D.Medium F.Medium drum.new disk.new)
         (L.seen link.new)) result }
@@ -64,10 +49,6 @@ fn host<K: Sink, D: Medium, F: Medium, L: Link>(
         (devices input (output_seen K.Sink sink.old) (media_seen D.Medium F.Medium drum.old disk.old) (L.seen link.old))
         (devices input (output_seen K.Sink sink.new) (media_seen D.Medium F.Medium drum.new disk.new)
         (L.seen link.new)) result }
-    ensures spent { (was now : InputSeen) → IsSpelled (Mode.Serve port turns) was.left now.left base
-        → IsOneOf result.status (7 ∷ 8 ∷ []) → SpendsFor (Mode.Serve port turns)
-        (devices was (output_seen K.Sink sink.old) (media_seen D.Medium F.Medium drum.old disk.old) (L.seen link.old))
-        (devices now (output_seen K.Sink sink.new) (media_seen D.Medium F.Medium drum.new disk.new) (L.seen link.new)) }
     ensures silent { (was now : InputSeen) → IsOneOf result.status (7 ∷ 8 ∷ []) → IsSilent result.status
         (devices was (output_seen K.Sink sink.old) (media_seen D.Medium F.Medium drum.old disk.old) (L.seen link.old))
         (devices now (output_seen K.Sink sink.new) (media_seen D.Medium F.Medium drum.new disk.new)
@@ -106,32 +87,9 @@ pub(crate) fn serve_consoles<S: Source, K: Sink, D: Medium, F: Medium, L: Link>(
     requires drum { Serves (D.contents drum.old) (D.record_count drum.old) (D.words_each drum.old) 3840 }
     requires disk { Holds (F.contents disk.old) (F.record_count disk.old) (F.words_each disk.old) 10000 }
     ensures status { IsOneOf result.status (0 ∷ 2 ∷ 3 ∷ 4 ∷ 5 ∷ 6 ∷ 7 ∷ 8 ∷ []) }
-    ensures done { result.status ≡ 0 → IsRun (Mode.Serve port turns)
+    ensures answers { AnswersFor (Mode.Serve port turns)
         (seen S.Source K.Sink D.Medium F.Medium input.old sink.old drum.old disk.old (L.seen link.old))
         (seen S.Source K.Sink D.Medium F.Medium input.new sink.new drum.new disk.new (L.seen link.new)) result }
-    ensures refused { result.status ≡ 2 → ScriptIsRefused (Mode.Serve port turns)
-        (seen S.Source K.Sink D.Medium F.Medium input.old sink.old drum.old disk.old (L.seen link.old))
-        (seen S.Source K.Sink D.Medium F.Medium input.new sink.new drum.new disk.new (L.seen link.new)) result }
-    ensures cause { HasCause
-        (seen S.Source K.Sink D.Medium F.Medium input.old sink.old drum.old disk.old (L.seen link.old))
-        (seen S.Source K.Sink D.Medium F.Medium input.new sink.new drum.new disk.new (L.seen link.new)) result }
-    ensures stopped { (words : List (List ℕ)) → mode_of words ≡ Some (Mode.Serve port turns) → result.status ≡ 5
-        → RunIsStopped words
-        (seen S.Source K.Sink D.Medium F.Medium input.old sink.old drum.old disk.old (L.seen link.old))
-        (seen S.Source K.Sink D.Medium F.Medium input.new sink.new drum.new disk.new (L.seen link.new)) result }
-    ensures lost { (words : List (List ℕ)) → mode_of words ≡ Some (Mode.Serve port turns) → result.status ≡ 6
-        → RunLosesFiles words
-        (seen S.Source K.Sink D.Medium F.Medium input.old sink.old drum.old disk.old (L.seen link.old))
-        (seen S.Source K.Sink D.Medium F.Medium input.new sink.new drum.new disk.new (L.seen link.new)) result }
-    ensures part { (words : List (List ℕ)) → mode_of words ≡ Some (Mode.Serve port turns) → result.status ≡ 4
-        → IsCutOff words (seen S.Source K.Sink D.Medium F.Medium input.old sink.old drum.old disk.old (L.seen link.old))
-        (seen S.Source K.Sink D.Medium F.Medium input.new sink.new drum.new disk.new (L.seen link.new)) result }
-    ensures silent { IsOneOf result.status (3 ∷ 7 ∷ 8 ∷ []) → IsSilent result.status
-        (seen S.Source K.Sink D.Medium F.Medium input.old sink.old drum.old disk.old (L.seen link.old))
-        (seen S.Source K.Sink D.Medium F.Medium input.new sink.new drum.new disk.new (L.seen link.new)) result }
-    ensures spent { IsOneOf result.status (7 ∷ 8 ∷ []) → SpendsFor (Mode.Serve port turns)
-        (seen S.Source K.Sink D.Medium F.Medium input.old sink.old drum.old disk.old (L.seen link.old))
-        (seen S.Source K.Sink D.Medium F.Medium input.new sink.new drum.new disk.new (L.seen link.new)) }
     ensures statuses { WhereTold (S.left input.old) (λ bytes. IsOneOf result.status (statuses_live (base_of bytes))) }
 {
     let bytes = match read_bytes(alloc, input) {

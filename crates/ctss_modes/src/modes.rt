@@ -1,11 +1,9 @@
 //! A script is read or made, run, and the text of its run written.
-ghost use Rattle.std.specs.Prelude.{◌≡◌, ◌≢◌, ◌∷◌, [], ℕ, List, Some, true};
+ghost use Rattle.std.specs.Prelude.{◌≡◌, ◌≢◌, ◌∷◌, [], true};
 ghost use Rattle.faults.specs.Faults.{Rose, WhereTold};
 ghost use Rattle.ctss_io.specs.Outside.{after};
 ghost use Rattle.ctss_io.specs.Whole.{GrewByProperPrefix};
 ghost use Rattle.text_model.specs.Report.{report_of};
-ghost use Rattle.text_model.specs.Words.{mode_of};
-ghost use Rattle.text_model.specs.Made.{made_script};
 ghost use Rattle.text_model.specs.Reading.{script_of};
 ghost use Rattle.text_model.specs.Lawful.{IsLawful};
 ghost use Rattle.text_writer.specs.Writing.{Adds};
@@ -14,10 +12,10 @@ ghost use Rattle.track_store.specs.Tracks.{Serves as Holds};
 ghost use Rattle.live_run.specs.Media.{media_seen};
 ghost use Rattle.console_link.specs.Links.{LinkSeen};
 ghost use Rattle.ctss_modes.specs.Outcomes.{bare, IsOneOf};
-ghost use Rattle.ctss_modes.specs.Played.{IsDone, IsCut, IsLost, HasSpent};
 ghost use Rattle.ctss_modes.specs.Modes.{TextOfRun, replays, text_for};
 ghost use Rattle.ctss_modes.specs.Devices.{InputSeen, output_seen, devices, seen};
-ghost use Rattle.ctss_modes.specs.Top.{IsRun, RunIsStopped, RunLosesFiles, ScriptIsRefused, HasCause, IsCutOff, IsSilent, SpendsFor, statuses_for};
+ghost use Rattle.ctss_modes.specs.Statuses.{Performs, AnswersFor};
+ghost use Rattle.ctss_modes.specs.Top.{statuses_for};
 
 use crate::outcome::Outcome;
 use crate::record::record_script;
@@ -151,23 +149,9 @@ pub fn perform<T: RunText, K: Sink, D: Medium, F: Medium>(
     requires lawful { IsLawful script.now }
     requires drum { Serves (D.contents drum.old) (D.record_count drum.old) (D.words_each drum.old) 3840 }
     requires disk { Holds (F.contents disk.old) (F.record_count disk.old) (F.words_each disk.old) 10000 }
-    ensures status { IsOneOf result.status (0 ∷ 4 ∷ 5 ∷ 6 ∷ 8 ∷ []) }
-    ensures done { IsOneOf result.status (0 ∷ 4 ∷ []) → IsDone script.now
-        (media_seen D.Medium F.Medium drum.old disk.old) (media_seen D.Medium F.Medium drum.new disk.new) result.run }
-    ensures stopped { result.status ≡ 5 → IsCut script.now
-        (media_seen D.Medium F.Medium drum.old disk.old) (media_seen D.Medium F.Medium drum.new disk.new) result.run }
-    ensures lost { result.status ≡ 6 → IsLost script.now
-        (media_seen D.Medium F.Medium drum.old disk.old) (media_seen D.Medium F.Medium drum.new disk.new) result.run }
-    ensures numbers { (result.card ≡ 0) × (result.cause ≡ 0) }
-    ensures text { result.status ≡ 0 → K.held sink.new
-        ≡ after (K.held sink.old) (T.bytes text.now script.now result.run) }
-    ensures part { result.status ≡ 4
-        → GrewByProperPrefix (K.held sink.old) (T.bytes text.now script.now result.run) (K.held sink.new) }
-    ensures cause { result.status ≡ 4 → Rose (K.faults sink.old) (K.faults sink.new) }
-    ensures memory { result.status ≡ 8 → result ≡ bare 8 0 0 }
-    ensures spent { result.status ≡ 8 → HasSpent script.now
-        (media_seen D.Medium F.Medium drum.old disk.old) (media_seen D.Medium F.Medium drum.new disk.new) }
-    ensures silent { IsOneOf result.status (5 ∷ 6 ∷ 8 ∷ []) → K.held sink.new ≡ K.held sink.old }
+    ensures { Performs (T.bytes text.now) script.now
+        (media_seen D.Medium F.Medium drum.old disk.old) (media_seen D.Medium F.Medium drum.new disk.new)
+        (output_seen K.Sink sink.old) (output_seen K.Sink sink.new) result }
 {
     match record_script(alloc, script, drum, disk) {
         Ok(Played::Done(run)) => write_run(alloc, text, script, run, sink),
@@ -190,30 +174,9 @@ pub(crate) fn replay<S: Source, K: Sink, D: Medium, F: Medium>(
     requires drum { Serves (D.contents drum.old) (D.record_count drum.old) (D.words_each drum.old) 3840 }
     requires disk { Holds (F.contents disk.old) (F.record_count disk.old) (F.words_each disk.old) 10000 }
     ensures status { IsOneOf result.status (0 ∷ 2 ∷ 3 ∷ 4 ∷ 5 ∷ 6 ∷ 8 ∷ []) }
-    ensures done { (link : LinkSeen) → result.status ≡ 0
-        → IsRun mode (seen S.Source K.Sink D.Medium F.Medium script.old sink.old drum.old disk.old link)
-        (seen S.Source K.Sink D.Medium F.Medium script.new sink.new drum.new disk.new link) result }
-    ensures refused { (link : LinkSeen) → result.status ≡ 2
-        → ScriptIsRefused mode (seen S.Source K.Sink D.Medium F.Medium script.old sink.old drum.old disk.old link)
-        (seen S.Source K.Sink D.Medium F.Medium script.new sink.new drum.new disk.new link) result }
-    ensures cause { (link : LinkSeen)
-        → HasCause (seen S.Source K.Sink D.Medium F.Medium script.old sink.old drum.old disk.old link)
-        (seen S.Source K.Sink D.Medium F.Medium script.new sink.new drum.new disk.new link) result }
-    ensures stopped { (words : List (List ℕ)) (link : LinkSeen) → mode_of words ≡ Some mode → result.status ≡ 5
-        → RunIsStopped words (seen S.Source K.Sink D.Medium F.Medium script.old sink.old drum.old disk.old link)
-        (seen S.Source K.Sink D.Medium F.Medium script.new sink.new drum.new disk.new link) result }
-    ensures lost { (words : List (List ℕ)) (link : LinkSeen) → mode_of words ≡ Some mode → result.status ≡ 6
-        → RunLosesFiles words (seen S.Source K.Sink D.Medium F.Medium script.old sink.old drum.old disk.old link)
-        (seen S.Source K.Sink D.Medium F.Medium script.new sink.new drum.new disk.new link) result }
-    ensures part { (words : List (List ℕ)) (link : LinkSeen) → mode_of words ≡ Some mode → result.status ≡ 4
-        → IsCutOff words (seen S.Source K.Sink D.Medium F.Medium script.old sink.old drum.old disk.old link)
-        (seen S.Source K.Sink D.Medium F.Medium script.new sink.new drum.new disk.new link) result }
-    ensures silent { (link : LinkSeen) → IsOneOf result.status (3 ∷ 8 ∷ []) → IsSilent result.status
+    ensures answers { (link : LinkSeen) → AnswersFor mode
         (seen S.Source K.Sink D.Medium F.Medium script.old sink.old drum.old disk.old link)
         (seen S.Source K.Sink D.Medium F.Medium script.new sink.new drum.new disk.new link) result }
-    ensures spent { (link : LinkSeen) → result.status ≡ 8
-        → SpendsFor mode (seen S.Source K.Sink D.Medium F.Medium script.old sink.old drum.old disk.old link)
-        (seen S.Source K.Sink D.Medium F.Medium script.new sink.new drum.new disk.new link) }
     ensures statuses { WhereTold (S.left script.old) (λ bytes. IsOneOf result.status (statuses_for (script_of bytes))) }
 {
     let bytes = match read_bytes(alloc, script) {
@@ -240,32 +203,9 @@ pub(crate) fn load<K: Sink, D: Medium, F: Medium>(
     requires drum { Serves (D.contents drum.old) (D.record_count drum.old) (D.words_each drum.old) 3840 }
     requires disk { Holds (F.contents disk.old) (F.record_count disk.old) (F.words_each disk.old) 10000 }
     ensures status { IsOneOf result.status (0 ∷ 4 ∷ 5 ∷ 6 ∷ 8 ∷ []) }
-    ensures done { (input : InputSeen) (link : LinkSeen) → result.status ≡ 0
-        → IsRun (Mode.Load n)
+    ensures answers { (input : InputSeen) (link : LinkSeen) → AnswersFor (Mode.Load n)
         (devices input (output_seen K.Sink sink.old) (media_seen D.Medium F.Medium drum.old disk.old) link)
         (devices input (output_seen K.Sink sink.new) (media_seen D.Medium F.Medium drum.new disk.new) link) result }
-    ensures cause { (input : InputSeen) (link : LinkSeen)
-        → HasCause (devices input (output_seen K.Sink sink.old) (media_seen D.Medium F.Medium drum.old disk.old) link)
-        (devices input (output_seen K.Sink sink.new) (media_seen D.Medium F.Medium drum.new disk.new) link) result }
-    ensures stopped { (words : List (List ℕ)) (input : InputSeen) (link : LinkSeen) → mode_of words ≡ Some (Mode.Load n)
-        → result.status ≡ 5 → RunIsStopped words
-        (devices input (output_seen K.Sink sink.old) (media_seen D.Medium F.Medium drum.old disk.old) link)
-        (devices input (output_seen K.Sink sink.new) (media_seen D.Medium F.Medium drum.new disk.new) link) result }
-    ensures lost { (words : List (List ℕ)) (input : InputSeen) (link : LinkSeen) → mode_of words ≡ Some (Mode.Load n)
-        → result.status ≡ 6 → RunLosesFiles words
-        (devices input (output_seen K.Sink sink.old) (media_seen D.Medium F.Medium drum.old disk.old) link)
-        (devices input (output_seen K.Sink sink.new) (media_seen D.Medium F.Medium drum.new disk.new) link) result }
-    ensures part { (words : List (List ℕ)) (input : InputSeen) (link : LinkSeen) → mode_of words ≡ Some (Mode.Load n)
-        → result.status ≡ 4 → IsCutOff words
-        (devices input (output_seen K.Sink sink.old) (media_seen D.Medium F.Medium drum.old disk.old) link)
-        (devices input (output_seen K.Sink sink.new) (media_seen D.Medium F.Medium drum.new disk.new) link) result }
-    ensures silent { (input : InputSeen) (link : LinkSeen) → result.status ≡ 8
-        → IsSilent 8 (devices input (output_seen K.Sink sink.old) (media_seen D.Medium F.Medium drum.old disk.old) link)
-        (devices input (output_seen K.Sink sink.new) (media_seen D.Medium F.Medium drum.new disk.new) link) result }
-    ensures spent { (input : InputSeen) (link : LinkSeen) → result.status ≡ 8
-        → SpendsFor (Mode.Load n)
-        (devices input (output_seen K.Sink sink.old) (media_seen D.Medium F.Medium drum.old disk.old) link)
-        (devices input (output_seen K.Sink sink.new) (media_seen D.Medium F.Medium drum.new disk.new) link) }
 {
     match make_script(alloc, n) {
         Ok(script) => perform(alloc, &Mode::Load(n), &script, sink, drum, disk),

@@ -45,7 +45,7 @@ pub fn give_all(supervisor: &mut Supervisor, events: &[Timed]) -> Result<(), NoM
 #[derive(Drop)]
 pub struct ScriptRun<'a, 'd, D: Medium, F: Medium> {
     pub supervisor: Supervisor,
-    pub behind: Behind<Image<'a, D>, TrackDirectories<'d, F>>,
+    pub behind: Behind<'a, 'd, D, F>,
     pub ended: Result<(), RunFault>,
 }
 
@@ -64,10 +64,10 @@ pub fn run_script<'a, 'd, D: Medium, F: Medium>(
     ensures drum { (state result.behind.cores).drum.name ≡ (seen D.Medium drum.entry).name }
     ensures disk { (disk_of result.behind.files).ghost_name ≡ disk.entry.ghost_name }
     ensures usable { Lasts result.ended
-        (⟦<Behind<Image<'a, D>, TrackDirectories<'d, F>> as user_cores::Backing>⟧.Usable result.behind) }
+        (⟦<Behind<'a, 'd, D, F> as user_cores::Backing>⟧.Usable result.behind) }
     ensures ran { IsScriptRun script.now (media_seen D.Medium F.Medium drum.old disk.old) result.ended
         (whole_of result.supervisor
-        (⟦<Behind<Image<'a, D>, TrackDirectories<'d, F>> as user_cores::Backing>⟧.state result.behind)) }
+        (⟦<Behind<'a, 'd, D, F> as user_cores::Backing>⟧.state result.behind)) }
 {
     let Begun { run, wrote } = begin(new, script, drum, disk);
     let (mut supervisor, mut behind) = run.into_parts();

@@ -1,10 +1,10 @@
 //! Blocks of users, kept on a drum that is handed in.
-ghost use Rattle.std.specs.Prelude.{◌≡◌, ◌≢◌, ◌<◌, ◌≤◌, ◌↔◌, ℕ, ◌∷◌, length, sum, None, Some, replicate, slice_set, is_err, IfOk, OnOk, OnErr, IsTrue, IsSome, true, false};
-ghost use Rattle.faults.specs.Faults.{Rose};
-ghost use Rattle.medium.specs.Medium.{AreWords, read_call, write_call, with_call};
-ghost use Rattle.drum_slots.specs.Kept.{with_copy, HasCopy, ChangesCopy, Serves};
+ghost use Rattle.std.specs.Prelude.{◌≡◌, ◌≢◌, ◌<◌, ◌≤◌, ◌↔◌, ℕ, ◌∷◌, length, sum, None, replicate, IfOk, IsTrue, IsSome, true};
+ghost use Rattle.medium.specs.Medium.{AreWords};
+ghost use Rattle.drum_slots.specs.Kept.{Serves};
+ghost use Rattle.drum_slots.specs.Moves.{IsServed, PutsBlock, GetsBlock};
 ghost use Rattle.drum_slots.specs.Slots.{slot_of};
-ghost use Rattle.drum_slots.specs.Table.{slots_of, free_of, records_of, next_of, quota_in, place_of, record_of, copies_in};
+ghost use Rattle.drum_slots.specs.Table.{slots_of, free_of, records_of, quota_in, place_of, record_of};
 
 use crate::slots::Slots;
 use ctss_types::UserNo;
@@ -107,35 +107,8 @@ impl<'a, D: Medium> SlotTable<'a, D> {
         requires empty { record_of self.old.slots user block ≡ None }
         requires whole { length from.now ≡ 256 }
         requires words { AreWords from.now }
-        requires serves { Serves (D.contents self.old.drum.now) (D.record_count self.old.drum.now)
-            (D.words_each self.old.drum.now) (records_of self.old.slots) }
-
-        ensures same { self.new.drum.ghost_name ≡ self.old.drum.ghost_name }
-        ensures serves { Serves (D.contents self.new.drum.now) (D.record_count self.new.drum.now)
-            (D.words_each self.new.drum.now) (records_of self.new.slots) }
-        ensures count { D.record_count self.new.drum.now ≡ D.record_count self.old.drum.now }
-        ensures quotas { self.new.slots.quotas ≡ self.old.slots.quotas }
-
-        ensures ok { OnOk result (copies_in (D.contents self.new.drum.now) self.new.slots
-            ≡ with_copy (copies_in (D.contents self.old.drum.now) self.old.slots)
-            (place_of self.old.slots user block) (Some from.now)) }
-        ensures slot { OnOk result (slots_of self.new.slots
-            ≡ slice_set (slots_of self.old.slots) (place_of self.old.slots user block)
-            (Some (next_of self.old.slots))) }
-        ensures free { OnOk result (free_of self.new.slots
-            ≡ slice_set (free_of self.old.slots) (next_of self.old.slots) false) }
-
-        ensures err { OnErr result (copies_in (D.contents self.new.drum.now) self.new.slots
-            ≡ copies_in (D.contents self.old.drum.now) self.old.slots) }
-        ensures slots { OnErr result (self.new.slots ≡ self.old.slots) }
-
-        // One write, at the least free record.
-        ensures calls { D.calls self.new.drum.now
-            ≡ with_call (D.calls self.old.drum.now)
-            (write_call (next_of self.old.slots) (is_err result)) }
-        ensures faults_grow { D.faults self.old.drum.now ≤ D.faults self.new.drum.now }
-        ensures cause { OnErr result
-            (Rose (D.faults self.old.drum.now) (D.faults self.new.drum.now)) }
+        requires serves { IsServed D.Medium self.old }
+        ensures { PutsBlock D.Medium user block from.now result self.old self.new }
     {
         let place = self.slots.key(user, block);
         let at = self.slots.first_free();
@@ -151,39 +124,9 @@ impl<'a, D: Medium> SlotTable<'a, D> {
         requires kept { IsSome (record_of self.old.slots user block) }
         requires whole { length into.old ≡ 256 }
         requires words { AreWords into.old }
-        requires serves { Serves (D.contents self.old.drum.now) (D.record_count self.old.drum.now)
-            (D.words_each self.old.drum.now) (records_of self.old.slots) }
-
-        ensures same { self.new.drum.ghost_name ≡ self.old.drum.ghost_name }
-        ensures serves { Serves (D.contents self.new.drum.now) (D.record_count self.new.drum.now)
-            (D.words_each self.new.drum.now) (records_of self.new.slots) }
-        ensures count { D.record_count self.new.drum.now ≡ D.record_count self.old.drum.now }
-        ensures quotas { self.new.slots.quotas ≡ self.old.slots.quotas }
+        requires serves { IsServed D.Medium self.old }
         ensures words { AreWords into.new }
-
-        ensures given { OnOk result (HasCopy (copies_in (D.contents self.old.drum.now) self.old.slots)
-            (place_of self.old.slots user block) into.new) }
-        ensures ok { OnOk result (copies_in (D.contents self.new.drum.now) self.new.slots
-            ≡ with_copy (copies_in (D.contents self.old.drum.now) self.old.slots)
-            (place_of self.old.slots user block) None) }
-        ensures slot { OnOk result (slots_of self.new.slots
-            ≡ slice_set (slots_of self.old.slots) (place_of self.old.slots user block) None) }
-        ensures free { (at : ℕ) → record_of self.old.slots user block ≡ Some at
-            → OnOk result (free_of self.new.slots ≡ slice_set (free_of self.old.slots) at true) }
-
-        ensures err { OnErr result
-            (ChangesCopy (copies_in (D.contents self.old.drum.now) self.old.slots)
-            (copies_in (D.contents self.new.drum.now) self.new.slots)
-            (place_of self.old.slots user block)) }
-        ensures slots { OnErr result (self.new.slots ≡ self.old.slots) }
-
-        // One read, at the record of the copy.
-        ensures calls { (at : ℕ) → record_of self.old.slots user block ≡ Some at
-            → D.calls self.new.drum.now
-            ≡ with_call (D.calls self.old.drum.now) (read_call at (is_err result) into.new) }
-        ensures faults_grow { D.faults self.old.drum.now ≤ D.faults self.new.drum.now }
-        ensures cause { OnErr result
-            (Rose (D.faults self.old.drum.now) (D.faults self.new.drum.now)) }
+        ensures gets { GetsBlock D.Medium user block into.new result self.old self.new }
     {
         let place = self.slots.key(user, block);
         let Some(at) = self.slots.slot(place) else {

@@ -184,6 +184,37 @@ fn start_of(alloc: Global, cards: &[Card], end: usize, r: &Relocated) -> Result<
     }
 }
 
+/// What cards come to that together tell this.
+fn listed_by(
+    alloc: Global,
+    cards: &[Card],
+    read: &[Card],
+    end: usize,
+    r: &Relocated,
+) -> Result<ListedModule, NoMemory>
+    requires few { length read.now < 2 ^ 32 - 1 }
+    requires end { end ≡ end_index cards.now }
+    requires read { texts read.now ≡ cards_read (texts cards.now) }
+    requires place { r.now.whole.end_place < 2 ^ 33 }
+    requires literals { length r.now.whole.literals < 2 ^ 33 }
+    requires blocks { r.now.whole.blocks < 2 ^ 30 }
+    requires tells { TellsAll r.now (texts read.now) }
+    ensures { IfOk result (λ l. l ≡ listed_module (texts cards.now)) }
+{
+    Ok(ListedModule {
+        rows: rows_of(alloc, read, r)?,
+        symbols: r.whole.symbols.to_list(alloc)?,
+        definitions: definitions_of(alloc, read)?,
+        uses: uses_of(alloc, read)?,
+        entries: entries_of(alloc, read, r)?,
+        externs: r.externs.to_list(alloc)?,
+        literals: r.whole.literals.to_list(alloc)?,
+        end_place: r.whole.end_place,
+        start: start_of(alloc, cards, end, r)?,
+        has_end: end < cards.len(),
+    })
+}
+
 /// What all cards of a module come to: the cards up to the first END are those of the module that `assemble_module` makes, or
 /// that it finds at fault.
 pub fn list_module(alloc: Global, cards: &[Card]) -> Result<ListedModule, NoMemory>
@@ -193,24 +224,5 @@ pub fn list_module(alloc: Global, cards: &[Card]) -> Result<ListedModule, NoMemo
     let end = end_index(cards);
     let read = cards_read(cards, end);
     let r = relocated_of(alloc, read)?;
-    let rows = rows_of(alloc, read, &r)?;
-    let definitions = definitions_of(alloc, read)?;
-    let uses = uses_of(alloc, read)?;
-    let entries = entries_of(alloc, read, &r)?;
-    let start = start_of(alloc, cards, end, &r)?;
-    let symbols = r.whole.symbols.to_list(alloc)?;
-    let literals = r.whole.literals.to_list(alloc)?;
-    let Relocated { whole, externs, .. } = r;
-    Ok(ListedModule {
-        rows,
-        symbols,
-        definitions,
-        uses,
-        entries,
-        externs: externs.into_names(),
-        literals,
-        end_place: whole.end_place,
-        start,
-        has_end: end < cards.len(),
-    })
+    listed_by(alloc, cards, read, end, &r)
 }

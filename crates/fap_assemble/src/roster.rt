@@ -3,7 +3,7 @@ ghost use Rattle.link_model.specs.Weights.{is_among};
 ghost use Rattle.fap_assemble.specs.Rosters.{number_in};
 ghost use Rattle.fap_assemble.specs.Tables.{defined};
 
-use ctss_types::{NoMemory, WordList};
+use ctss_types::{NoMemory, Sequence, WordList};
 use indexmap::IndexMap;
 use std::alloc::Global;
 use std::marker::Model;
@@ -87,6 +87,14 @@ impl Roster {
         ensures { result.now ≡ self.now }
     {
         self.names.as_slice()
+    }
+
+    /// The names in a list.
+    pub(crate) fn to_list(&self, alloc: Global) -> Result<WordList, NoMemory>
+        ensures { IfOk result (λ list. list ≡ self.now) }
+    {
+        let names = self.names.as_slice().to_vec(alloc)?;
+        Ok(Sequence::from_vec(names))
     }
 
     /// The names alone.

@@ -1,6 +1,9 @@
 -- proof: what a port over a directory on tracks shows.
-use Rattle.std.specs.Prelude.{◌≡◌, ℕ, ◌++◌, ◌%◌, Bool, List, take, drop, length, Option}
+use Rattle.std.specs.Prelude.{◌≡◌, ℕ, ◌++◌, ◌%◌, Bool, List, take, drop, length, Option, IsErrOf}
+use Rattle.std.specs.declared.result.Result.{Result}
 use Rattle.ctss_types.specs.declared.file.FileBody.{FileBody}
+use Rattle.file_map.specs.declared.fault.PortFault.{PortFault}
+use Rattle.file_map.specs.declared.fault.PortFault.TheVariants.{Disk}
 use Rattle.medium.specs.Medium.{CallList}
 use Rattle.medium.specs.declared.medium.Medium.{Ghosts}
 use Rattle.track_store.specs.Words.{Gave}
@@ -32,6 +35,12 @@ module _ {F : Type 0} (g : Ghosts F) where
       (a.table.ghost_name ≡ b.table.ghost_name) × (a.store.ghost_name ≡ b.store.ghost_name) × (a.store.now.disk.ghost_name ≡ b.store.now.disk.ghost_name)
       × Goes (g.contents a.store.now.disk.now) (g.contents b.store.now.disk.now) a.store.now.tracks.taken.items b.store.now.tracks.taken.items
       (g.faults a.store.now.disk.now) (g.faults b.store.now.disk.now) a.table.now b.table.now a.has_failed b.has_failed
+
+  -- Unless the disk failed, a call left the files as they were, the disk tells its records as before, and no call has failed there.
+  pub record StaysUsable {T : Type 0} (result : Result T PortFault) (old new : TrackPort F) : Type 0 where
+    pub left : ¬ IsErrOf result Disk → files_in new ≡ files_in old
+    pub telling : ¬ IsErrOf result Disk → tells_in new ≡ tells_in old
+    pub usable : ¬ IsErrOf result Disk → Usable new
 
 -- all words of a file are the first that the disk's reads gave between two moments
 abbrev pub GaveFirst : (was now : Option CallList) → List ℕ → Type 0

@@ -3,7 +3,7 @@ ghost use Rattle.std.specs.Prelude.{◌≡◌, ◌<◌, ◌^◌, true, false, le
 ghost use Rattle.faults.specs.Faults.{Rose};
 ghost use Rattle.file_model.specs.Files.{got, read};
 ghost use Rattle.file_map.specs.Known.{AnswersOver};
-ghost use Rattle.file_tracks.specs.Ported.{files_in, tells_in, calls_in, faults_in, GaveFirst, GavePart};
+ghost use Rattle.file_tracks.specs.Ported.{files_in, tells_in, calls_in, faults_in, StaysUsable, GaveFirst, GavePart};
 ghost use Rattle.file_tracks.specs.Ported.{Usable as Sound, Keeps as Stands};
 
 use crate::deleting::delete_in;
@@ -68,9 +68,7 @@ impl<F: Medium> FilePort for TrackPort<'_, '_, F> {
         requires usable { Sound F.Medium self.old }
         ensures answer { AnswersOver (tells_in F.Medium self.old) (files_in F.Medium self.old) result
             (read name place count) }
-        ensures left { ¬ IsErrOf result PortFault.Disk → files_in F.Medium self.new ≡ files_in F.Medium self.old }
-        ensures telling { ¬ IsErrOf result PortFault.Disk → tells_in F.Medium self.new ≡ tells_in F.Medium self.old }
-        ensures usable { ¬ IsErrOf result PortFault.Disk → Sound F.Medium self.new }
+        ensures stays { StaysUsable F.Medium result self.old self.new }
         ensures keeps { Stands F.Medium self.old self.new }
         ensures cause { IsErrOf result PortFault.Disk
             → Rose (faults_in F.Medium self.old) (faults_in F.Medium self.new) }
@@ -87,9 +85,7 @@ impl<F: Medium> FilePort for TrackPort<'_, '_, F> {
         requires usable { Sound F.Medium self.old }
         ensures answer { AnswersOver (tells_in F.Medium self.old) (files_in F.Medium self.old) result (got name) }
         ensures bound { IfOk result (λ words. length words < 2 ^ 32) }
-        ensures left { ¬ IsErrOf result PortFault.Disk → files_in F.Medium self.new ≡ files_in F.Medium self.old }
-        ensures telling { ¬ IsErrOf result PortFault.Disk → tells_in F.Medium self.new ≡ tells_in F.Medium self.old }
-        ensures usable { ¬ IsErrOf result PortFault.Disk → Sound F.Medium self.new }
+        ensures stays { StaysUsable F.Medium result self.old self.new }
         ensures keeps { Stands F.Medium self.old self.new }
         ensures cause { IsErrOf result PortFault.Disk
             → Rose (faults_in F.Medium self.old) (faults_in F.Medium self.new) }

@@ -8,7 +8,7 @@ use Rattle.std.specs.Prelude.{Result, Ok, Err, OnErr, OnOk, IsOk, IsSome}
 use Rattle.drum_slots.specs.Keys.{key}
 use Rattle.drum_slots.specs.Slots.{slot_of, first_free}
 use Rattle.image_map.proofs.Moves.{eq_yes, eq_no}
-use Rattle.medium.specs.Medium.{write_call}
+use Rattle.medium.specs.Medium.{read_call, write_call}
 use Rattle.onion_swap.specs.Places.{owner_of, base_of}
 use Rattle.image_map.specs.Loads.{BlockMap, dumped, emptied, put_to, put_calls_one, put_calls_to, taken, load_one, fetch_calls, dump_calls, load_to, calls_one, calls_to, with_calls, cut, FailedIn}
 
@@ -39,40 +39,59 @@ pub either_way : {T E : Type 0} (r : Result T E) (A B P : Type 0) → OnOk r A �
 either_way (Ok x) A B P a b f g = f refl a
 either_way (Err e) A B P a b f g = g b
 
+-- a fault in the first of some calls, and in those behind them
+
+pub failed_left : (one two : List Call) (old new : Option CallList) → FailedIn old new one → FailedIn old new (one ++ two)
+failed_left one two old new fault =
+    let len : length (one ++ two) ≡ length one + length two = length-append one two in
+    let place : fault.0 < length (one ++ two) = omega (arith, fault.1.0) in
+    (fault.0, (place, fault.1.1 ∙ ap (λ (l : List Call). with_calls old l) (sym (cut-append_left one two fault.0 fault.1.0))))
+
+pub failed_right : (one two : List Call) (old now new : Option CallList) → now ≡ with_calls old one → FailedIn now new two → FailedIn old new (one ++ two)
+failed_right one two old now new so_far fault =
+    let at = cut_at one two fault.0 in
+    let len : length (one ++ two) ≡ length one + length two = length-append one two in
+    let place : at.0 < length (one ++ two) = omega (arith, at.1.0, fault.1.0) in (
+      at.0,
+      (
+        place,
+        fault.1.1 ∙ ap (λ (o : Option CallList). with_calls o (cut two fault.0)) so_far
+            ∙ sym (with_calls-append old one (cut two fault.0)) ∙ ap (λ (l : List Call). with_calls old l) (sym at.1.1),
+      ),
+    )
+
 -- a dump failed
 pub dump_failed : (quotas bases : List ℕ) (h : BlockMap) (u b : ℕ) (ws : List ℕ) (old new : Option CallList) → owner_of h.owners (base_of bases u + b) ≢ u → owner_of h.owners (base_of bases u + b) ≢ 0
-    → new ≡ with_call old (record { is_write = true; at = first_free h.free; failed = true; words = [] }) → FailedIn old new (calls_one quotas bases h u b ws)
+    → FailedIn old new (write_call (first_free h.free) false ∷ []) → FailedIn old new (calls_one quotas bases h u b ws)
 dump_failed quotas bases h u b ws old new other some is =
-    let e : calls_one quotas bases h u b ws ≡ write_call (first_free h.free) false ∷ fetch_calls (slot_of (emptied quotas bases h (base_of bases u + b)).slots (key quotas u b)) ws = rw (eq_no _ _ other, eq_no _ _ some) refl in
-    subst (λ (l : List Call). FailedIn old new l) (sym e) (0, (omega arith, is))
+    let rest : List Call = fetch_calls (slot_of (emptied quotas bases h (base_of bases u + b)).slots (key quotas u b)) ws in
+    let e : calls_one quotas bases h u b ws ≡ write_call (first_free h.free) false ∷ rest = rw (eq_no _ _ other, eq_no _ _ some) refl in
+    subst (λ (l : List Call). FailedIn old new l) (sym e) (failed_left (write_call (first_free h.free) false ∷ []) rest old new is)
 
 -- a read failed
-pub fetch_failed : (quotas bases : List ℕ) (h : BlockMap) (u b at : ℕ) (ws : List ℕ) (old mid new : Option CallList) → owner_of h.owners (base_of bases u + b) ≢ u
-    → mid ≡ with_calls old (dump_calls h (base_of bases u + b)) → slot_of (emptied quotas bases h (base_of bases u + b)).slots (key quotas u b) ≡ Some at
-    → new ≡ with_call mid (record { is_write = false; at = at; failed = true; words = [] }) → FailedIn old new (calls_one quotas bases h u b ws)
-fetch_failed quotas bases h u b at ws old mid new other so_far slot is =
-    let call : Call = record { is_write = false; at = at; failed = false; words = ws } in
-    let bad : Call = record { is_write = false; at = at; failed = true; words = [] } in
-    let one : calls_one quotas bases h u b ws ≡ dump_calls h (base_of bases u + b) ++ fetch_calls (slot_of (emptied quotas bases h (base_of bases u + b)).slots (key quotas u b)) ws = rw (eq_no _ _ other) refl in
-    let e : calls_one quotas bases h u b ws ≡ dump_calls h (base_of bases u + b) ++ call ∷ [] = one ∙ ap (λ (o : Option ℕ). dump_calls h (base_of bases u + b) ++ fetch_calls o ws) slot in
-    let found = cut_at (dump_calls h (base_of bases u + b)) (call ∷ []) 0 in
-    let len : length (dump_calls h (base_of bases u + b) ++ call ∷ []) ≡ length (dump_calls h (base_of bases u + b)) + 1 = length-append (dump_calls h (base_of bases u + b)) (call ∷ []) in
-    let inside : found.0 < length (dump_calls h (base_of bases u + b) ++ call ∷ []) = omega (arith, found.1.0) in
-    let made : new ≡ with_calls old (cut (dump_calls h (base_of bases u + b) ++ call ∷ []) found.0) =
-    is ∙ ap (λ (o : Option CallList). with_call o bad) so_far ∙ sym (with_calls-append old (dump_calls h (base_of bases u + b)) (bad ∷ [])) ∙ ap (λ (l : List Call). with_calls old l) (sym found.1.1) in
-    subst (λ (l : List Call). FailedIn old new l) (sym e) (found.0, (inside, made))
+pub fetch_failed : (quotas bases : List ℕ) (h : BlockMap) (u b : ℕ) (ws : List ℕ) (old mid new : Option CallList) (hm : BlockMap) (qm : List ℕ) → owner_of h.owners (base_of bases u + b) ≢ u
+    → hm ≡ emptied quotas bases h (base_of bases u + b) → qm ≡ quotas → mid ≡ with_calls old (dump_calls h (base_of bases u + b))
+    → FailedIn mid new (fetch_calls (slot_of hm.slots (key qm u b)) ws) → FailedIn old new (calls_one quotas bases h u b ws)
+fetch_failed quotas bases h u b ws old mid new hm qm other held same so_far is =
+    let front : List Call = dump_calls h (base_of bases u + b) in
+    let rest : List Call = fetch_calls (slot_of (emptied quotas bases h (base_of bases u + b)).slots (key quotas u b)) ws in
+    let e : calls_one quotas bases h u b ws ≡ front ++ rest = rw (eq_no _ _ other) refl in
+    let here : FailedIn mid new rest = subst (λ (l : List Call). FailedIn mid new l) (λ j. fetch_calls (slot_of (held j).slots (key (same j) u b)) ws) is in
+    subst (λ (l : List Call). FailedIn old new l) (sym e) (failed_right front rest old mid new so_far here)
 
-some_from : (o : Option ℕ) → IsSome o → (at : ℕ) × (o ≡ Some at)
-some_from None is = let no : false ≡ true = is in absurd (cc)
-some_from (Some at) is = (at, refl)
+-- a copy that there is was read
+pub fetched_map : (quotas bases : List ℕ) (h : BlockMap) (u b : ℕ) (o : Option ℕ) (now : BlockMap) → IsSome o → now.owners ≡ slice_set h.owners (base_of bases u + b) u
+    → now.slots ≡ slice_set h.slots (key quotas u b) None → ((at : ℕ) → o ≡ Some at → now.free ≡ slice_set h.free at true) → now ≡ taken quotas bases h u b o
+fetched_map quotas bases h u b None now is owners slots free = let no : false ≡ true = is in absurd (cc)
+fetched_map quotas bases h u b (Some at) now is owners slots free = λ j. record { owners = owners j; slots = slots j; free = free at refl j }
 
-pub fetch_failed_from : (quotas bases : List ℕ) (h : BlockMap) (u b : ℕ) (ws : List ℕ) (old mid new : Option CallList) (hm : BlockMap) (qm : List ℕ) → owner_of h.owners (base_of bases u + b) ≢ u
-    → hm ≡ emptied quotas bases h (base_of bases u + b) → qm ≡ quotas → mid ≡ with_calls old (dump_calls h (base_of bases u + b)) → IsSome (slot_of hm.slots (key qm u b))
-    → ((at : ℕ) → slot_of hm.slots (key qm u b) ≡ Some at → new ≡ with_call mid (record { is_write = false; at = at; failed = true; words = [] }))
-    → FailedIn old new (calls_one quotas bases h u b ws)
-fetch_failed_from quotas bases h u b ws old mid new hm qm other held same so_far kept is =
-    let found = some_from (slot_of hm.slots (key qm u b)) kept in
-    fetch_failed quotas bases h u b found.0 ws old mid new other so_far ((λ j. slot_of (sym held j).slots (key (sym same j) u b)) ∙ found.1) (is found.0 found.1)
+pub fetched_calls : (o : Option ℕ) (ws : List ℕ) (old new : Option CallList) → IsSome o → ((at : ℕ) → o ≡ Some at → new ≡ with_call old (read_call at false ws)) → new ≡ with_calls old (fetch_calls o ws)
+fetched_calls None ws old new is made = let no : false ≡ true = is in absurd (cc)
+fetched_calls (Some at) ws old new is made = made at refl
+
+pub fetched_fault : (o : Option ℕ) (ws : List ℕ) (old new : Option CallList) → IsSome o → ((at : ℕ) → o ≡ Some at → new ≡ with_call old (read_call at true ws)) → FailedIn old new (fetch_calls o ws)
+fetched_fault None ws old new is made = let no : false ≡ true = is in absurd (cc)
+fetched_fault (Some at) ws old new is made = (0, (omega arith, made at refl))
 
 -- what a dump leaves, where the block has another owner or none
 pub emptied_none : (quotas bases : List ℕ) (h : BlockMap) (b : ℕ) → owner_of h.owners b ≡ 0 → emptied quotas bases h b ≡ h
@@ -109,27 +128,6 @@ calls_same quotas bases h u (suc b) one two same =
     let front = calls_same quotas bases h u b one two (λ c below. same c (omega arith)) in
     let last = same b (omega arith) in
     λ i. front i ++ calls_one quotas bases (load_to quotas bases h u b) u b (last i)
-
--- a fault in the first of some calls, and in those behind them
-
-pub failed_left : (one two : List Call) (old new : Option CallList) → FailedIn old new one → FailedIn old new (one ++ two)
-failed_left one two old new fault =
-    let len : length (one ++ two) ≡ length one + length two = length-append one two in
-    let place : fault.0 < length (one ++ two) = omega (arith, fault.1.0) in
-    (fault.0, (place, fault.1.1 ∙ ap (λ (l : List Call). with_calls old l) (sym (cut-append_left one two fault.0 fault.1.0))))
-
-pub failed_right : (one two : List Call) (old now new : Option CallList) → now ≡ with_calls old one → FailedIn now new two → FailedIn old new (one ++ two)
-failed_right one two old now new so_far fault =
-    let at = cut_at one two fault.0 in
-    let len : length (one ++ two) ≡ length one + length two = length-append one two in
-    let place : at.0 < length (one ++ two) = omega (arith, at.1.0, fault.1.0) in (
-      at.0,
-      (
-        place,
-        fault.1.1 ∙ ap (λ (o : Option CallList). with_calls o (cut two fault.0)) so_far
-            ∙ sym (with_calls-append old one (cut two fault.0)) ∙ ap (λ (l : List Call). with_calls old l) (sym at.1.1),
-      ),
-    )
 
 -- a fault at block b is a fault in the whole list
 pub failed_on : (quotas bases : List ℕ) (h : BlockMap) (u b n : ℕ) (words : ℕ → List ℕ) (old now new : Option CallList)
@@ -183,11 +181,10 @@ put_calls_more quotas bases h u m (suc n) le = elim (cases_eq m (suc n)) [
 ]
 
 -- to put one failed
-pub put_failed : (h : BlockMap) (u q : ℕ) (old new : Option CallList) → owner_of h.owners q ≡ u
-    → new ≡ with_call old (record { is_write = true; at = first_free h.free; failed = true; words = [] }) → FailedIn old new (put_calls_one h u q)
+pub put_failed : (h : BlockMap) (u q : ℕ) (old new : Option CallList) → owner_of h.owners q ≡ u → FailedIn old new (write_call (first_free h.free) false ∷ []) → FailedIn old new (put_calls_one h u q)
 put_failed h u q old new mine is =
     let e : put_calls_one h u q ≡ write_call (first_free h.free) false ∷ [] = rw (eq_yes _ _ mine) refl in
-    subst (λ (l : List Call). FailedIn old new l) (sym e) (0, (omega arith, is))
+    subst (λ (l : List Call). FailedIn old new l) (sym e) is
 
 -- one more place was put
 pub put_calls_step : (quotas bases : List ℕ) (h : BlockMap) (u q : ℕ) (old mid new : Option CallList) (hm : BlockMap)

@@ -4,6 +4,8 @@ pub mod Counted
 pub mod Images
 pub mod Laid
 pub mod Loaded
+pub mod Loading
+pub mod Moved
 pub mod Moves
 pub mod Ports
 pub mod Put

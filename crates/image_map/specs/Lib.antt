@@ -2,8 +2,11 @@ pub mod Blocks
 pub mod Image
 pub mod Images
 pub mod Loads
+pub mod Moves
 pub mod Places
 pub mod Residents
 pub mod Room
 pub mod State
+pub mod Stores
+pub mod Transfer
 pub mod Windows

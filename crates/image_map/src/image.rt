@@ -1,17 +1,14 @@
 //! What each user has in core and on the drum.
-ghost use Rattle.std.specs.Prelude.{◌≡◌, ◌≢◌, ◌⊎◌, ◌<◌, ◌≤◌, ◌+◌, ◌++◌, ◌↔◌, ℕ, [], ◌∷◌, length, sum, true, false, None, Some, slice_set, replicate, is_err, IfOk, OnOk, OnErr, IsSome, IsTrue};
+ghost use Rattle.std.specs.Prelude.{◌≡◌, ◌≢◌, ◌⊎◌, ◌<◌, ◌≤◌, ◌+◌, ◌↔◌, ℕ, [], length, sum, true, false, None, replicate, IfOk, OnOk, IsSome, IsTrue};
 ghost use Rattle.std.specs.List.{All};
-ghost use Rattle.faults.specs.Faults.{Rose};
-ghost use Rattle.medium.specs.Medium.{read_call, write_call, with_call};
 ghost use Rattle.core_bank.specs.Bank.{AreWords, block_at};
 ghost use Rattle.drum_slots.specs.Kept.{Serves};
-ghost use Rattle.drum_slots.specs.Keys.{quota_of};
 ghost use Rattle.drum_slots.specs.Slots.{slot_of};
-ghost use Rattle.drum_slots.specs.Table.{slots_of, records_of, next_of, quota_in, record_of};
-ghost use Rattle.onion_swap.specs.Places.{owner_of, base_of};
-ghost use Rattle.plan_model.specs.Loads.{core_places, stays, is_moved, base_for, dumps, reads, clears, is_loaded, loaded, given_up};
-ghost use Rattle.image_map.specs.Images.{size_of, image_in, resized, IsResident, IsImage};
-ghost use Rattle.image_map.specs.Loads.{block_map_of, dumped, put_one, put_to, put_calls_one, put_calls_to, taken, load_one, load_to, calls_one, calls_to, map_before, bases_before, calls_before, with_calls, count_writes, count_reads, FailedIn};
+ghost use Rattle.drum_slots.specs.Table.{slots_of, quota_in, record_of};
+ghost use Rattle.onion_swap.specs.Places.{owner_of};
+ghost use Rattle.plan_model.specs.Loads.{core_places, stays, is_moved, base_for, dumps, reads, clears, is_loaded, loaded};
+ghost use Rattle.image_map.specs.Images.{size_of, IsResident, IsImage};
+ghost use Rattle.image_map.specs.Loads.{bases_before};
 ghost use Rattle.image_map.specs.Places.{places_of};
 
 use crate::port::Port;
@@ -220,45 +217,19 @@ impl<'a, D: Medium> Image<'a, D> {
 }
 
 impl<'a, D: Medium> Image<'a, D> {
-    ghost use Rattle.image_map.specs.State.{quota, IsUsable, Resizes, Replaces, Loads};
+    ghost use Rattle.image_map.specs.State.{base as base_in, size, quota, IsUsable, Resizes, Replaces, Loads};
     ghost use Rattle.image_map.specs.Image.{state, drum_of};
+    ghost use Rattle.image_map.specs.Moves.{a_dump, a_fetch, a_put, puts_below, a_laying, a_loading, loads_below, a_load, CanMove, IsVacant, IsPlanned, MakesMove, TakesBlank};
 
     /// Writes what lies at a place to the drum. The place has no owner then.
     fn dump_block(&mut self, owner: UserNo, place: u8) -> Result<(), DrumFault>
         requires some { 1 ≤ owner }
         requires place { place < 128 }
         requires owned { owner_of self.old.tables.owners.owners place ≡ owner }
-        requires words { AreWords self.old.bank }
-        requires serves { Serves (D.contents self.old.tables.kept.drum.now)
-            (D.record_count self.old.tables.kept.drum.now)
-            (D.words_each self.old.tables.kept.drum.now) (records_of self.old.tables.kept.slots) }
-
-        ensures same { self.new.tables.kept.drum.ghost_name ≡ self.old.tables.kept.drum.ghost_name }
-        ensures serves { Serves (D.contents self.new.tables.kept.drum.now)
-            (D.record_count self.new.tables.kept.drum.now)
-            (D.words_each self.new.tables.kept.drum.now) (records_of self.new.tables.kept.slots) }
-        ensures quotas { self.new.tables.kept.slots.quotas ≡ self.old.tables.kept.slots.quotas }
-        ensures sizes { self.new.tables.sizes ≡ self.old.tables.sizes }
-        ensures usable { self.new.failed ≡ self.old.failed }
+        requires ready { CanMove self.old }
+        ensures moves { MakesMove (a_dump (state self.old) owner place) result self.old self.new }
         ensures bank { self.new.bank ≡ self.old.bank }
         ensures bases { self.new.tables.owners.bases ≡ self.old.tables.owners.bases }
-
-        ensures block_map { OnOk result (block_map_of self.new.tables.owners.owners self.new.tables.kept.slots
-            ≡ dumped self.old.tables.kept.slots.quotas.items self.old.tables.owners.bases
-            (block_map_of self.old.tables.owners.owners self.old.tables.kept.slots) owner place) }
-        ensures images { OnOk result ((u : ℕ) → 1 ≤ u
-            → image_in self.new.bank (D.contents self.new.tables.kept.drum.now) self.new.tables.owners
-            self.new.tables.kept.slots self.new.tables.sizes.items u
-            ≡ image_in self.old.bank (D.contents self.old.tables.kept.drum.now) self.old.tables.owners
-            self.old.tables.kept.slots self.old.tables.sizes.items u) }
-
-        // One write, at the least free record.
-        ensures calls { D.calls self.new.tables.kept.drum.now
-            ≡ with_call (D.calls self.old.tables.kept.drum.now)
-            (write_call (next_of self.old.tables.kept.slots) (is_err result)) }
-        ensures faults_grow { D.faults self.old.tables.kept.drum.now ≤ D.faults self.new.tables.kept.drum.now }
-        ensures cause { OnErr result
-            (Rose (D.faults self.old.tables.kept.drum.now) (D.faults self.new.tables.kept.drum.now)) }
     {
         let tables = &mut self.tables;
         let block = tables.owners.block(owner, place);
@@ -269,47 +240,14 @@ impl<'a, D: Medium> Image<'a, D> {
 
     /// Reads the copy of a user's block into core.
     fn fetch_block(&mut self, user: UserNo, block: u8) -> Result<(), DrumFault>
-        requires inside { block < size_of self.old.tables.sizes.items user }
-        requires room { base_of self.old.tables.owners.bases user + block < 128 }
-        requires owned { owner_of self.old.tables.owners.owners
-            (base_of self.old.tables.owners.bases user + block) ≡ 0 }
+        requires vacant { IsVacant user block self.old }
         requires kept { IsSome (record_of self.old.tables.kept.slots user block) }
-        requires words { AreWords self.old.bank }
-        requires serves { Serves (D.contents self.old.tables.kept.drum.now)
-            (D.record_count self.old.tables.kept.drum.now)
-            (D.words_each self.old.tables.kept.drum.now) (records_of self.old.tables.kept.slots) }
-
-        ensures same { self.new.tables.kept.drum.ghost_name ≡ self.old.tables.kept.drum.ghost_name }
-        ensures serves { Serves (D.contents self.new.tables.kept.drum.now)
-            (D.record_count self.new.tables.kept.drum.now)
-            (D.words_each self.new.tables.kept.drum.now) (records_of self.new.tables.kept.slots) }
-        ensures quotas { self.new.tables.kept.slots.quotas ≡ self.old.tables.kept.slots.quotas }
-        ensures sizes { self.new.tables.sizes ≡ self.old.tables.sizes }
-        ensures usable { self.new.failed ≡ self.old.failed }
-        ensures words { AreWords self.new.bank }
+        requires ready { CanMove self.old }
+        ensures moves { MakesMove (a_fetch (state self.old) user block
+            (block_at self.new.bank (base_in (state self.old) user + block))) result self.old self.new }
         ensures bases { self.new.tables.owners.bases ≡ self.old.tables.owners.bases }
-        ensures others { (q : ℕ) → q ≢ base_of self.old.tables.owners.bases user + block
+        ensures others { (q : ℕ) → q ≢ base_in (state self.old) user + block
             → block_at self.new.bank q ≡ block_at self.old.bank q }
-
-        ensures block_map { (at : ℕ) → record_of self.old.tables.kept.slots user block ≡ Some at
-            → OnOk result (block_map_of self.new.tables.owners.owners self.new.tables.kept.slots
-            ≡ taken self.old.tables.kept.slots.quotas.items self.old.tables.owners.bases
-            (block_map_of self.old.tables.owners.owners self.old.tables.kept.slots) user block (Some at)) }
-        ensures images { OnOk result ((u : ℕ) → 1 ≤ u
-            → image_in self.new.bank (D.contents self.new.tables.kept.drum.now) self.new.tables.owners
-            self.new.tables.kept.slots self.new.tables.sizes.items u
-            ≡ image_in self.old.bank (D.contents self.old.tables.kept.drum.now) self.old.tables.owners
-            self.old.tables.kept.slots self.old.tables.sizes.items u) }
-
-        // One read, at the record of the copy.
-        ensures calls { (at : ℕ) → record_of self.old.tables.kept.slots user block ≡ Some at
-            → D.calls self.new.tables.kept.drum.now
-            ≡ with_call (D.calls self.old.tables.kept.drum.now)
-            (read_call at (is_err result)
-            (block_at self.new.bank (base_of self.old.tables.owners.bases user + block))) }
-        ensures faults_grow { D.faults self.old.tables.kept.drum.now ≤ D.faults self.new.tables.kept.drum.now }
-        ensures cause { OnErr result
-            (Rose (D.faults self.old.tables.kept.drum.now) (D.faults self.new.tables.kept.drum.now)) }
     {
         // So it is known that the number is not 0.
         let _number = user.number();
@@ -322,26 +260,10 @@ impl<'a, D: Medium> Image<'a, D> {
 
     /// Brings a user's block of which there is no copy into core, as plus zeros.
     fn clear(&mut self, user: UserNo, block: u8)
-        requires inside { block < size_of self.old.tables.sizes.items user }
-        requires room { base_of self.old.tables.owners.bases user + block < 128 }
-        requires owned { owner_of self.old.tables.owners.owners
-            (base_of self.old.tables.owners.bases user + block) ≡ 0 }
+        requires vacant { IsVacant user block self.old }
         requires none { record_of self.old.tables.kept.slots user block ≡ None }
         requires words { AreWords self.old.bank }
-        ensures table { self.new.tables.kept ≡ self.old.tables.kept }
-        ensures sizes { self.new.tables.sizes ≡ self.old.tables.sizes }
-        ensures usable { self.new.failed ≡ self.old.failed }
-        ensures words { AreWords self.new.bank }
-        ensures bases { self.new.tables.owners.bases ≡ self.old.tables.owners.bases }
-        ensures others { (q : ℕ) → q ≢ base_of self.old.tables.owners.bases user + block
-            → block_at self.new.bank q ≡ block_at self.old.bank q }
-        ensures owners { self.new.tables.owners.owners ≡ slice_set self.old.tables.owners.owners
-            (base_of self.old.tables.owners.bases user + block) user }
-        ensures images { (u : ℕ) → 1 ≤ u
-            → image_in self.new.bank (D.contents self.new.tables.kept.drum.now) self.new.tables.owners
-            self.new.tables.kept.slots self.new.tables.sizes.items u
-            ≡ image_in self.old.bank (D.contents self.old.tables.kept.drum.now) self.old.tables.owners
-            self.old.tables.kept.slots self.old.tables.sizes.items u }
+        ensures { TakesBlank user block self.old self.new }
     {
         // So it is known that the number is not 0.
         let _number = user.number();
@@ -354,38 +276,10 @@ impl<'a, D: Medium> Image<'a, D> {
     /// Writes what lies at a place to the drum, where the user owns it.
     fn put_place(&mut self, user: UserNo, place: u8) -> Result<(), DrumFault>
         requires place { place < 128 }
-        requires words { AreWords self.old.bank }
-        requires serves { Serves (D.contents self.old.tables.kept.drum.now)
-            (D.record_count self.old.tables.kept.drum.now)
-            (D.words_each self.old.tables.kept.drum.now) (records_of self.old.tables.kept.slots) }
-
-        ensures same { self.new.tables.kept.drum.ghost_name ≡ self.old.tables.kept.drum.ghost_name }
-        ensures serves { Serves (D.contents self.new.tables.kept.drum.now)
-            (D.record_count self.new.tables.kept.drum.now)
-            (D.words_each self.new.tables.kept.drum.now) (records_of self.new.tables.kept.slots) }
-        ensures quotas { self.new.tables.kept.slots.quotas ≡ self.old.tables.kept.slots.quotas }
-        ensures sizes { self.new.tables.sizes ≡ self.old.tables.sizes }
-        ensures usable { self.new.failed ≡ self.old.failed }
+        requires ready { CanMove self.old }
+        ensures moves { MakesMove (a_put (state self.old) user place) result self.old self.new }
         ensures bank { self.new.bank ≡ self.old.bank }
         ensures bases { self.new.tables.owners.bases ≡ self.old.tables.owners.bases }
-
-        ensures block_map { OnOk result (block_map_of self.new.tables.owners.owners self.new.tables.kept.slots
-            ≡ put_one self.old.tables.kept.slots.quotas.items self.old.tables.owners.bases
-            (block_map_of self.old.tables.owners.owners self.old.tables.kept.slots) user place) }
-        ensures images { OnOk result ((u : ℕ) → 1 ≤ u
-            → image_in self.new.bank (D.contents self.new.tables.kept.drum.now) self.new.tables.owners
-            self.new.tables.kept.slots self.new.tables.sizes.items u
-            ≡ image_in self.old.bank (D.contents self.old.tables.kept.drum.now) self.old.tables.owners
-            self.old.tables.kept.slots self.old.tables.sizes.items u) }
-        ensures calls { OnOk result (D.calls self.new.tables.kept.drum.now
-            ≡ with_calls (D.calls self.old.tables.kept.drum.now)
-            (put_calls_one (block_map_of self.old.tables.owners.owners self.old.tables.kept.slots) user place)) }
-        ensures failed { OnErr result (FailedIn (D.calls self.old.tables.kept.drum.now)
-            (D.calls self.new.tables.kept.drum.now)
-            (put_calls_one (block_map_of self.old.tables.owners.owners self.old.tables.kept.slots) user place)) }
-        ensures faults_grow { D.faults self.old.tables.kept.drum.now ≤ D.faults self.new.tables.kept.drum.now }
-        ensures cause { OnErr result
-            (Rose (D.faults self.old.tables.kept.drum.now) (D.faults self.new.tables.kept.drum.now)) }
     {
         if self.tables.owners.owner(place) == user.number() {
             self.dump_block(user, place)?;
@@ -395,41 +289,11 @@ impl<'a, D: Medium> Image<'a, D> {
 
     /// Writes all that a user has in core to the drum, in rising order.
     fn put_out(&mut self, user: UserNo) -> Result<(), DrumFault>
-        requires words { AreWords self.old.bank }
-        requires serves { Serves (D.contents self.old.tables.kept.drum.now)
-            (D.record_count self.old.tables.kept.drum.now)
-            (D.words_each self.old.tables.kept.drum.now) (records_of self.old.tables.kept.slots) }
-
-        ensures same { self.new.tables.kept.drum.ghost_name ≡ self.old.tables.kept.drum.ghost_name }
-        ensures serves { Serves (D.contents self.new.tables.kept.drum.now)
-            (D.record_count self.new.tables.kept.drum.now)
-            (D.words_each self.new.tables.kept.drum.now) (records_of self.new.tables.kept.slots) }
-        ensures quotas { self.new.tables.kept.slots.quotas ≡ self.old.tables.kept.slots.quotas }
-        ensures sizes { self.new.tables.sizes ≡ self.old.tables.sizes }
-        ensures usable { self.new.failed ≡ self.old.failed }
+        requires ready { CanMove self.old }
+        ensures moves { MakesMove (puts_below (state self.old) user core_places) result self.old self.new }
+        ensures none { OnOk result ((q : ℕ) → owner_of self.new.tables.owners.owners q ≢ user) }
         ensures bank { self.new.bank ≡ self.old.bank }
         ensures bases { self.new.tables.owners.bases ≡ self.old.tables.owners.bases }
-
-        ensures block_map { OnOk result (block_map_of self.new.tables.owners.owners self.new.tables.kept.slots
-            ≡ put_to self.old.tables.kept.slots.quotas.items self.old.tables.owners.bases
-            (block_map_of self.old.tables.owners.owners self.old.tables.kept.slots) user core_places) }
-        ensures none { OnOk result ((q : ℕ) → owner_of self.new.tables.owners.owners q ≢ user) }
-        ensures images { OnOk result ((u : ℕ) → 1 ≤ u
-            → image_in self.new.bank (D.contents self.new.tables.kept.drum.now) self.new.tables.owners
-            self.new.tables.kept.slots self.new.tables.sizes.items u
-            ≡ image_in self.old.bank (D.contents self.old.tables.kept.drum.now) self.old.tables.owners
-            self.old.tables.kept.slots self.old.tables.sizes.items u) }
-        ensures calls { OnOk result (D.calls self.new.tables.kept.drum.now
-            ≡ with_calls (D.calls self.old.tables.kept.drum.now)
-            (put_calls_to self.old.tables.kept.slots.quotas.items self.old.tables.owners.bases
-            (block_map_of self.old.tables.owners.owners self.old.tables.kept.slots) user core_places)) }
-        ensures failed { OnErr result (FailedIn (D.calls self.old.tables.kept.drum.now)
-            (D.calls self.new.tables.kept.drum.now)
-            (put_calls_to self.old.tables.kept.slots.quotas.items self.old.tables.owners.bases
-            (block_map_of self.old.tables.owners.owners self.old.tables.kept.slots) user core_places)) }
-        ensures faults_grow { D.faults self.old.tables.kept.drum.now ≤ D.faults self.new.tables.kept.drum.now }
-        ensures cause { OnErr result
-            (Rose (D.faults self.old.tables.kept.drum.now) (D.faults self.new.tables.kept.drum.now)) }
     {
         // So it is known that the number is not 0.
         let _number = user.number();
@@ -444,41 +308,11 @@ impl<'a, D: Medium> Image<'a, D> {
     fn lay(&mut self, user: UserNo, base: u8, stay: bool) -> Result<(), DrumFault>
         requires user { user < length self.old.tables.sizes.items }
         requires inside { base < 128 }
-        requires words { AreWords self.old.bank }
-        requires serves { Serves (D.contents self.old.tables.kept.drum.now)
-            (D.record_count self.old.tables.kept.drum.now)
-            (D.words_each self.old.tables.kept.drum.now) (records_of self.old.tables.kept.slots) }
-
-        ensures same { self.new.tables.kept.drum.ghost_name ≡ self.old.tables.kept.drum.ghost_name }
-        ensures serves { Serves (D.contents self.new.tables.kept.drum.now)
-            (D.record_count self.new.tables.kept.drum.now)
-            (D.words_each self.new.tables.kept.drum.now) (records_of self.new.tables.kept.slots) }
-        ensures quotas { self.new.tables.kept.slots.quotas ≡ self.old.tables.kept.slots.quotas }
-        ensures sizes { self.new.tables.sizes ≡ self.old.tables.sizes }
-        ensures usable { self.new.failed ≡ self.old.failed }
-        ensures bank { self.new.bank ≡ self.old.bank }
-
+        requires ready { CanMove self.old }
+        ensures moves { MakesMove (a_laying (state self.old) user stay) result self.old self.new }
         ensures bases { OnOk result (self.new.tables.owners.bases
             ≡ bases_before self.old.tables.owners.bases user stay base) }
-        ensures block_map { OnOk result (block_map_of self.new.tables.owners.owners self.new.tables.kept.slots
-            ≡ map_before self.old.tables.kept.slots.quotas.items self.old.tables.owners.bases
-            (block_map_of self.old.tables.owners.owners self.old.tables.kept.slots) user stay) }
-        ensures images { OnOk result ((u : ℕ) → 1 ≤ u
-            → image_in self.new.bank (D.contents self.new.tables.kept.drum.now) self.new.tables.owners
-            self.new.tables.kept.slots self.new.tables.sizes.items u
-            ≡ image_in self.old.bank (D.contents self.old.tables.kept.drum.now) self.old.tables.owners
-            self.old.tables.kept.slots self.old.tables.sizes.items u) }
-        ensures calls { OnOk result (D.calls self.new.tables.kept.drum.now
-            ≡ with_calls (D.calls self.old.tables.kept.drum.now)
-            (calls_before self.old.tables.kept.slots.quotas.items self.old.tables.owners.bases
-            (block_map_of self.old.tables.owners.owners self.old.tables.kept.slots) user stay)) }
-        ensures failed { OnErr result (FailedIn (D.calls self.old.tables.kept.drum.now)
-            (D.calls self.new.tables.kept.drum.now)
-            (calls_before self.old.tables.kept.slots.quotas.items self.old.tables.owners.bases
-            (block_map_of self.old.tables.owners.owners self.old.tables.kept.slots) user stay)) }
-        ensures faults_grow { D.faults self.old.tables.kept.drum.now ≤ D.faults self.new.tables.kept.drum.now }
-        ensures cause { OnErr result
-            (Rose (D.faults self.old.tables.kept.drum.now) (D.faults self.new.tables.kept.drum.now)) }
+        ensures bank { self.new.bank ≡ self.old.bank }
     {
         if stay {
             return Ok(());
@@ -491,45 +325,14 @@ impl<'a, D: Medium> Image<'a, D> {
 
     /// Brings one block of a user into core.
     fn load_block(&mut self, user: UserNo, block: u8) -> Result<(), DrumFault>
-        requires inside { block < size_of self.old.tables.sizes.items user }
-        requires room { base_of self.old.tables.owners.bases user + block < 128 }
-        requires words { AreWords self.old.bank }
-        requires serves { Serves (D.contents self.old.tables.kept.drum.now)
-            (D.record_count self.old.tables.kept.drum.now)
-            (D.words_each self.old.tables.kept.drum.now) (records_of self.old.tables.kept.slots) }
-
-        ensures same { self.new.tables.kept.drum.ghost_name ≡ self.old.tables.kept.drum.ghost_name }
-        ensures serves { Serves (D.contents self.new.tables.kept.drum.now)
-            (D.record_count self.new.tables.kept.drum.now)
-            (D.words_each self.new.tables.kept.drum.now) (records_of self.new.tables.kept.slots) }
-        ensures quotas { self.new.tables.kept.slots.quotas ≡ self.old.tables.kept.slots.quotas }
-        ensures sizes { self.new.tables.sizes ≡ self.old.tables.sizes }
-        ensures usable { self.new.failed ≡ self.old.failed }
-        ensures words { AreWords self.new.bank }
+        requires inside { block < size (state self.old) user }
+        requires room { base_in (state self.old) user + block < 128 }
+        requires ready { CanMove self.old }
+        ensures moves { MakesMove (a_loading (state self.old) user block
+            (block_at self.new.bank (base_in (state self.old) user + block))) result self.old self.new }
         ensures bases { self.new.tables.owners.bases ≡ self.old.tables.owners.bases }
-        ensures others { (q : ℕ) → q ≢ base_of self.old.tables.owners.bases user + block
+        ensures others { (q : ℕ) → q ≢ base_in (state self.old) user + block
             → block_at self.new.bank q ≡ block_at self.old.bank q }
-
-        ensures block_map { OnOk result (block_map_of self.new.tables.owners.owners self.new.tables.kept.slots
-            ≡ load_one self.old.tables.kept.slots.quotas.items self.old.tables.owners.bases
-            (block_map_of self.old.tables.owners.owners self.old.tables.kept.slots) user block) }
-        ensures images { OnOk result ((u : ℕ) → 1 ≤ u
-            → image_in self.new.bank (D.contents self.new.tables.kept.drum.now) self.new.tables.owners
-            self.new.tables.kept.slots self.new.tables.sizes.items u
-            ≡ image_in self.old.bank (D.contents self.old.tables.kept.drum.now) self.old.tables.owners
-            self.old.tables.kept.slots self.old.tables.sizes.items u) }
-        ensures calls { OnOk result (D.calls self.new.tables.kept.drum.now
-            ≡ with_calls (D.calls self.old.tables.kept.drum.now)
-            (calls_one self.old.tables.kept.slots.quotas.items self.old.tables.owners.bases
-            (block_map_of self.old.tables.owners.owners self.old.tables.kept.slots) user block
-            (block_at self.new.bank (base_of self.old.tables.owners.bases user + block)))) }
-        ensures failed { OnErr result (FailedIn (D.calls self.old.tables.kept.drum.now)
-            (D.calls self.new.tables.kept.drum.now) (calls_one self.old.tables.kept.slots.quotas.items self.old.tables.owners.bases
-            (block_map_of self.old.tables.owners.owners self.old.tables.kept.slots) user block
-            (block_at self.new.bank (base_of self.old.tables.owners.bases user + block)))) }
-        ensures faults_grow { D.faults self.old.tables.kept.drum.now ≤ D.faults self.new.tables.kept.drum.now }
-        ensures cause { OnErr result
-            (Rose (D.faults self.old.tables.kept.drum.now) (D.faults self.new.tables.kept.drum.now)) }
     {
         let place = self.tables.owners.place(user, block);
         let owner = self.tables.owners.owner(place);
@@ -549,47 +352,15 @@ impl<'a, D: Medium> Image<'a, D> {
 
     /// The second part of a load: brings a user's blocks below a number into core, in rising order.
     fn load_blocks(&mut self, user: UserNo, blocks: u8) -> Result<(), DrumFault>
-        requires inside { blocks ≤ size_of self.old.tables.sizes.items user }
-        requires room { base_of self.old.tables.owners.bases user + blocks ≤ 128 }
-        requires words { AreWords self.old.bank }
-        requires serves { Serves (D.contents self.old.tables.kept.drum.now)
-            (D.record_count self.old.tables.kept.drum.now)
-            (D.words_each self.old.tables.kept.drum.now) (records_of self.old.tables.kept.slots) }
-
-        ensures same { self.new.tables.kept.drum.ghost_name ≡ self.old.tables.kept.drum.ghost_name }
-        ensures serves { Serves (D.contents self.new.tables.kept.drum.now)
-            (D.record_count self.new.tables.kept.drum.now)
-            (D.words_each self.new.tables.kept.drum.now) (records_of self.new.tables.kept.slots) }
-        ensures quotas { self.new.tables.kept.slots.quotas ≡ self.old.tables.kept.slots.quotas }
-        ensures sizes { self.new.tables.sizes ≡ self.old.tables.sizes }
-        ensures usable { self.new.failed ≡ self.old.failed }
-        ensures words { AreWords self.new.bank }
-        ensures bases { self.new.tables.owners.bases ≡ self.old.tables.owners.bases }
-        ensures others { (q : ℕ) → (q < base_of self.old.tables.owners.bases user)
-            ⊎ (base_of self.old.tables.owners.bases user + blocks ≤ q)
-            → block_at self.new.bank q ≡ block_at self.old.bank q }
-
-        ensures block_map { OnOk result (block_map_of self.new.tables.owners.owners self.new.tables.kept.slots
-            ≡ load_to self.old.tables.kept.slots.quotas.items self.old.tables.owners.bases
-            (block_map_of self.old.tables.owners.owners self.old.tables.kept.slots) user blocks) }
+        requires inside { blocks ≤ size (state self.old) user }
+        requires room { base_in (state self.old) user + blocks ≤ 128 }
+        requires ready { CanMove self.old }
+        ensures moves { MakesMove (loads_below (state self.old) user blocks (block_at self.new.bank))
+            result self.old self.new }
         ensures resident { OnOk result (IsResident self.new.tables.owners blocks user) }
-        ensures images { OnOk result ((u : ℕ) → 1 ≤ u
-            → image_in self.new.bank (D.contents self.new.tables.kept.drum.now) self.new.tables.owners
-            self.new.tables.kept.slots self.new.tables.sizes.items u
-            ≡ image_in self.old.bank (D.contents self.old.tables.kept.drum.now) self.old.tables.owners
-            self.old.tables.kept.slots self.old.tables.sizes.items u) }
-        ensures calls { OnOk result (D.calls self.new.tables.kept.drum.now
-            ≡ with_calls (D.calls self.old.tables.kept.drum.now)
-            (calls_to self.old.tables.kept.slots.quotas.items self.old.tables.owners.bases
-            (block_map_of self.old.tables.owners.owners self.old.tables.kept.slots) user blocks
-            (block_at self.new.bank))) }
-        ensures failed { OnErr result (FailedIn (D.calls self.old.tables.kept.drum.now)
-            (D.calls self.new.tables.kept.drum.now) (calls_to self.old.tables.kept.slots.quotas.items self.old.tables.owners.bases
-            (block_map_of self.old.tables.owners.owners self.old.tables.kept.slots) user blocks
-            (block_at self.new.bank))) }
-        ensures faults_grow { D.faults self.old.tables.kept.drum.now ≤ D.faults self.new.tables.kept.drum.now }
-        ensures cause { OnErr result
-            (Rose (D.faults self.old.tables.kept.drum.now) (D.faults self.new.tables.kept.drum.now)) }
+        ensures bases { self.new.tables.owners.bases ≡ self.old.tables.owners.bases }
+        ensures others { (q : ℕ) → (q < base_in (state self.old) user) ⊎ (base_in (state self.old) user + blocks ≤ q)
+            → block_at self.new.bank q ≡ block_at self.old.bank q }
     {
         'loading: for b in 0..blocks {
             self.load_block(user, b)?;
@@ -599,65 +370,17 @@ impl<'a, D: Medium> Image<'a, D> {
 
     /// Both parts of a load.
     fn bring(&mut self, user: UserNo, blocks: u8, base: u8, stay: bool) -> Result<(), DrumFault>
-        requires user { user < length self.old.tables.sizes.items }
-        requires size { blocks ≤ size_of self.old.tables.sizes.items user }
-        requires inside { base < 128 }
-        requires room { base + blocks ≤ 128 }
-        requires stays { stay ≡ stays (places_of self.old.tables.owners self.old.tables.kept.slots) user blocks }
-        requires base { base
-            ≡ base_for (places_of self.old.tables.owners self.old.tables.kept.slots) user blocks }
-        requires words { AreWords self.old.bank }
-        requires serves { Serves (D.contents self.old.tables.kept.drum.now)
-            (D.record_count self.old.tables.kept.drum.now)
-            (D.words_each self.old.tables.kept.drum.now) (records_of self.old.tables.kept.slots) }
-
-        ensures same { self.new.tables.kept.drum.ghost_name ≡ self.old.tables.kept.drum.ghost_name }
-        ensures serves { Serves (D.contents self.new.tables.kept.drum.now)
-            (D.record_count self.new.tables.kept.drum.now)
-            (D.words_each self.new.tables.kept.drum.now) (records_of self.new.tables.kept.slots) }
-        ensures quotas { self.new.tables.kept.slots.quotas ≡ self.old.tables.kept.slots.quotas }
-        ensures sizes { self.new.tables.sizes ≡ self.old.tables.sizes }
-        ensures usable { self.new.failed ≡ self.old.failed }
-        ensures words { AreWords self.new.bank }
-        ensures others { (q : ℕ) → (q < base) ⊎ (base + blocks ≤ q)
-            → block_at self.new.bank q ≡ block_at self.old.bank q }
-
+        requires planned { IsPlanned user blocks base stay self.old }
+        requires ready { CanMove self.old }
+        ensures moves { MakesMove (a_load (state self.old) user blocks base stay (block_at self.new.bank))
+            result self.old self.new }
         ensures bases { OnOk result (self.new.tables.owners.bases
             ≡ bases_before self.old.tables.owners.bases user stay base) }
-        ensures block_map { OnOk result (block_map_of self.new.tables.owners.owners self.new.tables.kept.slots
-            ≡ load_to self.old.tables.kept.slots.quotas.items
-            (bases_before self.old.tables.owners.bases user stay base)
-            (map_before self.old.tables.kept.slots.quotas.items self.old.tables.owners.bases
-            (block_map_of self.old.tables.owners.owners self.old.tables.kept.slots) user stay) user blocks) }
         ensures places { OnOk result (places_of self.new.tables.owners self.new.tables.kept.slots
             ≡ loaded (places_of self.old.tables.owners self.old.tables.kept.slots) user blocks) }
         ensures resident { OnOk result (IsResident self.new.tables.owners blocks user) }
-        ensures images { OnOk result ((u : ℕ) → 1 ≤ u
-            → image_in self.new.bank (D.contents self.new.tables.kept.drum.now) self.new.tables.owners
-            self.new.tables.kept.slots self.new.tables.sizes.items u
-            ≡ image_in self.old.bank (D.contents self.old.tables.kept.drum.now) self.old.tables.owners
-            self.old.tables.kept.slots self.old.tables.sizes.items u) }
-        ensures calls { OnOk result (D.calls self.new.tables.kept.drum.now
-            ≡ with_calls (D.calls self.old.tables.kept.drum.now)
-            (calls_before self.old.tables.kept.slots.quotas.items self.old.tables.owners.bases
-            (block_map_of self.old.tables.owners.owners self.old.tables.kept.slots) user stay
-            ++ calls_to self.old.tables.kept.slots.quotas.items
-            (bases_before self.old.tables.owners.bases user stay base)
-            (map_before self.old.tables.kept.slots.quotas.items self.old.tables.owners.bases
-            (block_map_of self.old.tables.owners.owners self.old.tables.kept.slots) user stay)
-            user blocks (block_at self.new.bank))) }
-        ensures failed { OnErr result (FailedIn (D.calls self.old.tables.kept.drum.now)
-            (D.calls self.new.tables.kept.drum.now)
-            (calls_before self.old.tables.kept.slots.quotas.items self.old.tables.owners.bases
-            (block_map_of self.old.tables.owners.owners self.old.tables.kept.slots) user stay
-            ++ calls_to self.old.tables.kept.slots.quotas.items
-            (bases_before self.old.tables.owners.bases user stay base)
-            (map_before self.old.tables.kept.slots.quotas.items self.old.tables.owners.bases
-            (block_map_of self.old.tables.owners.owners self.old.tables.kept.slots) user stay)
-            user blocks (block_at self.new.bank))) }
-        ensures faults_grow { D.faults self.old.tables.kept.drum.now ≤ D.faults self.new.tables.kept.drum.now }
-        ensures cause { OnErr result
-            (Rose (D.faults self.old.tables.kept.drum.now) (D.faults self.new.tables.kept.drum.now)) }
+        ensures others { (q : ℕ) → (q < base) ⊎ (base + blocks ≤ q)
+            → block_at self.new.bank q ≡ block_at self.old.bank q }
     {
         // So it is known that the number is not 0.
         let _number = user.number();

@@ -1,7 +1,7 @@
 //! The core that a user's program sees: some blocks of a bank.
-ghost use Rattle.std.specs.Prelude.{◌≡◌, ◌+◌, ◌*◌, ◌<◌, ◌≤◌, ◌↔◌, ◌++◌, length, take, drop, slice_set, IsOk, OnOk, OnErr};
+ghost use Rattle.std.specs.Prelude.{◌≡◌, ◌+◌, ◌*◌, ◌<◌, ◌≤◌, ◌↔◌, length, take, drop, slice_set, IsOk, OnOk, OnErr};
 ghost use Rattle.core_bank.specs.Bank.{AreWords};
-ghost use Rattle.image_map.specs.Windows.{window};
+ghost use Rattle.image_map.specs.Windows.{window, KeepsAround};
 
 use core_bank::Bank;
 use core_bank::reloc_protect::Registers;
@@ -48,6 +48,7 @@ impl<'a> Port<'a> {
 impl MemoryPort for Port<'_> {
     ghost use Rattle.std.specs.Prelude.{◌≡◌, ◌+◌, ◌*◌, take, drop, refl};
     ghost use Rattle.std.proofs.Common.{◌∙◌};
+    ghost use Rattle.image_map.specs.Stores.{ChangesWord};
     ghost use Rattle.image_map.specs.Windows.{window, same_length};
 
     ghost words = { λ p. window p.bank.now p.base p.blocks };
@@ -87,12 +88,7 @@ impl MemoryPort for Port<'_> {
             ≡ drop (256 * (self.old.base + self.old.blocks)) self.old.bank.now) }
 
         // The port stands over the same blocks of the same bank, of which one word changes.
-        ensures same { self.new.bank.ghost_name ≡ self.old.bank.ghost_name }
-        ensures base { self.new.base ≡ self.old.base }
-        ensures blocks { self.new.blocks ≡ self.old.blocks }
-        ensures bank { OnOk result (self.new.bank.now
-            ≡ slice_set self.old.bank.now (address + 256 * self.old.base) word) }
-        ensures same_bank { OnErr result (self.new.bank.now ≡ self.old.bank.now) }
+        ensures changes { ChangesWord address word result self.old self.new }
     {
         match self.registers().place(address) {
             Ok(at) => {
@@ -119,10 +115,7 @@ pub fn store_in(
     ensures inside { IsOk result ↔ (address < 256 * blocks) }
     ensures stored { OnOk result (window bank.new base blocks ≡ slice_set (window bank.old base blocks) address word) }
     ensures kept { OnErr result (bank.new ≡ bank.old) }
-    ensures front { take (256 * base) bank.new ≡ take (256 * base) bank.old }
-    ensures rest { drop (256 * (base + blocks)) bank.new ≡ drop (256 * (base + blocks)) bank.old }
-    ensures whole { bank.new
-        ≡ take (256 * base) bank.old ++ window bank.new base blocks ++ drop (256 * (base + blocks)) bank.old }
+    ensures around { KeepsAround base blocks bank.old bank.new }
 {
     let mut port = Port::over(bank, base, blocks);
     port.store(address, word)

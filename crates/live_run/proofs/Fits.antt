@@ -9,7 +9,7 @@ use Rattle.file_model.specs.Owned.{files_of}
 use Rattle.file_map.specs.Directory.{NamesDiffer}
 use Rattle.text_model.specs.Reading.{IsInRange, names_differ}
 use Rattle.user_model.specs.Session.{no_account}
-use Rattle.directories.specs.Directories.{DirectoriesState}
+use Rattle.track_directories.specs.Directories.{DirectoriesState}
 use Rattle.track_directories.specs.Firsts.{HaveNone, AreFirst}
 use Rattle.live_run.proofs.Starts.{may_first, count_first}
 

@@ -21,17 +21,18 @@ use Rattle.system_model.specs.Run.{Run}
 use Rattle.system_model.specs.Joined.{joined, with_stores}
 use Rattle.system_model.specs.Cases.{user_at}
 use Rattle.system_model.specs.Record.{start_of, users_from}
-use Rattle.directories.specs.Directories.{DirectoriesState}
+use Rattle.track_directories.specs.Directories.{DirectoriesState}
 use Rattle.file_tracks.specs.Seen.{tells_of}
 use Rattle.track_directories.specs.Firsts.{HaveNone, Adds}
-use Rattle.user_cores.specs.Cores.{CoresState}
+use Rattle.image_map.specs.State.{ImageState}
+use Rattle.user_cores.specs.Usable.{HasNoBlocks}
 use Rattle.user_cores.specs.Backing.{Held, BackState, back_of}
 use Rattle.supervisor.specs.Seen.{Bare, run_with, record_so_far}
 use Rattle.supervisor.specs.Steps.{IsTied}
 use Rattle.supervisor.specs.Whole.{whole_of}
 use Rattle.live_run.specs.Calls.{IsReady, run_over}
-use Rattle.live_run.specs.Starts.{HasFirstCores, HasFirstFiles, Begins}
-use Rattle.user_cores.proofs.Listed.{disk_told}
+use Rattle.live_run.specs.Starts.{HasFirstFiles, Begins}
+use Rattle.user_cores.proofs.Working.{disk_told}
 use Rattle.file_map.specs.Known.{known, whole_is_known}
 use Rattle.ctss_types.specs.declared.file.FileBody.{FileBody}
 use Rattle.ctss_types.specs.declared.history.Item.{Item}
@@ -153,7 +154,7 @@ known_told : (tells : Bool) (files : List FileBody) → tells ≡ true → known
 known_told tells files told = ap (λ (b : Bool). known b files) told ∙ whole_is_known files
 
 -- a supervisor, first cores and directories of the same accounts
-module _ (script : Script) (b : Bare) (drum disk : Bool) (cores : CoresState) (dirs : DirectoriesState) (is : run_with no_places b ≡ start_of (record script { events = []; files = [] })) (first : HasFirstCores script.accounts drum cores) where
+module _ (script : Script) (b : Bare) (drum disk : Bool) (cores : ImageState) (dirs : DirectoriesState) (is : run_with no_places b ≡ start_of (record script { events = []; files = [] })) (first : HasNoBlocks (0 ∷ map (λ (a : Account). a.blocks) script.accounts) drum cores) where
   abbrev none : Script
   none = record script { events = []; files = [] }
 
@@ -177,7 +178,7 @@ module _ (script : Script) (b : Bare) (drum disk : Bool) (cores : CoresState) (d
     ready_at_first =
         record {
           agrees = record {
-            tied = tied_first b.users back.held (first.quotas ∙ ap (λ (ns : List ℕ). 0 ∷ ns) (quotas_are none b is)) (no_user_has none b is) first.sizes
+            tied = tied_first b.users back.held (first.quotas_are ∙ ap (λ (ns : List ℕ). 0 ∷ ns) (quotas_are none b is)) (no_user_has none b is) (first.sizes ∙ ap (λ (ns : List ℕ). replicate (length ns) 0) (sym first.quotas_are))
                 (λ u pos within. files.may u pos (omega (arith, within, count)) ∙ ap (λ (a : Account). a.tracks) (sym (account_at 1 script.accounts [] (u - 1))) ∙ ap (λ (ps : List User). (get_or ps (u - 1) nobody).inner.account.tracks) (sym users))
                 (files.count ∙ sym count);
             common = files.common_may ∙ sym (ap (λ (r : Run). r.common) is ∙ common_at_start none);

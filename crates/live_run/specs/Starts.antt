@@ -13,23 +13,15 @@ use Rattle.ctss_types.specs.declared.file.OwnedFile.{OwnedFile}
 use Rattle.file_model.specs.Owned.{files_of}
 use Rattle.file_map.specs.Known.{known}
 use Rattle.user_model.specs.Session.{no_account}
-use Rattle.directories.specs.Directories.{DirectoriesState}
+use Rattle.track_directories.specs.Directories.{DirectoriesState}
+use Rattle.track_directories.specs.Firsts.{Empty}
 use Rattle.plan_model.specs.Loads.{no_places}
 use Rattle.system_model.specs.Record.{start_of}
-use Rattle.user_cores.specs.Cores.{CoresState}
 use Rattle.supervisor.specs.Seen.{run_with, record_so_far}
 use Rattle.supervisor.specs.Whole.{Whole, run_apart}
 use Rattle.live_run.specs.Calls.{run_over, IsReady}
 use Rattle.live_run.specs.Media.{MediaSeen}
 use Rattle.live_run.specs.declared.start.NewRun.{NewRun}
-
--- no user of these accounts has a word or a block yet
-pub record HasFirstCores (accounts : List Account) (told : Bool) (s : CoresState) : Type 0 where
-  pub words : (u : ℕ) → 1 ≤ u → s.memory.words u ≡ []
-  pub places : s.memory.places ≡ no_places
-  pub sizes : s.memory.sizes ≡ replicate (length s.memory.quotas) 0
-  pub quotas : s.memory.quotas ≡ 0 ∷ map (λ (a : Account). a.blocks) accounts
-  pub tells : s.memory.tells ≡ told
 
 -- the directories of these accounts hold their first files, as far as the disk tells them, and there is no common file, for so many
 -- tracks
@@ -41,6 +33,11 @@ pub record HasFirstFiles (quota : ℕ) (accounts : List Account) (files : List O
   pub count : s.count ≡ length accounts
   pub tells : s.tells ≡ told
 
+-- directories without files, of this script's accounts and for its common files
+pub record AreFor (script : Script) (e : Empty) : Type 0 where
+  pub tracks : e.tracks ≡ script.params.disk
+  pub quotas : e.quotas ≡ script.params.common ∷ map (λ (a : Account). a.tracks) script.accounts
+
 -- what a run of this script's accounts needs of memory: a supervisor at its start, no block of anybody on the drum or in core, and no file
 pub record IsNew (script : Script) (r : NewRun) : Type 0 where
   pub run : run_with no_places r.supervisor ≡ start_of (record script { events = []; files = [] })
@@ -51,8 +48,7 @@ pub record IsNew (script : Script) (r : NewRun) : Type 0 where
   pub quotas : r.slots.quotas.items ≡ 0 ∷ map (λ (a : Account). a.blocks) script.accounts
   pub words : AreWords r.bank
   pub sizes : r.sizes.items ≡ replicate (length r.slots.quotas.items) 0
-  pub tracks : r.files.tracks ≡ script.params.disk
-  pub directories : r.files.quotas ≡ script.params.common ∷ map (λ (a : Account). a.tracks) script.accounts
+  pub directories : AreFor script r.files
 
 -- The run is that of the script without events, where drum and disk tell their records, and no console has shown anything.
 pub record Begins (script : Script) (told : Bool) (s : Whole) : Type 0 where

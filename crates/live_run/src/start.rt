@@ -1,15 +1,14 @@
 //! The start of a run.
-ghost use Rattle.std.specs.Prelude.{◌≡◌, ◌≤◌, ◌∷◌, IfOk, OnOk, IsErrOf, is_some, map};
+ghost use Rattle.std.specs.Prelude.{◌≡◌, ◌≤◌, IfOk, OnOk, IsErrOf, is_some, map};
 ghost use Rattle.faults.specs.Faults.{Rose};
 ghost use Rattle.drum_slots.specs.Kept.{Serves};
 ghost use Rattle.track_store.specs.Tracks.{Serves as Holds};
-ghost use Rattle.track_directories.specs.Tables.{disk_of};
+ghost use Rattle.track_directories.specs.Tables.{disk_of, shown, Sound};
 ghost use Rattle.image_map.specs.Image.{state, seen};
 ghost use Rattle.text_model.specs.Lawful.{IsLawful};
 ghost use Rattle.supervisor.specs.Whole.{whole_of};
 ghost use Rattle.live_run.specs.Media.{media_seen};
-ghost use Rattle.ctss_types.specs.declared.script.Account.{Account};
-ghost use Rattle.live_run.specs.Starts.{HasFirstFiles, IsNew, IsBegun};
+ghost use Rattle.live_run.specs.Starts.{AreFor, HasFirstFiles, IsNew, IsBegun};
 
 use crate::run::LiveRun;
 use core_bank::Bank;
@@ -76,18 +75,17 @@ fn directories_of<'d, F: Medium>(
     disk: &'d mut F,
 ) -> FirstFiles<'d, F>
     requires lawful { IsLawful script.now }
-    requires tracks { empty.tracks ≡ script.now.params.disk }
-    requires quotas { empty.quotas ≡ script.now.params.common ∷ map (λ (a : Account). a.tracks) script.now.accounts }
+    requires empty { AreFor script.now empty }
     requires serves { Holds (F.contents disk.old) (F.record_count disk.old) (F.words_each disk.old) 10000 }
     ensures disk { (disk_of result.files).ghost_name ≡ disk.entry.ghost_name }
     ensures usable { ¬ IsErrOf result.wrote StepFault.Disk
-        → ⟦<TrackDirectories<'d, F> as directories::Directories>⟧.Usable result.files }
+        → Sound F.Medium result.files }
     ensures first { OnOk result.wrote (HasFirstFiles script.now.params.common script.now.accounts script.now.files
-        (is_some (F.contents disk.old)) (⟦<TrackDirectories<'d, F> as directories::Directories>⟧.state result.files)) }
+        (is_some (F.contents disk.old)) (shown F.Medium result.files)) }
     ensures rises { F.faults disk.old ≤
-        (⟦<TrackDirectories<'d, F> as directories::Directories>⟧.state result.files).faults }
+        (shown F.Medium result.files).faults }
     ensures cause { IsErrOf result.wrote StepFault.Disk → Rose (F.faults disk.old)
-        (⟦<TrackDirectories<'d, F> as directories::Directories>⟧.state result.files).faults }
+        (shown F.Medium result.files).faults }
 {
     let mut files = empty.over(disk);
     let wrote = files.add_files(script.files.as_slice());
@@ -97,7 +95,7 @@ fn directories_of<'d, F: Medium>(
 /// A run before its first event, and whether its first files could be written.
 #[derive(Drop)]
 pub struct Begun<'a, 'd, D: Medium, F: Medium> {
-    pub run: LiveRun<Behind<Image<'a, D>, TrackDirectories<'d, F>>>,
+    pub run: LiveRun<Behind<'a, 'd, D, F>>,
     pub wrote: Result<(), StepFault>,
 }
 
@@ -116,10 +114,10 @@ pub fn begin<'a, 'd, D: Medium, F: Medium>(
     ensures drum { (state result.run.cores.cores).drum.name ≡ (seen D.Medium drum.entry).name }
     ensures disk { (disk_of result.run.cores.files).ghost_name ≡ disk.entry.ghost_name }
     ensures usable { ¬ IsErrOf result.wrote StepFault.Disk
-        → ⟦<Behind<Image<'a, D>, TrackDirectories<'d, F>> as user_cores::Backing>⟧.Usable result.run.cores }
+        → ⟦<Behind<'a, 'd, D, F> as user_cores::Backing>⟧.Usable result.run.cores }
     ensures begun { IsBegun script.now (media_seen D.Medium F.Medium drum.old disk.old) result.wrote
         (whole_of result.run.supervisor
-        (⟦<Behind<Image<'a, D>, TrackDirectories<'d, F>> as user_cores::Backing>⟧.state result.run.cores)) }
+        (⟦<Behind<'a, 'd, D, F> as user_cores::Backing>⟧.state result.run.cores)) }
 {
     let NewRun {
         supervisor,

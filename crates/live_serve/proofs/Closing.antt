@@ -14,6 +14,7 @@ use Rattle.console_server.specs.declared.fault.ServeFault.{ServeFault}
 use Rattle.console_server.specs.declared.fault.ServeFault.TheVariants as serve
 use Rattle.console_server.specs.Readings.{DidAll, Nothing, Then}
 use Rattle.console_server.specs.History.{heard_in}
+use Rattle.console_server.specs.Cores.{CanGoOn}
 use Rattle.console_server.specs.Server.{ServerState, IsReady, IsDeskOf, IsCause, calls_until, ends_with, closes, closes_of}
 use Rattle.console_server.specs.Conversation.{TurnsAreDone, TurnsAreCut, calls_of_turns, events_of_turns, desk_behind, texts_behind}
 use Rattle.console_server.proofs.Following.{did_both}
@@ -122,13 +123,9 @@ module _ {C L : Type 0} (goes : C → List CoreCall → C → Type 0) (see : C �
         core = subst (λ (c : C). goes core (heard_in 0 (events_of_turns 0 texts empty_desk t.turns) ++ (map Took t.events ++ ends_with (length t.turns) f t.at)) c) (sym core_is) t.core;
       }
 
-  pub talk_sound : (sound : C → Type 0) (r : Result Unit ServeFault) (new : ServerState C L) (end : C) → OnOk r (IsReady see sound new) → end ≡ new.core → OnOk r (sound end)
-  talk_sound sound (Ok x) new end ready is = subst sound (sym is) ready.sound
-  talk_sound sound (Err f) new end ready is = tt
-
-  pub talk_ready : (sound : C → Type 0) (r : Result Unit ServeFault) (new : ServerState C L) (end : C) → OnOk r (IsReady see sound new) → end ≡ new.core → OnOk r ((see end).is_ended ≡ false)
-  talk_ready sound (Ok x) new end ready is = ap (λ (c : C). (see c).is_ended) is ∙ ready.ready
-  talk_ready sound (Err f) new end ready is = tt
+  pub talk_can : (sound : C → Type 0) (r : Result Unit ServeFault) (new : ServerState C L) (end : C) → OnOk r (IsReady see sound new) → end ≡ new.core → OnOk r (CanGoOn see sound end)
+  talk_can sound (Ok x) new end ready is = record { ready = ap (λ (c : C). (see c).is_ended) is ∙ ready.ready; sound = subst sound (sym is) ready.sound }
+  talk_can sound (Err f) new end ready is = tt
 
   pub talk_cause : (r : Result Unit ServeFault) (old new : ServerState C L) (core end : C) (link : MutBor L) (m z : LinkSeen) → old ≡ first core link
       → IfErr r (λ fault. IsCause fault (look old.link.now) (look new.link.now) (see old.core) (see new.core)) → DidAll (closes new.seats) (look new.link.now) m → end ≡ new.core → m ≡ z

@@ -1,6 +1,7 @@
 //! The turns of a server over a link, from the first one to the closing of all connections.
 ghost use Rattle.std.specs.Prelude.{◌≡◌, ◌≤◌, false, OnOk, IfErr};
 ghost use Rattle.console_server.specs.Server.{IsCause, AreUnused};
+ghost use Rattle.console_server.specs.Cores.{CanGoOn};
 ghost use Rattle.live_serve.specs.Talks.{TalkIsDone, TalkIsCut};
 
 use console_link::Link;
@@ -25,14 +26,12 @@ pub(crate) fn talk<C: LiveCore + Drop, L: Link>(
 ) -> Talked<C>
     requires unused { AreUnused tables }
     requires count { count ≤ 100000 }
-    requires ready { (C.seen core).is_ended ≡ false }
-    requires sound { C.Sound core }
+    requires can { CanGoOn C.seen C.Sound core }
     ensures done { OnOk result.ended (TalkIsDone C.Goes C.seen (C.seen core).texts count result.events
         (L.seen link.old) (L.seen link.new) core result.core) }
     ensures cut { IfErr result.ended (λ fault. TalkIsCut C.Goes C.seen (C.seen core).texts count fault
         (L.seen link.old) (L.seen link.new) core result.core) }
-    ensures ready { OnOk result.ended ((C.seen result.core).is_ended ≡ false) }
-    ensures sound { OnOk result.ended (C.Sound result.core) }
+    ensures can { OnOk result.ended (CanGoOn C.seen C.Sound result.core) }
     ensures cause { IfErr result.ended (λ fault. IsCause fault
         (L.seen link.old) (L.seen link.new) (C.seen core) (C.seen result.core)) }
 {

@@ -1,7 +1,8 @@
 -- proof: a medium in memory, as contracts see it, and what its calls make of it.
-use Rattle.std.specs.Prelude.{ℕ, Bool, ◌+◌, ◌-◌, ◌^◌, min, nat_eq, if◌then◌else◌, List, [], slice_index_or, slice_set, Option}
+use Rattle.std.specs.Prelude.{ℕ, Bool, ◌+◌, ◌-◌, ◌^◌, min, nat_eq, if◌then◌else◌, List, [], length, slice_index_or, slice_set, Option}
 use Rattle.std.specs.List.{list_any}
 use Rattle.medium.specs.Medium.{CallList, read_call, write_call, with_call}
+use Rattle.medium.specs.Called.{MediumSeen}
 use Rattle.medium.specs.Damages.{damaged_words}
 use Rattle.medium.specs.Rows.{told_rows}
 use Rattle.medium.specs.declared.memory.Damage.{Damage}
@@ -20,6 +21,11 @@ pub record MediumState : Type 0 where
 -- what the records hold, where they are told
 abbrev pub rows_told : MediumState → Option (List (List ℕ))
 rows_told m = told_rows m.damages m.contents
+
+-- what is seen of it
+abbrev pub memory_seen : MediumState → MediumSeen
+memory_seen m =
+    record { contents = rows_told m; count = length m.contents; each = m.words_each; calls = m.calls; faults = m.fault_count }
 
 -- one more, up to the end of a u64
 abbrev pub next : ℕ → ℕ

@@ -1,7 +1,7 @@
 //! What a layer above may ask of a medium, and what it may count on.
-ghost use Rattle.std.specs.Prelude.{◌≡◌, ◌<◌, ◌≤◌, ℕ, List, Option, length, is_err, OnOk, OnErr};
-ghost use Rattle.faults.specs.Faults.{Rose};
-ghost use Rattle.medium.specs.Medium.{AreWords, CallList, read_call, write_call, with_call, with_record, HasShape, Reads, ChangesOnly};
+ghost use Rattle.std.specs.Prelude.{◌≡◌, ◌<◌, ℕ, List, Option, length};
+ghost use Rattle.medium.specs.Called.{seen_by, ReadsRecord, WritesRecord};
+ghost use Rattle.medium.specs.Medium.{AreWords, CallList, HasShape};
 
 use std::error::Error;
 use std::fmt;
@@ -58,28 +58,14 @@ pub trait Medium {
         requires inside { at < record_count self.old }
         requires whole { length into.old ≡ words_each self.old }
         requires words { AreWords into.old }
-        ensures words { AreWords into.new }
-        ensures honest { OnOk result (Reads (contents self.old) at into.new) }
-        ensures contents { OnOk result (contents self.new ≡ contents self.old) }
-        ensures err { OnErr result (ChangesOnly (contents self.old) (contents self.new) at) }
-        ensures calls { calls self.new
-            ≡ with_call (calls self.old) (read_call at (is_err result) into.new) }
-        ensures count { record_count self.new ≡ record_count self.old }
-        ensures each { words_each self.new ≡ words_each self.old }
-        ensures faults_grow { faults self.old ≤ faults self.new }
-        ensures cause { OnErr result (Rose (faults self.old) (faults self.new)) };
+        ensures { let seen = seen_by contents record_count words_each calls faults in
+            ReadsRecord at into.new result (seen self.old) (seen self.new) };
 
     /// Writes a record. After `Failed` that record is unknown.
     fn write(&mut self, at: u16, from: &[u64]) -> Result<(), Failed>
         requires inside { at < record_count self.old }
         requires whole { length from.now ≡ words_each self.old }
         requires words { AreWords from.now }
-        ensures contents { OnOk result (contents self.new ≡ with_record (contents self.old) at from.now) }
-        ensures err { OnErr result (ChangesOnly (contents self.old) (contents self.new) at) }
-        ensures calls { calls self.new
-            ≡ with_call (calls self.old) (write_call at (is_err result)) }
-        ensures count { record_count self.new ≡ record_count self.old }
-        ensures each { words_each self.new ≡ words_each self.old }
-        ensures faults_grow { faults self.old ≤ faults self.new }
-        ensures cause { OnErr result (Rose (faults self.old) (faults self.new)) };
+        ensures { let seen = seen_by contents record_count words_each calls faults in
+            WritesRecord at from.now result (seen self.old) (seen self.new) };
 }

@@ -1,10 +1,10 @@
 //! A medium in memory, which fails and gives other words where it is told to.
 ghost use Rattle.std.specs.Prelude.{◌≡◌, ◌<◌, ◌≤◌, [], length, true, is_err, if◌then◌else◌, slice_set, slice_index_or, replicate, OnOk, OnErr, IfOk};
 ghost use Rattle.std.specs.List.{All};
-ghost use Rattle.faults.specs.Faults.{Rose};
 ghost use Rattle.medium.specs.Damages.{IsDamage, damaged_words, hits};
-ghost use Rattle.medium.specs.Medium.{AreWords, read_call, write_call, no_calls, with_call, with_record, Reads, ChangesOnly};
-ghost use Rattle.medium.specs.MediumState.{next, rows_told, fails_next, words_read, after_read, after_write};
+ghost use Rattle.medium.specs.Called.{ReadsRecord, WritesRecord};
+ghost use Rattle.medium.specs.Medium.{AreWords, no_calls, with_call};
+ghost use Rattle.medium.specs.MediumState.{next, rows_told, memory_seen, fails_next, words_read, after_read, after_write};
 
 use crate::log::CallLog;
 use crate::medium::{Failed, Medium};
@@ -163,16 +163,7 @@ impl Medium for MemoryMedium {
         requires inside { at < length self.old.contents }
         requires whole { length into.old ≡ self.old.words_each }
         requires words { AreWords into.old }
-        ensures words { AreWords into.new }
-        ensures honest { OnOk result (Reads (rows_told self.old) at into.new) }
-        ensures contents { OnOk result (rows_told self.new ≡ rows_told self.old) }
-        ensures err { OnErr result (ChangesOnly (rows_told self.old) (rows_told self.new) at) }
-        ensures calls { self.new.calls
-            ≡ with_call self.old.calls (read_call at (is_err result) into.new) }
-        ensures count { length self.new.contents ≡ length self.old.contents }
-        ensures each { self.new.words_each ≡ self.old.words_each }
-        ensures faults_grow { self.old.fault_count ≤ self.new.fault_count }
-        ensures cause { OnErr result (Rose self.old.fault_count self.new.fault_count) }
+        ensures reads { ReadsRecord at into.new result (memory_seen self.old) (memory_seen self.new) }
 
         // In memory all is determined.
         ensures answer { is_err result ≡ fails_next self.old }
@@ -194,13 +185,7 @@ impl Medium for MemoryMedium {
         requires inside { at < length self.old.contents }
         requires whole { length from.now ≡ self.old.words_each }
         requires words { AreWords from.now }
-        ensures contents { OnOk result (rows_told self.new ≡ with_record (rows_told self.old) at from.now) }
-        ensures err { OnErr result (ChangesOnly (rows_told self.old) (rows_told self.new) at) }
-        ensures calls { self.new.calls ≡ with_call self.old.calls (write_call at (is_err result)) }
-        ensures count { length self.new.contents ≡ length self.old.contents }
-        ensures each { self.new.words_each ≡ self.old.words_each }
-        ensures faults_grow { self.old.fault_count ≤ self.new.fault_count }
-        ensures cause { OnErr result (Rose self.old.fault_count self.new.fault_count) }
+        ensures writes { WritesRecord at from.now result (memory_seen self.old) (memory_seen self.new) }
 
         // In memory all is determined.
         ensures answer { is_err result ≡ fails_next self.old }

@@ -1,4 +1,9 @@
 pub mod Sessions
 pub mod States
 pub mod Turns
+pub mod Lengths
 pub mod Files
+pub mod Lines
+pub mod StepTexts
+pub mod Fields
+pub mod Registers

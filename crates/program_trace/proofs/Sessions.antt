@@ -144,6 +144,20 @@ one_typed p ls i l within is =
 pub each_typed : (p : User) (ls : List Line) (i : ℕ) → length ls ≤ i → all_typed p (take i ls) ≡ all_typed p ls
 each_typed p ls i past = ap (λ (xs : List Line). all_typed p xs) (take_all i ls past)
 
+-- each line that is typed counts as one
+pub opened_lines : (p : User) → (opened p).lines ≡ 0
+unfolding opened
+opened_lines p = refl
+
+typed_lines : (p : User) (l : Line) → (typed l p).lines ≡ suc p.lines
+unfolding typed
+typed_lines p l = refl
+
+all_lines : (p : User) (ls : List Line) → (all_typed p ls).lines ≡ p.lines + length ls
+unfolding all_typed
+all_lines p [] = omega arith
+all_lines p (l ∷ ls) = omega (arith, all_lines (typed l p) ls, typed_lines p l)
+
 -- a session in which LOADGO was typed, without its files
 pub asked : User
 asked = typed (codes "LOADGO PROGRM") (opened (first_state tracer []))
@@ -151,6 +165,17 @@ asked = typed (codes "LOADGO PROGRM") (opened (first_state tracer []))
 pub asked_inner : asked.inner ≡ (first_state tracer []).inner
 unfolding asked typed opened
 asked_inner = refl
+
+asked_lines : asked.lines ≡ 1
+unfolding asked
+asked_lines =
+    let first = opened (first_state tracer []) in
+    omega (arith, typed_lines first (codes "LOADGO PROGRM"), opened_lines (first_state tracer []))
+
+-- a session takes LOADGO, and 2047 lines behind it
+pub takes_line : (s : User) (ls : List Line) (i : ℕ) → s ≡ all_typed asked (take i ls) → i < length ls → length ls ≤ 2047 → s.lines < 2048
+takes_line s ls i is within few =
+    omega (arith, within, few, ap (λ (p : User). p.lines) is, all_lines asked (take i ls), asked_lines, length-take i ls)
 
 stored_typed : (c : Stored) (p : User) (l : Line) → in_store c (typed l p) ≡ typed l (in_store c p)
 unfolding typed

@@ -1,9 +1,10 @@
 //! A user whose program is run alone.
-ghost use Rattle.std.specs.Prelude.{IfOk, OnOk, [], codes, fold, length, map, replicate, slice_get, take, true, ℕ, ◌*◌, ◌++◌, ◌+◌, ◌-◌, ◌<◌, ◌^◌, ◌∷◌, ◌≡◌, ◌≤◌};
+ghost use Rattle.std.specs.Prelude.{IfOk, [], codes, fold, length, map, replicate, slice_get, take, true, ℕ, ◌*◌, ◌++◌, ◌+◌, ◌-◌, ◌<◌, ◌^◌, ◌∷◌, ◌≡◌, ◌≤◌};
 ghost use Rattle.ctss_types.specs.declared.file.CommonOp.{CommonOp};
 ghost use Rattle.user_model.specs.Inner.{recut, zeros};
 ghost use Rattle.user_model.specs.Session.{first_state, works_in};
 ghost use Rattle.user_model.specs.User.{can_step, core_after, opened, typed};
+ghost use Rattle.user_session.specs.Calls.{CanStep};
 ghost use Rattle.user_session.specs.Stores.{stored, IsToMake};
 ghost use Rattle.user_session.specs.Turns.{IsReplied};
 ghost use Rattle.file_model.specs.Commons.{ReplyFits, files_after, reply_to};
@@ -124,11 +125,10 @@ pub(crate) fn step_beside(
     common: &mut Files,
     now: u64,
 ) -> Result<Option<Step>, NoMemory>
-    requires size { length core.old ≡ 256 * session.old.inner.blocks }
+    requires can { CanStep session.old core.old }
     requires account { session.old.inner.account ≡ tracer }
     requires quotas { (files.old.quota ≡ track_quota) × (common.old.quota ≡ track_quota) }
     requires early { now < 2 ^ 35 }
-    requires fits { session.old.own < 2 ^ 64 - 1 }
     ensures turn { IfOk result (λ s. IsTurnBeside s now session.old session.new
         (stored core.old files.old.files) (stored core.new files.new.files) common.old.files common.new.files) }
     ensures size { length core.new ≡ length core.old }
@@ -151,13 +151,14 @@ pub(crate) fn step_beside(
     }
 }
 
-/// A line is typed.
-fn type_line(session: &mut Session, line: LineText) -> Result<(), NoMemory>
-    ensures { OnOk result (session.new ≡ typed line session.old) }
+/// A line is typed, of which a session takes 2048.
+fn type_line(session: &mut Session, line: LineText)
+    requires { session.old.lines < 2048 }
+    ensures { session.new ≡ typed line session.old }
 {
     match session.line(line) {
-        Put::Kept => Ok(()),
-        Put::Spent => Err(NoMemory),
+        Put::Kept => {}
+        Put::Spent => unreachable!(),
     }
 }
 
@@ -168,13 +169,14 @@ impl ProgramAlone {
         deck: &[Word],
         lines: &[LineText],
     ) -> Result<ProgramAlone, NoMemory>
+        requires { length lines.now ≤ 2047 }
         ensures { IfOk result (λ a. a ≡ begun deck.now lines.now) }
     {
         let mut session = Session::new(alloc, &tracer())?;
         session.login()?;
-        type_line(&mut session, LineText::of(b"LOADGO PROGRM"))?;
+        type_line(&mut session, LineText::of(b"LOADGO PROGRM"));
         for line in lines {
-            type_line(&mut session, *line)?;
+            type_line(&mut session, *line);
         }
         Ok(ProgramAlone {
             session,

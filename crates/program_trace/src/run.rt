@@ -1,5 +1,5 @@
 //! What a program does that is run alone.
-ghost use Rattle.std.specs.Prelude.{◌≡◌, ◌≤◌, ◌<◌, ◌^◌, ◌++◌, IfOk, drop};
+ghost use Rattle.std.specs.Prelude.{◌≡◌, ◌≤◌, ◌<◌, ◌^◌, ◌++◌, IfOk, drop, length};
 ghost use Rattle.program_trace.specs.Lone.{TracedUser, gone, loaded};
 ghost use Rattle.program_trace.specs.Traces.{end_of, step_between, steps_from, traced};
 ghost use Rattle.program_trace.specs.Steppings.{found_in};
@@ -85,6 +85,7 @@ fn go(
 
 /// The program loaded: LOADGO was done, and the core filled.
 fn loaded(alloc: Global, deck: &[Word], lines: &[LineText]) -> Result<ProgramAlone, NoMemory>
+    requires { length lines.now ≤ 2047 }
     ensures value { IfOk result (λ a. a ≡ loaded deck.now lines.now) }
     ensures early { IfOk result (λ a. a.user.own ≤ 2) }
 {
@@ -110,8 +111,10 @@ fn end_of(alloc: Global, alone: ProgramAlone) -> Result<TraceEnd, NoMemory>
     }
 }
 
-/// The trace of a program that is run alone, of at most so many steps, with the lines that it may read.
+/// The trace of a program that is run alone, of at most so many steps, with the lines that it may read: as many as a
+/// session takes behind LOADGO.
 pub fn trace(alloc: Global, deck: &[Word], lines: &[LineText], most: u32) -> Result<Trace, NoMemory>
+    requires { length lines.now ≤ 2047 }
     ensures { IfOk result (λ t. t ≡ traced most deck.now lines.now) }
 {
     let begun = loaded(alloc, deck, lines)?;

@@ -3,3 +3,15 @@ pub mod Rising
 pub mod Lawful
 pub mod Replayed
 pub mod Told
+pub mod CallLaws
+pub mod StopLaws
+pub mod WriteStops
+pub mod OwnCounts
+pub mod Watching
+pub mod AtConsole
+pub mod VisitSteps
+pub mod Passing
+pub mod KeptSteps
+pub mod EndSteps
+pub mod Visiting
+pub mod CutVisits

@@ -8,7 +8,7 @@ use Rattle.console_server.specs.Readings.{DidAll}
 use Rattle.console_server.specs.Turns.{Talk, Desk, desk_after}
 use Rattle.console_server.specs.Server.{calls_until}
 use Rattle.console_server.specs.Conversation.{TurnSeen, calls_of_turns, desk_behind, texts_behind}
-use Rattle.console_laws.proofs.CallLaws.{calls_are_told, desk_length, few_calls_until, few_calls_in_turns}
+use Rattle.serve_laws.proofs.CallLaws.{calls_are_told, desk_length, few_calls_until, few_calls_in_turns}
 use Rattle.live_serve.specs.Talks.{empty_desk, silent, close_of, closes_of_desk, IsTalk, IsCutTalk}
 use Rattle.serve_laws.specs.Laws.{ListsFew, CallsOfTalksAreTold, CallsOfCutTalksAreTold}
 

@@ -3,7 +3,7 @@ use Rattle.std.proofs.Common.{◌≡◌, ℕ, suc, List, [], ◌∷◌, length, 
 use Rattle.ctss_types.specs.declared.file.FileBody.{FileBody}
 use Rattle.user_model.specs.User.{User}
 use Rattle.user_model.specs.Inner.{Stored}
-use Rattle.directories.specs.Directories.{lists_from}
+use Rattle.track_directories.specs.Directories.{lists_from}
 use Rattle.system_model.specs.Run.{Run, ended}
 use Rattle.system_model.specs.Cases.{closed}
 use Rattle.system_model.specs.Record.{record_from}

@@ -11,3 +11,4 @@ pub mod Growing
 pub mod Seats
 pub mod Passing
 pub mod Sharing
+pub mod Going

@@ -147,7 +147,7 @@ impl State {
 
     /// A user's blocks were brought into core, which costs ticks for each block that was moved.
     #[tactic(auto, unfolding(system_model::specs::Joined::moved))]
-    pub(crate) fn bring(&mut self, user: UserNo, plan: Plan)
+    pub(crate) fn note_swap(&mut self, user: UserNo, plan: Plan)
         requires room { vec_len self.old.entries < vec_capacity self.old.entries }
         requires in_time { self.old.clock ≤ 100000000 }
         ensures { Becomes (moved user plan.dumped plan.read plan.fresh) self.old self.new }

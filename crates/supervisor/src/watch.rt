@@ -1,16 +1,13 @@
 //! Steps of the state, with what the consoles show of them.
-ghost use Rattle.std.specs.Prelude.{◌≡◌, ◌<◌, ◌≤◌, length, map, true, Some, None};
+ghost use Rattle.std.specs.Prelude.{◌≡◌, ◌≤◌, length, map, true, Some, None};
 ghost use Rattle.std.specs.Option.{is_some};
-ghost use Rattle.plan_model.specs.Loads.{no_places};
 ghost use Rattle.user_model.specs.User.{User};
 ghost use Rattle.system_model.specs.Run.{next, due_of};
-ghost use Rattle.system_model.specs.Sound.{Sound};
 ghost use Rattle.console_texts.specs.Following.{settled_in};
 ghost use Rattle.console_texts.specs.Watching.{refused_by, refusal_in as console_of};
-ghost use Rattle.supervisor.specs.Seen.{seen};
-ghost use Rattle.supervisor.specs.Shows.{MatchesConsoles, TextsGrow, rows_of};
-ghost use Rattle.supervisor.specs.Steps.{Lasts};
-ghost use Rattle.supervisor.specs.Whole.{watched, Holds, IsReady, AreTied, AreCountedBy, NextIsCut, Steps, TextsFollow, RunsTo, TextsRunTo};
+ghost use Rattle.supervisor.specs.Goes.{HasTime, IsWatched, Leaves, LeavesWatched};
+ghost use Rattle.supervisor.specs.Shows.{MatchesConsoles, rows_of};
+ghost use Rattle.supervisor.specs.Whole.{watched, IsReady, NextIsCut, Steps, TextsFollow, RunsTo, TextsRunTo};
 
 use crate::state::State;
 use arrayvec::ArrayVec;
@@ -74,22 +71,13 @@ pub(crate) struct Watch {
 impl Watch {
     /// One step, at which an event is due. It stands apart, since its event is large and most steps have none.
     #[inline(never)]
-    fn hear<C: Backing>(&mut self, cores: &mut C, limit: u64) -> Result<(), RunFault>
-        requires usable { C.Usable cores.old }
-        requires held { Holds (watched self.old (C.state cores.old)) }
-        requires matched { MatchesConsoles self.old.state.consoles.items self.old.state.sessions.items self.old.texts }
+    fn step_with_event<C: Backing>(&mut self, cores: &mut C, limit: u64) -> Result<(), RunFault>
+        requires watch { IsWatched C.Backing self.old cores.old }
         requires due { is_some (due_of self.old.state.events.items self.old.state.clock) ≡ true }
-        requires in_time { self.old.state.clock < limit }
-        requires limit { limit ≤ 100000000 }
+        requires time { HasTime limit self.old.state.clock }
         ensures ended { Steps (next limit) NextIsCut result
             (watched self.old (C.state cores.old)) (watched self.new (C.state cores.new)) }
-        ensures counted { AreCountedBy result
-            (watched self.old (C.state cores.old)) (watched self.new (C.state cores.new)) }
-        ensures tied { Lasts result (AreTied (watched self.new (C.state cores.new))) }
-        ensures usable { Lasts result (C.Usable cores.new) }
-        ensures keeps { C.Keeps cores.old cores.new }
-        ensures faults_grow { (C.state cores.old).faults ≤ (C.state cores.new).faults }
-        ensures disk { (C.state cores.old).disk_faults ≤ (C.state cores.new).disk_faults }
+        ensures leaves { Leaves C.Backing result self.old.state cores.old self.new.state cores.new }
         ensures texts { TextsFollow limit result
             (watched self.old (C.state cores.old)) (watched self.new (C.state cores.new)) }
         ensures matched { MatchesConsoles self.new.state.consoles.items self.new.state.sessions.items self.new.texts }
@@ -114,23 +102,19 @@ impl Watch {
 
     /// One step, at which no event is due; whether it is known to be one of the user whose service is open.
     #[inline(always)]
-    fn go<C: Backing>(&mut self, cores: &mut C, ready: bool, limit: u64) -> Result<(), RunFault>
+    fn step_without_event<C: Backing>(
+        &mut self,
+        cores: &mut C,
+        ready: bool,
+        limit: u64,
+    ) -> Result<(), RunFault>
         requires ready { ready ≡ true → IsReady (watched self.old (C.state cores.old)) }
-        requires usable { C.Usable cores.old }
-        requires held { Holds (watched self.old (C.state cores.old)) }
-        requires matched { MatchesConsoles self.old.state.consoles.items self.old.state.sessions.items self.old.texts }
+        requires watch { IsWatched C.Backing self.old cores.old }
         requires quiet { due_of self.old.state.events.items self.old.state.clock ≡ None }
-        requires in_time { self.old.state.clock < limit }
-        requires limit { limit ≤ 100000000 }
+        requires time { HasTime limit self.old.state.clock }
         ensures ended { Steps (next limit) NextIsCut result
             (watched self.old (C.state cores.old)) (watched self.new (C.state cores.new)) }
-        ensures counted { AreCountedBy result
-            (watched self.old (C.state cores.old)) (watched self.new (C.state cores.new)) }
-        ensures tied { Lasts result (AreTied (watched self.new (C.state cores.new))) }
-        ensures usable { Lasts result (C.Usable cores.new) }
-        ensures keeps { C.Keeps cores.old cores.new }
-        ensures faults_grow { (C.state cores.old).faults ≤ (C.state cores.new).faults }
-        ensures disk { (C.state cores.old).disk_faults ≤ (C.state cores.new).disk_faults }
+        ensures leaves { Leaves C.Backing result self.old.state cores.old self.new.state cores.new }
         ensures texts { TextsFollow limit result
             (watched self.old (C.state cores.old)) (watched self.new (C.state cores.new)) }
         ensures matched { MatchesConsoles self.new.state.consoles.items self.new.state.sessions.items self.new.texts }
@@ -154,81 +138,49 @@ impl Watch {
     /// One step of which nothing is known. It stands apart, so that a step that is known to be the served user's is short.
     #[inline(never)]
     pub(crate) fn look<C: Backing>(&mut self, cores: &mut C, limit: u64) -> Result<(), RunFault>
-        requires usable { C.Usable cores.old }
-        requires held { Holds (watched self.old (C.state cores.old)) }
-        requires matched { MatchesConsoles self.old.state.consoles.items self.old.state.sessions.items self.old.texts }
-        requires in_time { self.old.state.clock < limit }
-        requires limit { limit ≤ 100000000 }
+        requires watch { IsWatched C.Backing self.old cores.old }
+        requires time { HasTime limit self.old.state.clock }
         ensures ended { Steps (next limit) NextIsCut result
             (watched self.old (C.state cores.old)) (watched self.new (C.state cores.new)) }
-        ensures counted { AreCountedBy result
-            (watched self.old (C.state cores.old)) (watched self.new (C.state cores.new)) }
-        ensures tied { Lasts result (AreTied (watched self.new (C.state cores.new))) }
-        ensures usable { Lasts result (C.Usable cores.new) }
-        ensures keeps { C.Keeps cores.old cores.new }
-        ensures faults_grow { (C.state cores.old).faults ≤ (C.state cores.new).faults }
-        ensures disk { (C.state cores.old).disk_faults ≤ (C.state cores.new).disk_faults }
+        ensures leaves { Leaves C.Backing result self.old.state cores.old self.new.state cores.new }
         ensures texts { TextsFollow limit result
             (watched self.old (C.state cores.old)) (watched self.new (C.state cores.new)) }
         ensures matched { MatchesConsoles self.new.state.consoles.items self.new.state.sessions.items self.new.texts }
     {
         if self.state.is_due() {
-            return self.hear(cores, limit);
+            return self.step_with_event(cores, limit);
         }
-        self.go(cores, false, limit)
+        self.step_without_event(cores, false, limit)
     }
 
     /// One step; whether it is known to be one of the user whose service is open.
     #[inline(always)]
     fn step<C: Backing>(&mut self, cores: &mut C, ready: bool, limit: u64) -> Result<(), RunFault>
         requires ready { ready ≡ true → IsReady (watched self.old (C.state cores.old)) }
-        requires usable { C.Usable cores.old }
-        requires held { Holds (watched self.old (C.state cores.old)) }
-        requires matched { MatchesConsoles self.old.state.consoles.items self.old.state.sessions.items self.old.texts }
-        requires in_time { self.old.state.clock < limit }
-        requires limit { limit ≤ 100000000 }
+        requires watch { IsWatched C.Backing self.old cores.old }
+        requires time { HasTime limit self.old.state.clock }
         ensures ended { Steps (next limit) NextIsCut result
             (watched self.old (C.state cores.old)) (watched self.new (C.state cores.new)) }
-        ensures counted { AreCountedBy result
-            (watched self.old (C.state cores.old)) (watched self.new (C.state cores.new)) }
-        ensures tied { Lasts result (AreTied (watched self.new (C.state cores.new))) }
-        ensures usable { Lasts result (C.Usable cores.new) }
-        ensures keeps { C.Keeps cores.old cores.new }
-        ensures faults_grow { (C.state cores.old).faults ≤ (C.state cores.new).faults }
-        ensures disk { (C.state cores.old).disk_faults ≤ (C.state cores.new).disk_faults }
+        ensures leaves { Leaves C.Backing result self.old.state cores.old self.new.state cores.new }
         ensures texts { TextsFollow limit result
             (watched self.old (C.state cores.old)) (watched self.new (C.state cores.new)) }
         ensures matched { MatchesConsoles self.new.state.consoles.items self.new.state.sessions.items self.new.texts }
     {
         if ready {
-            return self.go(cores, ready, limit);
+            return self.step_without_event(cores, ready, limit);
         }
         self.look(cores, limit)
     }
 
     /// Whole steps, up to the limit.
     pub(crate) fn advance<C: Backing>(&mut self, cores: &mut C, limit: u64) -> Result<(), RunFault>
-        requires usable { C.Usable cores.old }
-        requires held { Holds (watched self.old (C.state cores.old)) }
-        requires matched { MatchesConsoles self.old.state.consoles.items self.old.state.sessions.items self.old.texts }
+        requires watch { IsWatched C.Backing self.old cores.old }
         requires limit { limit ≤ 100000000 }
         ensures ended { RunsTo limit result
             (watched self.old (C.state cores.old)) (watched self.new (C.state cores.new)) }
-        ensures grows { TextsGrow (watched self.old (C.state cores.old)).bare.texts
-            (watched self.new (C.state cores.new)).bare.texts }
-        ensures seats { length self.new.state.consoles.items ≡ length self.old.state.consoles.items }
         ensures texts { TextsRunTo limit result
             (watched self.old (C.state cores.old)) (watched self.new (C.state cores.new)) }
-        ensures counted { AreCountedBy result
-            (watched self.old (C.state cores.old)) (watched self.new (C.state cores.new)) }
-        ensures tells { Lasts result ((C.state cores.new).held.tells ≡ (C.state cores.old).held.tells) }
-        ensures held { Lasts result (Holds (watched self.new (C.state cores.new))) }
-        ensures usable { Lasts result (C.Usable cores.new) }
-        ensures sound { Sound (seen no_places self.new.state) }
-        ensures matched { MatchesConsoles self.new.state.consoles.items self.new.state.sessions.items self.new.texts }
-        ensures keeps { C.Keeps cores.old cores.new }
-        ensures faults_grow { (C.state cores.old).faults ≤ (C.state cores.new).faults }
-        ensures disk { (C.state cores.old).disk_faults ≤ (C.state cores.new).disk_faults }
+        ensures leaves { LeavesWatched C.Backing result self.old cores.old self.new cores.new }
     {
         let mut ready = false;
         'steps: while self.state.clock < limit {

@@ -1,20 +1,15 @@
 //! Steps of the state together with what lies behind users' sessions, one after another.
-ghost use Rattle.std.specs.Prelude.{◌≡◌, ◌<◌, ◌≤◌, ◌+◌, ◌-◌, length, true, false, Some, None, IfOk, OnOk, OnErr, vec_len, vec_capacity};
+ghost use Rattle.std.specs.Prelude.{◌≡◌, ◌<◌, ◌≤◌, ◌+◌, length, true, false, None, OnOk, OnErr, vec_len, vec_capacity};
 ghost use Rattle.std.specs.Option.{is_some};
-ghost use Rattle.drum_slots.specs.Keys.{quota_of};
 ghost use Rattle.user_session.specs.Stores.{IsToMake};
-ghost use Rattle.image_map.specs.Images.{size_of};
-ghost use Rattle.plan_model.specs.Levels.{chosen, user_of, IsChosen};
-ghost use Rattle.plan_model.specs.Spent.{NobodyRises};
-ghost use Rattle.plan_model.specs.Loads.{is_loaded};
+ghost use Rattle.plan_model.specs.Levels.{chosen, user_of};
 ghost use Rattle.system_model.specs.Run.{next, taken, otherwise, attended, raised, due_of};
 ghost use Rattle.system_model.specs.Cases.{broken_off, idled, user_at};
 ghost use Rattle.system_model.specs.Sound.{HasSeat, IsUser};
-ghost use Rattle.time_sharing.specs.Machine.{Went};
 ghost use Rattle.time_sharing.specs.System.{next_tick};
+ghost use Rattle.supervisor.specs.Goes.{HasTime, IsToServe, IsFirst, MayPass, GivesUp, IsGoing, Leaves, LeavesDevices, WorksOn};
 ghost use Rattle.supervisor.specs.Seen.{number_of};
-ghost use Rattle.supervisor.specs.Steps.{IsLeft, Lasts};
-ghost use Rattle.supervisor.specs.Whole.{whole, run_of, Holds, IsReady, HasBlocks, StepsBy, IsSame, StepsOn, AreTied, AreCounted, AreCountedBy, LoadIsCut, AbsentIsCut, ServedIsCut, NextIsCut, NeverCut, Steps};
+ghost use Rattle.supervisor.specs.Whole.{whole, run_of, IsReady, HasBlocks, StepsBy, IsSame, LoadIsCut, AbsentIsCut, ServedIsCut, NextIsCut, NeverCut, Steps};
 
 use crate::state::State;
 use ctss_types::{
@@ -29,12 +24,9 @@ fn give_up<C: Backing>(cores: &mut C, cut: Option<UserNo>)
     requires usable { C.Usable cores.old }
     requires user { number_of cut < length (C.state cores.old).held.sizes }
     requires directory { number_of cut ≤ (C.state cores.old).held.users }
-    ensures left { IsLeft cut (C.state cores.old).held (C.state cores.new).held }
-    ensures calls { (C.state cores.new).calls ≡ (C.state cores.old).calls }
+    ensures gives { GivesUp cut (C.state cores.old) (C.state cores.new) }
     ensures usable { C.Usable cores.new }
     ensures keeps { C.Keeps cores.old cores.new }
-    ensures faults { (C.state cores.new).faults ≡ (C.state cores.old).faults }
-    ensures disk { (C.state cores.new).disk_faults ≡ (C.state cores.old).disk_faults }
 {
     if let Some(user) = cut {
         cores.hang_up(user);
@@ -44,18 +36,12 @@ fn give_up<C: Backing>(cores: &mut C, cut: Option<UserNo>)
 impl State {
     /// The event that is due.
     fn hear<C: Backing>(&mut self, cores: &mut C, e: Timed) -> Result<(), NoMemory>
-        requires usable { C.Usable cores.old }
-        requires held { Holds (whole self.old (C.state cores.old)) }
+        requires going { IsGoing C.Backing self.old cores.old }
         requires seat { HasSeat e (run_of (whole self.old (C.state cores.old))) }
         ensures ok { OnOk result (StepsBy (taken e)
             (whole self.old (C.state cores.old)) (whole self.new (C.state cores.new))) }
         ensures err { OnErr result (IsSame (whole self.old (C.state cores.old)) (whole self.new (C.state cores.new))) }
-        ensures counted { AreCounted (whole self.old (C.state cores.old)) (whole self.new (C.state cores.new)) }
-        ensures tied { AreTied (whole self.new (C.state cores.new)) }
-        ensures usable { C.Usable cores.new }
-        ensures keeps { C.Keeps cores.old cores.new }
-        ensures faults { (C.state cores.new).faults ≡ (C.state cores.old).faults }
-        ensures disk { (C.state cores.new).disk_faults ≡ (C.state cores.old).disk_faults }
+        ensures leaves { LeavesDevices C.Backing self.old cores.old self.new cores.new }
     {
         let cut = self.take_event(e)?;
         give_up(cores, cut);
@@ -64,28 +50,21 @@ impl State {
 
     /// The blocks of the user that is served are brought into core.
     #[inline(never)]
-    fn fetch<C: Backing>(&mut self, cores: &mut C, v: Service) -> Result<(), RunFault>
-        requires usable { C.Usable cores.old }
-        requires held { Holds (whole self.old (C.state cores.old)) }
+    fn swap_in<C: Backing>(&mut self, cores: &mut C, v: Service) -> Result<(), RunFault>
+        requires going { IsGoing C.Backing self.old cores.old }
         requires user { IsUser v.user (run_of (whole self.old (C.state cores.old))) }
         requires absent { HasBlocks v.user false (whole self.old (C.state cores.old)) }
         requires in_time { self.old.clock ≤ 100000000 }
         ensures ended { Steps (attended v) (LoadIsCut v.user) result
             (whole self.old (C.state cores.old)) (whole self.new (C.state cores.new)) }
-        ensures counted { AreCountedBy result
-            (whole self.old (C.state cores.old)) (whole self.new (C.state cores.new)) }
-        ensures tied { Lasts result (AreTied (whole self.new (C.state cores.new))) }
-        ensures usable { Lasts result (C.Usable cores.new) }
-        ensures keeps { C.Keeps cores.old cores.new }
-        ensures faults_grow { (C.state cores.old).faults ≤ (C.state cores.new).faults }
-        ensures disk { (C.state cores.old).disk_faults ≤ (C.state cores.new).disk_faults }
+        ensures leaves { Leaves C.Backing result self.old cores.old self.new cores.new }
     {
         if self.entries.reserve(1).is_err() {
             return Err(RunFault::NoMemory);
         }
         match cores.load(v.user) {
             Ok(plan) => {
-                self.bring(v.user, plan);
+                self.note_swap(v.user, plan);
                 Ok(())
             }
             Err(_) => Err(RunFault::Drum),
@@ -101,25 +80,16 @@ impl State {
         v: Service,
         op: Apart<CommonOp>,
     ) -> Result<(), RunFault>
-        requires usable { C.Usable cores.old }
-        requires held { Holds (whole self.old (C.state cores.old)) }
-        requires user { IsUser v.user (run_of (whole self.old (C.state cores.old))) }
-        requires chosen { user_of (chosen self.old.queues) ≡ Some v.user }
+        requires going { IsGoing C.Backing self.old cores.old }
+        requires serves { IsToServe v (whole self.old (C.state cores.old)) }
         requires loaded { HasBlocks v.user true (whole self.old (C.state cores.old)) }
         requires makes { IsToMake (C.state cores.old).disk_tells ((C.state cores.old).window v.user) op
             (user_at v.user self.old.sessions.items) }
         requires room { vec_len self.old.entries + 4 ≤ vec_capacity self.old.entries }
-        requires ran { v.ran ≤ self.old.clock }
-        requires in_time { self.old.clock ≤ 100000000 }
         ensures ended { Steps (attended v) NeverCut result
             (whole self.old (C.state cores.old)) (whole self.new (C.state cores.new)) }
-        ensures counted { AreCountedBy result
-            (whole self.old (C.state cores.old)) (whole self.new (C.state cores.new)) }
-        ensures tied { Lasts result (AreTied (whole self.new (C.state cores.new))) }
-        ensures usable { Lasts result (C.Usable cores.new) }
-        ensures keeps { C.Keeps cores.old cores.new }
-        ensures faults { (C.state cores.new).faults ≡ (C.state cores.old).faults }
-        ensures disk { (C.state cores.old).disk_faults ≤ (C.state cores.new).disk_faults }
+        ensures leaves { Leaves C.Backing result self.old cores.old self.new cores.new }
+        ensures drum { (C.state cores.new).faults ≡ (C.state cores.old).faults }
     {
         let session = &mut self.sessions[v.user.index()];
         match cores.share(v.user, session, op.get(), self.clock) {
@@ -142,22 +112,13 @@ impl State {
     /// A step of the user that is served, whose blocks are in core; where it can't step, it waits.
     #[inline(always)]
     fn serve<C: Backing>(&mut self, cores: &mut C, v: Service) -> Result<(), RunFault>
-        requires usable { C.Usable cores.old }
-        requires held { Holds (whole self.old (C.state cores.old)) }
-        requires user { IsUser v.user (run_of (whole self.old (C.state cores.old))) }
-        requires chosen { user_of (chosen self.old.queues) ≡ Some v.user }
+        requires going { IsGoing C.Backing self.old cores.old }
+        requires serves { IsToServe v (whole self.old (C.state cores.old)) }
         requires loaded { HasBlocks v.user true (whole self.old (C.state cores.old)) }
-        requires ran { v.ran ≤ self.old.clock }
-        requires in_time { self.old.clock ≤ 100000000 }
         ensures ended { Steps (attended v) NeverCut result
             (whole self.old (C.state cores.old)) (whole self.new (C.state cores.new)) }
-        ensures counted { AreCountedBy result
-            (whole self.old (C.state cores.old)) (whole self.new (C.state cores.new)) }
-        ensures tied { Lasts result (AreTied (whole self.new (C.state cores.new))) }
-        ensures usable { Lasts result (C.Usable cores.new) }
-        ensures keeps { C.Keeps cores.old cores.new }
-        ensures faults { (C.state cores.new).faults ≡ (C.state cores.old).faults }
-        ensures disk { (C.state cores.old).disk_faults ≤ (C.state cores.new).disk_faults }
+        ensures leaves { Leaves C.Backing result self.old cores.old self.new cores.new }
+        ensures drum { (C.state cores.new).faults ≡ (C.state cores.old).faults }
     {
         if self.entries.reserve(4).is_err() {
             return Err(RunFault::NoMemory);
@@ -183,24 +144,14 @@ impl State {
     /// The user that is served: its blocks are brought in, or it steps.
     #[inline(always)]
     fn attend<C: Backing>(&mut self, cores: &mut C, v: Service) -> Result<(), RunFault>
-        requires usable { C.Usable cores.old }
-        requires held { Holds (whole self.old (C.state cores.old)) }
-        requires user { IsUser v.user (run_of (whole self.old (C.state cores.old))) }
-        requires chosen { user_of (chosen self.old.queues) ≡ Some v.user }
-        requires ran { v.ran ≤ self.old.clock }
-        requires in_time { self.old.clock ≤ 100000000 }
+        requires going { IsGoing C.Backing self.old cores.old }
+        requires serves { IsToServe v (whole self.old (C.state cores.old)) }
         ensures ended { Steps (attended v) (AbsentIsCut v.user) result
             (whole self.old (C.state cores.old)) (whole self.new (C.state cores.new)) }
-        ensures counted { AreCountedBy result
-            (whole self.old (C.state cores.old)) (whole self.new (C.state cores.new)) }
-        ensures tied { Lasts result (AreTied (whole self.new (C.state cores.new))) }
-        ensures usable { Lasts result (C.Usable cores.new) }
-        ensures keeps { C.Keeps cores.old cores.new }
-        ensures faults_grow { (C.state cores.old).faults ≤ (C.state cores.new).faults }
-        ensures disk { (C.state cores.old).disk_faults ≤ (C.state cores.new).disk_faults }
+        ensures leaves { Leaves C.Backing result self.old cores.old self.new cores.new }
     {
         if !cores.is_loaded(v.user) {
-            return self.fetch(cores, v);
+            return self.swap_in(cores, v);
         }
         self.serve(cores, v)
     }
@@ -208,33 +159,21 @@ impl State {
     /// A service ends, since its user isn't the head of the lowest level.
     #[inline(never)]
     fn preempt<C: Backing>(&mut self, cores: &mut C, v: Service) -> Result<(), NoMemory>
-        requires usable { C.Usable cores.old }
-        requires held { Holds (whole self.old (C.state cores.old)) }
+        requires going { IsGoing C.Backing self.old cores.old }
         ensures ok { OnOk result (StepsBy (broken_off v)
             (whole self.old (C.state cores.old)) (whole self.new (C.state cores.new))) }
         ensures err { OnErr result (IsSame (whole self.old (C.state cores.old)) (whole self.new (C.state cores.new))) }
-        ensures counted { AreCounted (whole self.old (C.state cores.old)) (whole self.new (C.state cores.new)) }
-        ensures tied { AreTied (whole self.new (C.state cores.new)) }
-        ensures usable { C.Usable cores.new }
-        ensures keeps { C.Keeps cores.old cores.new }
-        ensures faults { (C.state cores.new).faults ≡ (C.state cores.old).faults }
-        ensures disk { (C.state cores.new).disk_faults ≡ (C.state cores.old).disk_faults }
+        ensures leaves { LeavesDevices C.Backing self.old cores.old self.new cores.new }
     {
         self.break_off(v)?;
         Ok(())
     }
 
     /// Nobody waits: the clock goes on.
-    fn rest<C: Backing>(&mut self, cores: &mut C, limit: u64)
-        requires usable { C.Usable cores.old }
-        requires held { Holds (whole self.old (C.state cores.old)) }
+    fn idle_on<C: Backing>(&mut self, cores: &mut C, limit: u64)
+        requires going { IsGoing C.Backing self.old cores.old }
         ensures does { StepsBy (idled limit) (whole self.old (C.state cores.old)) (whole self.new (C.state cores.new)) }
-        ensures counted { AreCounted (whole self.old (C.state cores.old)) (whole self.new (C.state cores.new)) }
-        ensures tied { AreTied (whole self.new (C.state cores.new)) }
-        ensures usable { C.Usable cores.new }
-        ensures keeps { C.Keeps cores.old cores.new }
-        ensures faults { (C.state cores.new).faults ≡ (C.state cores.old).faults }
-        ensures disk { (C.state cores.new).disk_faults ≡ (C.state cores.old).disk_faults }
+        ensures leaves { LeavesDevices C.Backing self.old cores.old self.new cores.new }
     {
         self.idle(limit);
     }
@@ -243,23 +182,15 @@ impl State {
     #[inline(never)]
     #[tactic(auto, using(crate::proofs::Doing::go_idle, crate::proofs::Doing::go_end_none, crate::proofs::Doing::go_end))]
     fn go_on<C: Backing>(&mut self, cores: &mut C, limit: u64) -> Result<(), RunFault>
-        requires usable { C.Usable cores.old }
-        requires held { Holds (whole self.old (C.state cores.old)) }
-        requires in_time { self.old.clock < limit }
-        requires limit { limit ≤ 100000000 }
+        requires going { IsGoing C.Backing self.old cores.old }
+        requires time { HasTime limit self.old.clock }
         ensures ended { Steps (otherwise limit (user_of (chosen self.old.queues)) self.old.service) ServedIsCut result
             (whole self.old (C.state cores.old)) (whole self.new (C.state cores.new)) }
-        ensures counted { AreCountedBy result
-            (whole self.old (C.state cores.old)) (whole self.new (C.state cores.new)) }
-        ensures tied { Lasts result (AreTied (whole self.new (C.state cores.new))) }
-        ensures usable { Lasts result (C.Usable cores.new) }
-        ensures keeps { C.Keeps cores.old cores.new }
-        ensures faults_grow { (C.state cores.old).faults ≤ (C.state cores.new).faults }
-        ensures disk { (C.state cores.old).disk_faults ≤ (C.state cores.new).disk_faults }
+        ensures leaves { Leaves C.Backing result self.old cores.old self.new cores.new }
     {
         match (self.queues.choose(), self.service) {
             (None, None) => {
-                self.rest(cores, limit);
+                self.idle_on(cores, limit);
                 Ok(())
             }
             (None, Some(v)) => {
@@ -292,19 +223,11 @@ impl State {
     /// One step, at which an event is due.
     pub(crate) fn step_at<C: Backing>(&mut self, cores: &mut C, limit: u64) -> Result<(), RunFault>
         requires due { is_some (due_of self.old.events.items self.old.clock) ≡ true }
-        requires usable { C.Usable cores.old }
-        requires held { Holds (whole self.old (C.state cores.old)) }
-        requires in_time { self.old.clock < limit }
-        requires limit { limit ≤ 100000000 }
+        requires going { IsGoing C.Backing self.old cores.old }
+        requires time { HasTime limit self.old.clock }
         ensures ended { Steps (next limit) NextIsCut result
             (whole self.old (C.state cores.old)) (whole self.new (C.state cores.new)) }
-        ensures counted { AreCountedBy result
-            (whole self.old (C.state cores.old)) (whole self.new (C.state cores.new)) }
-        ensures tied { Lasts result (AreTied (whole self.new (C.state cores.new))) }
-        ensures usable { Lasts result (C.Usable cores.new) }
-        ensures keeps { C.Keeps cores.old cores.new }
-        ensures faults_grow { (C.state cores.old).faults ≤ (C.state cores.new).faults }
-        ensures disk { (C.state cores.old).disk_faults ≤ (C.state cores.new).disk_faults }
+        ensures leaves { Leaves C.Backing result self.old cores.old self.new cores.new }
     {
         match self.due() {
             Some(e) => match self.hear(cores, e) {
@@ -318,17 +241,11 @@ impl State {
     /// A user has waited for so long that it rises.
     #[inline(never)]
     fn lift<C: Backing>(&mut self, cores: &mut C) -> Result<(), NoMemory>
-        requires usable { C.Usable cores.old }
-        requires held { Holds (whole self.old (C.state cores.old)) }
+        requires going { IsGoing C.Backing self.old cores.old }
         ensures ok { OnOk result (StepsBy raised
             (whole self.old (C.state cores.old)) (whole self.new (C.state cores.new))) }
         ensures err { OnErr result (IsSame (whole self.old (C.state cores.old)) (whole self.new (C.state cores.new))) }
-        ensures counted { AreCounted (whole self.old (C.state cores.old)) (whole self.new (C.state cores.new)) }
-        ensures tied { AreTied (whole self.new (C.state cores.new)) }
-        ensures usable { C.Usable cores.new }
-        ensures keeps { C.Keeps cores.old cores.new }
-        ensures faults { (C.state cores.new).faults ≡ (C.state cores.old).faults }
-        ensures disk { (C.state cores.new).disk_faults ≡ (C.state cores.old).disk_faults }
+        ensures leaves { LeavesDevices C.Backing self.old cores.old self.new cores.new }
     {
         self.raise()?;
         Ok(())
@@ -346,19 +263,11 @@ impl State {
     ) -> Result<(), RunFault>
         requires ready { ready ≡ true → IsReady (whole self.old (C.state cores.old)) }
         requires quiet { due_of self.old.events.items self.old.clock ≡ None }
-        requires usable { C.Usable cores.old }
-        requires held { Holds (whole self.old (C.state cores.old)) }
-        requires in_time { self.old.clock < limit }
-        requires limit { limit ≤ 100000000 }
+        requires going { IsGoing C.Backing self.old cores.old }
+        requires time { HasTime limit self.old.clock }
         ensures ended { Steps (next limit) NextIsCut result
             (whole self.old (C.state cores.old)) (whole self.new (C.state cores.new)) }
-        ensures counted { AreCountedBy result
-            (whole self.old (C.state cores.old)) (whole self.new (C.state cores.new)) }
-        ensures tied { Lasts result (AreTied (whole self.new (C.state cores.new))) }
-        ensures usable { Lasts result (C.Usable cores.new) }
-        ensures keeps { C.Keeps cores.old cores.new }
-        ensures faults_grow { (C.state cores.old).faults ≤ (C.state cores.new).faults }
-        ensures disk { (C.state cores.old).disk_faults ≤ (C.state cores.new).disk_faults }
+        ensures leaves { Leaves C.Backing result self.old cores.old self.new cores.new }
     {
         if ready {
             if let Some(v) = self.service {
@@ -404,28 +313,13 @@ impl State {
         limit: u64,
         still: u64,
     ) -> bool
-        requires usable { C.Usable cores.old }
-        requires held { Holds (whole self.old (C.state cores.old)) }
-        requires user { IsUser v.user (run_of (whole self.old (C.state cores.old))) }
+        requires going { IsGoing C.Backing self.old cores.old }
+        requires first { IsFirst v next (whole self.old (C.state cores.old)) }
         requires loaded { HasBlocks v.user true (whole self.old (C.state cores.old)) }
-        requires serves { self.old.service ≡ Some v }
-        requires first { IsChosen next.user next.level next.left self.old.queues }
-        requires mine { next.user ≡ v.user }
-        requires left { most < next.left }
-        requires up { self.old.clock + most ≤ limit }
-        requires quiet { self.old.clock + most ≤ next_tick limit self.old.events.items }
-        requires low { NobodyRises (Some v.user) still self.old.queues }
-        requires still { self.old.clock + most ≤ still }
+        requires spare { MayPass most v.user next.left limit still (whole self.old (C.state cores.old)) }
         requires limit { limit ≤ 100000000 }
-        ensures many { StepsOn limit (whole self.old (C.state cores.old)) (whole self.new (C.state cores.new)) }
+        ensures works { WorksOn C.Backing limit self.old cores.old self.new cores.new }
         ensures ready { result ≡ true → IsReady (whole self.new (C.state cores.new)) }
-        ensures entries { self.new.entries.items ≡ self.old.entries.items }
-        ensures tied { AreTied (whole self.new (C.state cores.new)) }
-        ensures usable { C.Usable cores.new }
-        ensures keeps { C.Keeps cores.old cores.new }
-        ensures calls { (C.state cores.new).calls ≡ (C.state cores.old).calls }
-        ensures faults { (C.state cores.new).faults ≡ (C.state cores.old).faults }
-        ensures disk { (C.state cores.new).disk_faults ≡ (C.state cores.old).disk_faults }
     {
         let session = &mut self.sessions[v.user.index()];
         let ticks = cores.advance(v.user, session, most);
@@ -437,22 +331,11 @@ impl State {
     /// something else is to be looked at; and whether the next step is known to be that user's too.
     #[tactic(auto, using(crate::proofs::Passing::stands_still))]
     fn work_on<C: Backing>(&mut self, cores: &mut C, v: Service, next: Chosen, limit: u64) -> bool
-        requires usable { C.Usable cores.old }
-        requires held { Holds (whole self.old (C.state cores.old)) }
-        requires user { IsUser v.user (run_of (whole self.old (C.state cores.old))) }
-        requires serves { self.old.service ≡ Some v }
-        requires first { IsChosen next.user next.level next.left self.old.queues }
-        requires mine { next.user ≡ v.user }
+        requires going { IsGoing C.Backing self.old cores.old }
+        requires first { IsFirst v next (whole self.old (C.state cores.old)) }
         requires limit { limit ≤ 100000000 }
-        ensures many { StepsOn limit (whole self.old (C.state cores.old)) (whole self.new (C.state cores.new)) }
+        ensures works { WorksOn C.Backing limit self.old cores.old self.new cores.new }
         ensures ready { result ≡ true → IsReady (whole self.new (C.state cores.new)) }
-        ensures entries { self.new.entries.items ≡ self.old.entries.items }
-        ensures tied { AreTied (whole self.new (C.state cores.new)) }
-        ensures usable { C.Usable cores.new }
-        ensures keeps { C.Keeps cores.old cores.new }
-        ensures calls { (C.state cores.new).calls ≡ (C.state cores.old).calls }
-        ensures faults { (C.state cores.new).faults ≡ (C.state cores.old).faults }
-        ensures disk { (C.state cores.new).disk_faults ≡ (C.state cores.old).disk_faults }
     {
         if !cores.is_loaded(v.user) {
             return false;
@@ -471,18 +354,10 @@ impl State {
     /// of that user too.
     #[tactic(auto, using(crate::proofs::Passing::stands_still))]
     pub(crate) fn run<C: Backing>(&mut self, cores: &mut C, limit: u64) -> bool
-        requires usable { C.Usable cores.old }
-        requires held { Holds (whole self.old (C.state cores.old)) }
+        requires going { IsGoing C.Backing self.old cores.old }
         requires limit { limit ≤ 100000000 }
-        ensures many { StepsOn limit (whole self.old (C.state cores.old)) (whole self.new (C.state cores.new)) }
+        ensures works { WorksOn C.Backing limit self.old cores.old self.new cores.new }
         ensures ready { result ≡ true → IsReady (whole self.new (C.state cores.new)) }
-        ensures entries { self.new.entries.items ≡ self.old.entries.items }
-        ensures tied { AreTied (whole self.new (C.state cores.new)) }
-        ensures usable { C.Usable cores.new }
-        ensures keeps { C.Keeps cores.old cores.new }
-        ensures calls { (C.state cores.new).calls ≡ (C.state cores.old).calls }
-        ensures faults { (C.state cores.new).faults ≡ (C.state cores.old).faults }
-        ensures disk { (C.state cores.new).disk_faults ≡ (C.state cores.old).disk_faults }
     {
         match (self.queues.choose(), self.service) {
             (Some(next), Some(v)) => {

@@ -11,7 +11,7 @@ use Rattle.ctss_types.specs.declared.file.Refusal.TheVariants.{Quota, BadMode}
 use Rattle.file_model.specs.Files.{file_named, with_new, with_change, put, put_of, moded, moded_of, tracks_of, tracks_of_words}
 use Rattle.file_model.specs.Owned.{files_of}
 use Rattle.file_model.proofs.Owned.{files_of_both, files_of_own, files_of_other, tracks_of_both}
-use Rattle.directories.specs.Directories.{DirectoriesState, KeepsUsers, LeavesRest}
+use Rattle.track_directories.specs.Directories.{DirectoriesState, KeepsUsers, LeavesRest}
 use Rattle.track_directories.specs.Firsts.{AreFirst, CanAdd, IsAdded}
 use Rattle.file_map.specs.Directory.{NamesDiffer}
 use Rattle.file_map.specs.Known.{blank, known, known_of}

@@ -6,7 +6,7 @@ use Rattle.std.proofs.lemmas.List.{take_all}
 use Rattle.faults.specs.Faults.{WhereTold}
 use Rattle.std.proofs.lemmas.List.Elements.{All-head, All-tail}
 use Rattle.ctss_types.specs.declared.file.FileBody.{FileBody}
-use Rattle.directories.specs.Directories.{lists_from}
+use Rattle.track_directories.specs.Directories.{lists_from}
 use Rattle.file_model.specs.Files.{tracks_of_words}
 use Rattle.track_store.specs.Words.{joined}
 use Rattle.file_tracks.specs.Stored.{occurs, body_on, files_on, HasTracks, IsWhole}

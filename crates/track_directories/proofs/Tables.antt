@@ -18,7 +18,7 @@ use Rattle.file_model.specs.Commons.{ReplyFits}
 use Rattle.file_model.specs.Files.{lasting}
 use Rattle.user_model.specs.Inner.{Stored}
 use Rattle.user_session.specs.Stores.{stored, Over}
-use Rattle.directories.specs.Directories.{KeepsUsers, LeavesRest, Serves, Shares, Drops}
+use Rattle.track_directories.specs.Directories.{KeepsUsers, LeavesRest, Serves, Shares, Drops}
 use Rattle.file_tracks.specs.Stored.{files_on, IsDirectory}
 use Rattle.file_tracks.specs.Seen.{tells_of, seen}
 use Rattle.file_tracks.specs.declared.table.Filed.{Filed}

@@ -10,7 +10,7 @@ use Rattle.file_model.specs.Files.{file_named, tracks_of}
 use Rattle.file_model.specs.Owned.{files_of}
 use Rattle.file_map.specs.Directory.{NamesDiffer}
 use Rattle.file_map.specs.Known.{known}
-use Rattle.directories.specs.Directories.{DirectoriesState, KeepsUsers}
+use Rattle.track_directories.specs.Directories.{DirectoriesState, KeepsUsers}
 use Rattle.file_tracks.specs.Directories.{quota_all}
 use Rattle.file_tracks.specs.declared.table.TrackTable.{TrackTable}
 

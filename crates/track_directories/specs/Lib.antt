@@ -1,3 +1,4 @@
+pub mod Directories
 pub mod Tables
 pub mod Firsts
 pub mod Calls

@@ -3,7 +3,7 @@ use Rattle.std.specs.Prelude.{ℕ, ◌-◌, ◌<◌, ◌≤◌, List, [], map, l
 use Rattle.std.specs.Borrow.{MutBor}
 use Rattle.std.specs.List.{All}
 use Rattle.ctss_types.specs.declared.file.FileBody.{FileBody}
-use Rattle.directories.specs.Directories.{DirectoriesState}
+use Rattle.track_directories.specs.Directories.{DirectoriesState}
 use Rattle.medium.specs.declared.medium.Medium.{Ghosts}
 use Rattle.file_tracks.specs.Seen.{tells_of, seen}
 use Rattle.file_tracks.specs.Directories.{AreDirectories}

@@ -1,5 +1,5 @@
 //! Calls on one directory, over its table and the store of all tracks.
-ghost use Rattle.std.specs.Prelude.{◌≡◌, ◌<◌, ◌-◌, ◌*◌, ◌^◌, length, IfOk, OnErr};
+ghost use Rattle.std.specs.Prelude.{◌<◌, ◌^◌, IfOk};
 ghost use Rattle.ctss_types.specs.declared.file.CommonOp.{CommonOp};
 ghost use Rattle.file_model.specs.Commons.{ReplyFits};
 ghost use Rattle.common_file.specs.Applied.{IsApplied};
@@ -7,7 +7,8 @@ ghost use Rattle.user_session.specs.Stores.{stored, Over, IsToMake};
 ghost use Rattle.user_session.specs.Turns.{IsReplied, IsTurn};
 ghost use Rattle.file_tracks.specs.Seen.{tells_of};
 ghost use Rattle.file_tracks.specs.Tracked.{tracked, files_in, IsReady};
-ghost use Rattle.track_directories.specs.Calls.{LeavesOne};
+ghost use Rattle.user_session.specs.Calls.{CanStep, KeepsCore, KeepsUser};
+ghost use Rattle.track_directories.specs.Calls.{IsReadyFor, LeavesOneOn};
 
 use common_file::apply;
 use cpu_regs::MemoryPort;
@@ -28,21 +29,16 @@ pub(crate) fn turn_over<M: MemoryPort, F: Medium>(
     core: &mut M,
     now: u64,
 ) -> Result<Turn, StepFault>
-    requires ready { IsReady (tracked F.Medium store.old) table.old }
-    requires quota { table.old.quota ≡ session.old.inner.account.tracks }
-    requires size { length (M.words core.old) ≡ 256 * session.old.inner.blocks }
-    requires fits { session.old.own < 2 ^ 64 - 1 }
+    requires ready { IsReadyFor F.Medium session.old store.old table.old }
+    requires can { CanStep session.old (M.words core.old) }
     requires time { now < 2 ^ 35 }
     ensures turn { IfOk result (λ turn. Over (tells_of (F.contents store.old.disk.now))
         (stored (M.words core.old) (files_in (tracked F.Medium store.old) table.old))
         (stored (M.words core.new) (files_in (tracked F.Medium store.new) table.new))
         (IsTurn turn now session.old session.new)) }
-    ensures account { session.new.inner.account ≡ session.old.inner.account }
-    ensures err { OnErr result (session.new ≡ session.old) }
-    ensures err_core { OnErr result (M.words core.new ≡ M.words core.old) }
-    ensures core_keeps { M.Keeps core.old core.new }
-    ensures one { LeavesOne result (tracked F.Medium store.old) (tracked F.Medium store.new) table.old table.new }
-    ensures same { store.new.disk.ghost_name ≡ store.old.disk.ghost_name }
+    ensures user { KeepsUser result session.old session.new }
+    ensures core { KeepsCore M.MemoryPort result core.old core.new }
+    ensures leaves { LeavesOneOn F.Medium result store.old store.new table.old table.new }
 {
     let mut port = TrackPort {
         alloc,
@@ -63,25 +59,20 @@ pub(crate) fn reply_over<M: MemoryPort, F: Medium>(
     reply: &Reply,
     now: u64,
 ) -> Result<Step, StepFault>
-    requires ready { IsReady (tracked F.Medium store.old) table.old }
-    requires quota { table.old.quota ≡ session.old.inner.account.tracks }
+    requires ready { IsReadyFor F.Medium session.old store.old table.old }
     requires asks { (op : CommonOp) × IsToMake (tells_of (F.contents store.old.disk.now))
         (stored (M.words core.old) (files_in (tracked F.Medium store.old) table.old)) op session.old }
-    requires size { length (M.words core.old) ≡ 256 * session.old.inner.blocks }
+    requires can { CanStep session.old (M.words core.old) }
     requires reply_fits { ReplyFits reply.now }
-    requires fits { session.old.own < 2 ^ 64 - 1 }
     ensures step { (op : CommonOp) → IsToMake (tells_of (F.contents store.old.disk.now))
         (stored (M.words core.old) (files_in (tracked F.Medium store.old) table.old)) op session.old
         → IfOk result (λ s. Over (tells_of (F.contents store.old.disk.now))
         (stored (M.words core.old) (files_in (tracked F.Medium store.old) table.old))
         (stored (M.words core.new) (files_in (tracked F.Medium store.new) table.new))
         (IsReplied s op reply.now now session.old session.new)) }
-    ensures account { session.new.inner.account ≡ session.old.inner.account }
-    ensures err { OnErr result (session.new ≡ session.old) }
-    ensures err_core { OnErr result (M.words core.new ≡ M.words core.old) }
-    ensures core_keeps { M.Keeps core.old core.new }
-    ensures one { LeavesOne result (tracked F.Medium store.old) (tracked F.Medium store.new) table.old table.new }
-    ensures same { store.new.disk.ghost_name ≡ store.old.disk.ghost_name }
+    ensures user { KeepsUser result session.old session.new }
+    ensures core { KeepsCore M.MemoryPort result core.old core.new }
+    ensures leaves { LeavesOneOn F.Medium result store.old store.new table.old table.new }
 {
     let mut port = TrackPort {
         alloc,
@@ -104,8 +95,7 @@ pub(crate) fn share_over<F: Medium>(
         (λ reply. IsApplied (tells_of (F.contents store.old.disk.now)) table.old.quota op.now reply
         (files_in (tracked F.Medium store.old) table.old) (files_in (tracked F.Medium store.new) table.new)) }
     ensures fits { IfOk result ReplyFits }
-    ensures one { LeavesOne result (tracked F.Medium store.old) (tracked F.Medium store.new) table.old table.new }
-    ensures same { store.new.disk.ghost_name ≡ store.old.disk.ghost_name }
+    ensures leaves { LeavesOneOn F.Medium result store.old store.new table.old table.new }
 {
     let mut port = TrackPort {
         alloc,

@@ -1,7 +1,7 @@
 //! The words of a disk's tracks, and which tracks are taken.
-ghost use Rattle.std.specs.Prelude.{◌≡◌, ◌<◌, ◌≤◌, ◌+◌, length, true, false, replicate, slice_set, is_err, IfOk, OnOk, OnErr};
-ghost use Rattle.faults.specs.Faults.{Rose};
-ghost use Rattle.medium.specs.Medium.{AreWords, read_call, write_call, with_call, with_record, Reads};
+ghost use Rattle.std.specs.Prelude.{◌≡◌, ◌<◌, ◌+◌, length, true, false, replicate, slice_set, IfOk, OnOk, OnErr};
+ghost use Rattle.medium.specs.Medium.{AreWords};
+ghost use Rattle.track_store.specs.Calls.{IsServed, ReadsTrack, WritesTrack};
 ghost use Rattle.track_store.specs.Tracks.{count_taken, is_taken, Serves};
 
 use crate::tracks::{NoTrack, Tracks};
@@ -108,20 +108,8 @@ impl<'a, F: Medium> TrackStore<'a, F> {
         requires taken { is_taken self.old.tracks.taken.items track ≡ true }
         requires whole { length into.old ≡ 432 }
         requires words { AreWords into.old }
-        requires serves { Serves (F.contents self.old.disk.now) (F.record_count self.old.disk.now)
-            (F.words_each self.old.disk.now) (length self.old.tracks.taken.items) }
-        ensures same { self.new.disk.ghost_name ≡ self.old.disk.ghost_name }
-        ensures tracks { self.new.tracks ≡ self.old.tracks }
-        ensures serves { Serves (F.contents self.new.disk.now) (F.record_count self.new.disk.now)
-            (F.words_each self.new.disk.now) (length self.new.tracks.taken.items) }
-        ensures words { AreWords into.new }
-        ensures len { length into.new ≡ 432 }
-        ensures given { OnOk result (Reads (F.contents self.old.disk.now) track into.new) }
-        ensures contents { OnOk result (F.contents self.new.disk.now ≡ F.contents self.old.disk.now) }
-        ensures calls { F.calls self.new.disk.now
-            ≡ with_call (F.calls self.old.disk.now) (read_call track (is_err result) into.new) }
-        ensures faults_grow { F.faults self.old.disk.now ≤ F.faults self.new.disk.now }
-        ensures cause { OnErr result (Rose (F.faults self.old.disk.now) (F.faults self.new.disk.now)) }
+        requires serves { IsServed F.Medium self.old }
+        ensures { ReadsTrack F.Medium track into.new result self.old self.new }
     {
         self.disk.read(track, into)?;
         Ok(())
@@ -133,18 +121,8 @@ impl<'a, F: Medium> TrackStore<'a, F> {
         requires taken { is_taken self.old.tracks.taken.items track ≡ true }
         requires whole { length from.now ≡ 432 }
         requires words { AreWords from.now }
-        requires serves { Serves (F.contents self.old.disk.now) (F.record_count self.old.disk.now)
-            (F.words_each self.old.disk.now) (length self.old.tracks.taken.items) }
-        ensures same { self.new.disk.ghost_name ≡ self.old.disk.ghost_name }
-        ensures tracks { self.new.tracks ≡ self.old.tracks }
-        ensures serves { Serves (F.contents self.new.disk.now) (F.record_count self.new.disk.now)
-            (F.words_each self.new.disk.now) (length self.new.tracks.taken.items) }
-        ensures contents { OnOk result (F.contents self.new.disk.now ≡ with_record (F.contents self.old.disk.now)
-            track from.now) }
-        ensures calls { F.calls self.new.disk.now
-            ≡ with_call (F.calls self.old.disk.now) (write_call track (is_err result)) }
-        ensures faults_grow { F.faults self.old.disk.now ≤ F.faults self.new.disk.now }
-        ensures cause { OnErr result (Rose (F.faults self.old.disk.now) (F.faults self.new.disk.now)) }
+        requires serves { IsServed F.Medium self.old }
+        ensures { WritesTrack F.Medium track from.now result self.old self.new }
     {
         self.disk.write(track, from)?;
         Ok(())

@@ -12,7 +12,7 @@ use Rattle.onion_swap.specs.Places.{Layout, first_layout, owner_of, base_of}
 use Rattle.image_map.specs.Images.{size_of, image_in, image_over}
 use Rattle.image_map.specs.Places.{places_of, is_kept, is_some}
 use Rattle.image_map.proofs.Moves.{none_in}
-use Rattle.user_cores.specs.Memory.{AreWhole, words_of}
+use Rattle.user_cores.specs.Words.{AreWhole, words_of}
 
 none_whole : (blocks : ℕ → List ℕ) (bases owners : List ℕ) (all : Option (List (Option (List ℕ)))) (quotas : List ℕ) (u : ℕ) → AreWhole (image_over blocks bases owners all quotas 0 u)
 none_whole blocks bases owners None quotas u = tt

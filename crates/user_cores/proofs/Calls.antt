@@ -1,6 +1,6 @@
 -- The calls of the drum that a load makes.
-use Rattle.std.proofs.Common.{◌≡◌, ℕ, ◌+◌, List, [], ◌∷◌, length, refl, sym, ap, ◌∙◌, arith}
-use Rattle.std.specs.Prelude.{Result, Ok, Err, Option, None, Some}
+use Rattle.std.proofs.Common.{◌≡◌, ℕ, zero, suc, ◌+◌, ◌≤◌, Bool, List, [], ◌∷◌, length, refl, sym, ap, ◌∙◌, arith}
+use Rattle.std.specs.Prelude.{Result, Ok, Err, Option, None, Some, ◌&&◌}
 use Rattle.std.specs.Option.{is_some}
 use Rattle.std.proofs.lemmas.Grind.{common_steps}
 use Rattle.medium.specs.Medium.{Call}
@@ -11,9 +11,12 @@ use Rattle.image_map.specs.Images.{image_in}
 use Rattle.image_map.specs.Loads.{count_writes, count_reads}
 use Rattle.image_map.specs.State as images
 use Rattle.image_map.specs.State.{ImageState, calls_of}
-use Rattle.user_cores.specs.Cores.{Loads}
-use Rattle.user_cores.specs.Memory.{words_of}
-use Rattle.user_cores.specs.Usable.{cores_in}
+use Rattle.ctss_types.specs.declared.file.FileBody.{FileBody}
+use Rattle.track_directories.specs.Directories.{DirectoriesState}
+use Rattle.user_session.specs.Stores.{stored}
+use Rattle.user_cores.specs.Backing.{Loads, back_of, stores_of}
+use Rattle.user_cores.specs.Words.{words_of}
+use Rattle.user_cores.specs.Usable.{words_in}
 
 -- each call is a write or a read
 length-calls : (cs : List Call) → length cs ≡ count_writes cs + count_reads cs
@@ -25,16 +28,24 @@ image_told : (bank : List ℕ) (contents : Option (List (List ℕ))) (at : Layou
 image_told bank None at slots sizes u = refl
 image_told bank (Some contents) at slots sizes u = refl
 
--- a load of a user, as cores show it
-pub loads_shown : {E : Type 0} (result : Result Plan E) (u : ℕ) (s s' : ImageState) → images.Loads u result s s' → Loads u result (cores_in s) (cores_in s')
-loads_shown (Ok plan) u s s' loads =
+-- the stores of all, where the words of all stay
+stores_same : (words words' : ℕ → List ℕ) (own : ℕ → List FileBody) (common : List FileBody) → ((u : ℕ) → 1 ≤ u → words' u ≡ words u) → (u : ℕ) → stores_of words' own common u ≡ stores_of words own common u
+stores_same words words' own common same zero = refl
+stores_same words words' own common same (suc u) = ap (λ (ws : List ℕ). stored ws (own (suc u))) (same (suc u) (omega arith))
+
+-- a load of a user, as cores beside directories show it
+pub loads_shown : {E : Type 0} (result : Result Plan E) (u : ℕ) (s s' : ImageState) (d : DirectoriesState) → images.Loads u result s s' → Loads u result (back_of s d) (back_of s' d)
+loads_shown (Ok plan) u s s' d loads =
+    let told : is_some s'.drum.contents ≡ is_some s.drum.contents =
+    sym (image_told s'.words s'.drum.contents s'.layout s'.slots s'.sizes 1) ∙ ap is_some (loads.done.images 1 (omega arith)) ∙ image_told s.words s.drum.contents s.layout s.slots s.sizes 1 in
     record {
+      rules = record { quotas = (λ j. (loads.keeps.quotas j).items); common = refl; tracks = λ v. refl; users = refl };
       sizes = loads.keeps.sizes;
-      quotas = (λ j. (loads.keeps.quotas j).items);
       faults = loads.keeps.faults;
+      disk = refl;
       done = record {
-        words = λ v some. ap words_of (loads.done.images v some);
-        tells = sym (image_told s'.words s'.drum.contents s'.layout s'.slots s'.sizes 1) ∙ ap is_some (loads.done.images 1 (omega arith)) ∙ image_told s.words s.drum.contents s.layout s.slots s.sizes 1;
+        stores = stores_same (words_in s) (words_in s') d.own d.common (λ v some. ap words_of (loads.done.images v some));
+        tells = ap (λ (b : Bool). b && d.tells) told;
         places = loads.done.places;
         dumped = loads.done.dumped;
         read = loads.done.read;
@@ -43,11 +54,12 @@ loads_shown (Ok plan) u s s' loads =
       };
       fails = loads.fails;
     }
-loads_shown (Err e) u s s' loads =
+loads_shown (Err e) u s s' d loads =
     record {
+      rules = record { quotas = (λ j. (loads.keeps.quotas j).items); common = refl; tracks = λ v. refl; users = refl };
       sizes = loads.keeps.sizes;
-      quotas = (λ j. (loads.keeps.quotas j).items);
       faults = loads.keeps.faults;
+      disk = refl;
       done = tt;
       fails = record {
         calls = record {

@@ -13,7 +13,7 @@ use Rattle.image_map.specs.Images.{size_of, image_in, where_told, resized}
 use Rattle.image_map.specs.Places.{places_of}
 use Rattle.image_map.proofs.Residents.{image_resident, image_stays, resident_of}
 use Rattle.user_model.specs.Inner.{recut, zeros}
-use Rattle.user_cores.specs.Memory.{words_of, AreWhole}
+use Rattle.user_cores.specs.Words.{words_of, AreWhole}
 use Rattle.user_cores.proofs.Blocks.{joined_first, joined_resized, joined_replaced, length-first, first_whole, resized_whole}
 
 -- where the image of one user is whole, and those of the others stay, all are whole

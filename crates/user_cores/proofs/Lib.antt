@@ -2,5 +2,6 @@ pub mod Blocks
 pub mod Calls
 pub mod Images
 pub mod Beginnings
-pub mod Usable
+pub mod Working
+pub mod Resizing
 pub mod Listed

@@ -1,21 +1,25 @@
 -- proof: what lies behind the users' sessions, cores and directories together, and what each call does to it.
-use Rattle.std.specs.Prelude.{◌≡◌, ◌≢◌, ℕ, ◌≤◌, ◌+◌, ◌*◌, Bool, true, ◌&&◌, List, [], zero, suc, length, slice_set, Option, Result, IfOk, OnErr}
+use Rattle.std.specs.Prelude.{◌≡◌, ◌≢◌, ℕ, ◌≤◌, ◌<◌, ◌+◌, ◌-◌, ◌*◌, ◌^◌, Bool, true, ◌&&◌, List, [], zero, suc, length, slice_set, Option, Result, IfOk, OnOk, OnErr, IsErrOf}
+use Rattle.std.specs.Option.{is_some}
 use Rattle.faults.specs.Faults.{Rose}
 use Rattle.medium.specs.Medium.{CallList}
 use Rattle.onion_swap.specs.declared.Plan.{Plan}
-use Rattle.plan_model.specs.Loads.{Places, loaded, given_up, dumps, reads, clears}
+use Rattle.plan_model.specs.Loads.{Places, is_loaded, loaded, given_up, dumps, reads, clears}
 use Rattle.image_map.specs.Images.{size_of}
-use Rattle.user_model.specs.Inner.{Stored, recut, zeros}
+use Rattle.image_map.specs.State.{ImageState, places_in}
+use Rattle.user_model.specs.Inner.{Stored, blocks_of, recut, zeros}
 use Rattle.user_model.specs.User.{hung}
 use Rattle.user_session.specs.Stores.{stored, Over}
 use Rattle.user_session.specs.Turns.{IsReplied}
 use Rattle.ctss_types.specs.declared.file.CommonOp.{CommonOp}
 use Rattle.ctss_types.specs.declared.file.FileBody.{FileBody}
+use Rattle.ctss_types.specs.declared.fault.StepFault.{StepFault}
+use Rattle.ctss_types.specs.declared.fault.StepFault.TheVariants.{Disk, NoMemory}
 use Rattle.common_file.specs.Applied.{IsApplied}
 use Rattle.user_model.specs.User.{User}
 use Rattle.user_cores.specs.declared.backing.Made.{Made}
-use Rattle.directories.specs.Directories.{DirectoriesState}
-use Rattle.user_cores.specs.Cores.{CoresState}
+use Rattle.track_directories.specs.Directories.{DirectoriesState}
+use Rattle.user_cores.specs.Usable.{words_in, window_in}
 use Rattle.user_cores.specs.Swaps.{IsMade, IsCutOff}
 
 pub record Held : Type 0 where
@@ -46,29 +50,43 @@ abbrev pub stores_of : (ℕ → List ℕ) → (ℕ → List FileBody) → List F
 stores_of words own common zero = stored [] common
 stores_of words own common (suc u) = stored (words (suc u)) (own (suc u))
 
--- cores beside directories
-abbrev pub back_of : CoresState → DirectoriesState → BackState
-back_of c d =
+-- cores that are swapped with a drum, beside directories
+abbrev pub back_of : ImageState → DirectoriesState → BackState
+back_of s d =
     record {
       held = record {
-        stores = stores_of c.memory.words d.own d.common;
-        tells = c.memory.tells && d.tells;
-        places = c.memory.places;
-        sizes = c.memory.sizes;
-        quotas = c.memory.quotas;
+        stores = stores_of (words_in s) d.own d.common;
+        tells = is_some s.drum.contents && d.tells;
+        places = places_in s;
+        sizes = s.sizes;
+        quotas = s.slots.quotas.items;
         tracks = d.may;
         common = d.common_may;
         users = d.count;
       };
-      window = λ u. stored (c.window u) (d.own u);
-      calls = c.calls;
-      faults = c.faults;
+      window = λ u. stored (window_in s u) (d.own u);
+      calls = s.drum.calls;
+      faults = s.drum.faults;
       disk_tells = d.tells;
       disk_faults = d.faults;
     }
 
 abbrev pub size : BackState → ℕ → ℕ
 size s user = size_of s.held.sizes user
+
+-- all blocks of a user are in core
+pub record IsInCore (user : ℕ) (s : BackState) : Type 0 where
+  pub within : user < length s.held.sizes
+  pub loaded : is_loaded s.held.places user (size s user) ≡ true
+
+-- a step of a user's session can be done: its blocks are in core, which it has as many of as the session says, and its directory has the quota
+-- of its account
+pub record CanTurn (user : ℕ) (p : User) (s : BackState) : Type 0 where
+  pub core : IsInCore user s
+  pub size : size s user ≡ blocks_of p.inner
+  pub directory : user ≤ s.held.users
+  pub tracks : s.held.tracks user ≡ p.inner.account.tracks
+  pub fits : p.own < 2 ^ 64 - 1
 
 -- a load that is done
 pub record Loaded (user : ℕ) (plan : Plan) (old new : BackState) : Type 0 where
@@ -167,3 +185,29 @@ pub record DiskFails (old new : BackState) : Type 0 where
   pub calls : new.calls ≡ old.calls
   pub faults : new.faults ≡ old.faults
   pub cause : Rose old.disk_faults new.disk_faults
+
+-- what a step of a user's session leaves; want of memory leaves the user's words and files
+pub record HasTurned (user : ℕ) {T : Type 0} (result : Result T StepFault) (old new : BackState) : Type 0 where
+  pub left : IsErrOf result NoMemory → new.window user ≡ old.window user
+  pub worked : ¬ IsErrOf result Disk → WorksIn 0 user old new
+  pub disk : old.disk_faults ≤ new.disk_faults
+  pub fails : IsErrOf result Disk → DiskFails old new
+
+-- what a step with an operation on the common files leaves, which may be made where memory lacked for the step
+pub record HasShared (user : ℕ) {T : Type 0} (result : Result T StepFault) (old new : BackState) : Type 0 where
+  pub left : IsErrOf result NoMemory → LeavesUsers old new
+  pub worked : OnOk result (WorksIn 1 user old new)
+  pub disk : old.disk_faults ≤ new.disk_faults
+  pub fails : IsErrOf result Disk → DiskFails old new
+
+-- what instructions of a user's program leave: its files stay, and the disk isn't called
+pub record HasAdvanced (user : ℕ) (old new : BackState) : Type 0 where
+  pub files : (new.window user).files ≡ (old.window user).files
+  pub worked : WorksIn 0 user old new
+  pub disk : new.disk_faults ≡ old.disk_faults
+
+-- neither drum nor disk is called
+pub record CallsNothing (old new : BackState) : Type 0 where
+  pub calls : new.calls ≡ old.calls
+  pub faults : new.faults ≡ old.faults
+  pub disk : new.disk_faults ≡ old.disk_faults

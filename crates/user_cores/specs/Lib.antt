@@ -1,6 +1,6 @@
-pub mod Cores
-pub mod Memory
+pub mod Words
 pub mod Swaps
 pub mod Usable
+pub mod Lent
 pub mod Backing
 pub mod Settles

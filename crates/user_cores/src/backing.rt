@@ -4,17 +4,17 @@ ghost use Rattle.faults.specs.Faults.{Rose};
 ghost use Rattle.ctss_types.specs.declared.file.FileBody.{FileBody};
 ghost use Rattle.drum_slots.specs.Keys.{quota_of};
 ghost use Rattle.plan_model.specs.Loads.{is_loaded};
-ghost use Rattle.user_model.specs.Inner.{blocks_of};
 ghost use Rattle.user_model.specs.Runs.{HaveGone};
+ghost use Rattle.user_session.specs.Calls.{KeepsUser};
 ghost use Rattle.user_session.specs.Stores.{Over, IsToMake};
 ghost use Rattle.user_session.specs.Turns.{IsTurn};
-ghost use Rattle.directories.specs.Directories.{lists_from};
-ghost use Rattle.user_cores.specs.Backing.{BackState, size, Loads, Resizes, Replaces, HangsUp, Shared, LeavesUsers, WorksIn, DiskFails};
+ghost use Rattle.track_directories.specs.Directories.{lists_from};
+ghost use Rattle.user_cores.specs.Backing.{BackState, size, CanTurn, HangsUp, HasAdvanced, HasShared, HasTurned, IsInCore, Loads, Replaces, Resizes, Shared};
 
 use ctss_types::{CommonOp, Reply, StepFault, UserNo};
-use directories::Lists;
 use image_map::{DrumFault, Plan};
 use std::alloc::Global;
+use track_directories::Lists;
 use user_session::{Session, Step, Turn};
 
 /// A step that made an operation on the common files, and the reply.
@@ -82,23 +82,14 @@ pub trait Backing {
     /// A step of the session of a user whose blocks are all in core.
     fn turn(&mut self, user: UserNo, session: &mut Session, now: u64) -> Result<Turn, StepFault>
         requires usable { Usable self.old }
-        requires user { user < length (state self.old).held.sizes }
-        requires directory { user ≤ (state self.old).held.users }
-        requires loaded { is_loaded (state self.old).held.places user (size (state self.old) user) ≡ true }
-        requires size { size (state self.old) user ≡ blocks_of session.old.inner }
-        requires tracks { (state self.old).held.tracks user ≡ session.old.inner.account.tracks }
-        requires fits { session.old.own < 2 ^ 64 - 1 }
+        requires can { CanTurn user session.old (state self.old) }
         requires time { now < 2 ^ 35 }
         ensures turn { IfOk result (λ turn. Over (state self.old).disk_tells
             ((state self.old).window user) ((state self.new).window user) (IsTurn turn now session.old session.new)) }
-        ensures account { session.new.inner.account ≡ session.old.inner.account }
-        ensures err { OnErr result (session.new ≡ session.old) }
-        ensures left { IsErrOf result StepFault.NoMemory → (state self.new).window user ≡ (state self.old).window user }
+        ensures user { KeepsUser result session.old session.new }
+        ensures turned { HasTurned user result (state self.old) (state self.new) }
         ensures usable { ¬ IsErrOf result StepFault.Disk → Usable self.new }
-        ensures keeps { Keeps self.old self.new }
-        ensures worked { ¬ IsErrOf result StepFault.Disk → WorksIn 0 user (state self.old) (state self.new) }
-        ensures faults_grow { (state self.old).disk_faults ≤ (state self.new).disk_faults }
-        ensures fails { IsErrOf result StepFault.Disk → DiskFails (state self.old) (state self.new) };
+        ensures keeps { Keeps self.old self.new };
 
     /// A step of the session of a user whose blocks are all in core, which is to make an operation on the common files: that is done,
     /// and the step goes on with the reply. Where memory lacks the operation may be done.
@@ -110,39 +101,27 @@ pub trait Backing {
         now: u64,
     ) -> Result<Made, StepFault>
         requires usable { Usable self.old }
-        requires user { user < length (state self.old).held.sizes }
-        requires directory { user ≤ (state self.old).held.users }
-        requires loaded { is_loaded (state self.old).held.places user (size (state self.old) user) ≡ true }
-        requires size { size (state self.old) user ≡ blocks_of session.old.inner }
-        requires tracks { (state self.old).held.tracks user ≡ session.old.inner.account.tracks }
+        requires can { CanTurn user session.old (state self.old) }
         requires asks { IsToMake (state self.old).disk_tells ((state self.old).window user) op.now session.old }
-        requires fits { session.old.own < 2 ^ 64 - 1 }
-        ensures shared { IfOk result
+        ensures made { IfOk result
             (λ made. Shared op.now made user now session.old session.new (state self.old) (state self.new)) }
-        ensures account { session.new.inner.account ≡ session.old.inner.account }
-        ensures err { OnErr result (session.new ≡ session.old) }
-        ensures left { IsErrOf result StepFault.NoMemory → LeavesUsers (state self.old) (state self.new) }
+        ensures user { KeepsUser result session.old session.new }
+        ensures shared { HasShared user result (state self.old) (state self.new) }
         ensures usable { ¬ IsErrOf result StepFault.Disk → Usable self.new }
-        ensures keeps { Keeps self.old self.new }
-        ensures worked { OnOk result (WorksIn 1 user (state self.old) (state self.new)) }
-        ensures faults_grow { (state self.old).disk_faults ≤ (state self.new).disk_faults }
-        ensures fails { IsErrOf result StepFault.Disk → DiskFails (state self.old) (state self.new) };
+        ensures keeps { Keeps self.old self.new };
 
     /// As many instructions as go on, at most so many, of the session of a user whose blocks are all in core; and how many
     /// they were.
     fn advance(&mut self, user: UserNo, session: &mut Session, most: u64) -> u64
         requires usable { Usable self.old }
-        requires user { user < length (state self.old).held.sizes }
-        requires loaded { is_loaded (state self.old).held.places user (size (state self.old) user) ≡ true }
+        requires core { IsInCore user (state self.old) }
         requires fits { session.old.own + most < 2 ^ 64 }
         ensures most { result ≤ most }
         ensures gone { HaveGone result session.old session.new
             ((state self.old).window user).core ((state self.new).window user).core }
-        ensures files { ((state self.new).window user).files ≡ ((state self.old).window user).files }
+        ensures advanced { HasAdvanced user (state self.old) (state self.new) }
         ensures usable { Usable self.new }
-        ensures keeps { Keeps self.old self.new }
-        ensures worked { WorksIn 0 user (state self.old) (state self.new) }
-        ensures disk { (state self.new).disk_faults ≡ (state self.old).disk_faults };
+        ensures keeps { Keeps self.old self.new };
 
     /// All files. Nothing may be asked after it.
     fn take_lists(&mut self, alloc: Global) -> Result<Lists, StepFault>

@@ -1,75 +1,102 @@
-//! Cores beside directories.
+//! Cores that are swapped with a drum, beside directories on tracks of a disk.
 ghost use Rattle.std.specs.Prelude.{◌≡◌};
 
 use crate::backing::{Backing, Made};
-use crate::cores::Cores;
+use crate::turn::{advance_in, reply_in, turn_in};
 use ctss_types::{CommonOp, StepFault, UserNo};
-use directories::{Directories, Lists};
-use image_map::{DrumFault, Plan};
+use image_map::{DrumFault, Image, Plan};
+use medium::Medium;
 use std::alloc::Global;
+use track_directories::{Lists, TrackDirectories};
 use user_session::{Session, Turn};
 
 /// What lies behind users' sessions: the cores of their programs, and their directories.
 #[derive(Drop)]
-pub struct Behind<C, P> {
-    cores: C,
-    files: P,
+pub struct Behind<'a, 'd, D: Medium, F: Medium> {
+    cores: Image<'a, D>,
+    files: TrackDirectories<'d, F>,
 }
 
-impl<C: Cores + Drop, P: Directories + Drop> Behind<C, P> {
+impl<'a, 'd, D: Medium, F: Medium> Behind<'a, 'd, D, F> {
     /// These cores beside these directories, of the same users.
-    pub fn new(cores: C, files: P) -> Behind<C, P>
-        ensures cores { result.cores ≡ cores }
-        ensures files { result.files ≡ files }
+    pub fn new(cores: Image<'a, D>, files: TrackDirectories<'d, F>) -> Behind<'a, 'd, D, F>
+        ensures cores { result.cores ≡ cores.entry }
+        ensures files { result.files ≡ files.entry }
     {
         Behind { cores, files }
     }
 
     /// Gives back the cores and the directories.
-    pub fn into_parts(self) -> (C, P)
-        ensures cores { result.0 ≡ self.cores }
-        ensures files { result.1 ≡ self.files }
+    pub fn into_parts(self) -> (Image<'a, D>, TrackDirectories<'d, F>)
+        ensures cores { result.0 ≡ self.entry.cores }
+        ensures files { result.1 ≡ self.entry.files }
     {
         let Behind { cores, files } = self;
         (cores, files)
     }
 }
 
-impl<C: Cores + Drop, P: Directories + Drop> Backing for Behind<C, P> {
-    ghost use Rattle.std.specs.Prelude.{◌≡◌};
+impl<D: Medium, F: Medium> Backing for Behind<'_, '_, D, F> {
+    ghost use Rattle.std.specs.Prelude.{◌≡◌, refl};
+    ghost use Rattle.std.proofs.Common.{◌∙◌};
+    ghost use Rattle.faults.specs.Faults.{WhereTold};
+    ghost use Rattle.image_map.specs.Image.{state as image_state};
+    ghost use Rattle.file_tracks.specs.Lying.{LieOn};
+    ghost use Rattle.track_directories.specs.Tables.{disk_of, shown, Sound};
     ghost use Rattle.user_cores.specs.Backing.{back_of};
+    ghost use Rattle.user_cores.specs.Usable.{IsWhole};
 
-    ghost state = { λ b. back_of (C.state b.cores) (P.state b.files) };
+    ghost state = { λ b. back_of (image_state b.cores) (shown F.Medium b.files) };
 
-    ghost Usable = { λ b. C.Usable b.cores × P.Usable b.files };
+    ghost Usable = { λ b. IsWhole (image_state b.cores) × Sound F.Medium b.files };
 
-    ghost Keeps = { λ a b. C.Keeps a.cores b.cores × P.Keeps a.files b.files };
+    ghost Keeps = { λ a b. ((image_state b.cores).drum.name ≡ (image_state a.cores).drum.name)
+        × ((disk_of b.files).ghost_name ≡ (disk_of a.files).ghost_name) };
 
-    ghost Lies = { λ b own common. P.Lies b.files own common };
+    ghost Lies = { λ b own common. WhereTold (F.contents (disk_of b.files).now) (λ contents. LieOn contents own common) };
+
+    ghost stays = { λ a. (refl, refl) };
+
+    ghost goes_on = { λ a b c one two. (two.0 ∙ one.0, two.1 ∙ one.1) };
 
     fn is_loaded(&self, user: UserNo) -> bool {
-        self.cores.is_loaded(user)
+        self.cores.resident(user)
     }
 
     fn load(&mut self, user: UserNo) -> Result<Plan, DrumFault> {
-        self.cores.load(user)
+        self.cores.load_user(user)
     }
 
     fn resize(&mut self, user: UserNo, blocks: u8) {
-        self.cores.resize(user, blocks);
+        // So it is known that the number is not 0.
+        let _number = user.number();
+        self.cores.resize_user(user, blocks);
     }
 
     fn replace(&mut self, user: UserNo, blocks: u8) {
-        self.cores.replace(user, blocks);
+        let _number = user.number();
+        self.cores.replace_user(user, blocks);
     }
 
     fn hang_up(&mut self, user: UserNo) {
-        self.cores.replace(user, 0);
+        let _number = user.number();
+        self.cores.replace_user(user, 0);
         self.files.drop_temporary(user);
     }
 
     fn turn(&mut self, user: UserNo, session: &mut Session, now: u64) -> Result<Turn, StepFault> {
-        self.cores.turn(user, session, &mut self.files, now)
+        let _number = user.number();
+        let blocks = self.cores.size(user);
+        let base = self.cores.base(user);
+        turn_in(
+            self.cores.bank_mut(),
+            base,
+            blocks,
+            user,
+            session,
+            &mut self.files,
+            now,
+        )
     }
 
     fn share(
@@ -79,25 +106,31 @@ impl<C: Cores + Drop, P: Directories + Drop> Backing for Behind<C, P> {
         op: &CommonOp,
         now: u64,
     ) -> Result<Made, StepFault> {
+        let _number = user.number();
         let reply = self.files.share(op)?;
-        let step = self
-            .cores
-            .take_reply(user, session, &mut self.files, &reply, now)?;
+        let blocks = self.cores.size(user);
+        let base = self.cores.base(user);
+        let step = reply_in(
+            self.cores.bank_mut(),
+            base,
+            blocks,
+            user,
+            session,
+            &mut self.files,
+            &reply,
+            now,
+        )?;
         Ok(Made { step, reply })
     }
 
     fn advance(&mut self, user: UserNo, session: &mut Session, most: u64) -> u64 {
-        self.cores.advance(user, session, most)
+        let _number = user.number();
+        let blocks = self.cores.size(user);
+        let base = self.cores.base(user);
+        advance_in(self.cores.bank_mut(), base, blocks, session, most)
     }
 
     fn take_lists(&mut self, alloc: Global) -> Result<Lists, StepFault> {
         self.files.take_lists(alloc)
     }
-
-    ghost stays = { λ a. (C.stays a.cores, P.stays a.files) };
-
-    ghost goes_on = { λ a b c one two. (
-      C.goes_on a.cores b.cores c.cores one.0 two.0,
-      P.goes_on a.files b.files c.files one.1 two.1,
-    ) };
 }

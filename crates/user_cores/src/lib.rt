@@ -4,16 +4,12 @@
 
 mod backing;
 mod behind;
-mod cores;
 mod first;
 mod settling;
-mod swapped;
 mod turn;
 
 pub use backing::{Backing, Made};
 pub use behind::Behind;
-pub use cores::Cores;
 pub use first::first_cores;
 pub use image_map::{DrumFault, Plan};
 pub use settling::settle;
-pub use turn::{advance_in, reply_in, turn_in};

@@ -3,6 +3,7 @@ ghost use Rattle.std.specs.Prelude.{◌≡◌, ◌<◌, ◌≤◌, length};
 ghost use Rattle.drum_slots.specs.Keys.{quota_of};
 ghost use Rattle.image_map.specs.Images.{size_of};
 ghost use Rattle.time_sharing.specs.Machine.{Went};
+ghost use Rattle.user_cores.specs.Backing.{CallsNothing};
 ghost use Rattle.user_cores.specs.Settles.{IsSettled};
 
 use crate::Backing;
@@ -16,11 +17,9 @@ pub fn settle<C: Backing>(cores: &mut C, user: UserNo, ending: Ending, blocks: u
     requires quota { blocks ≤ quota_of (C.state cores.old).held.quotas user }
     requires same { ending ≡ Went → size_of (C.state cores.old).held.sizes user ≡ blocks }
     ensures settled { IsSettled ending user blocks (C.state cores.old).held (C.state cores.new).held }
-    ensures calls { (C.state cores.new).calls ≡ (C.state cores.old).calls }
+    ensures none { CallsNothing (C.state cores.old) (C.state cores.new) }
     ensures usable { C.Usable cores.new }
     ensures keeps { C.Keeps cores.old cores.new }
-    ensures faults { (C.state cores.new).faults ≡ (C.state cores.old).faults }
-    ensures disk { (C.state cores.new).disk_faults ≡ (C.state cores.old).disk_faults }
 {
     match ending {
         Ending::Went => {}

@@ -1,6 +1,6 @@
 -- A turn at a supervisor entry that does what the row says is a turn of the user.
 use Rattle.std.proofs.Common.{◌≡◌, ◌∙◌, ℕ, Bool, true, false, not, List, Option, None, Some, refl, sym, ap, subst}
-use Rattle.std.specs.Prelude.{slice_get, Ok, Err, IfOk, IsErrOf}
+use Rattle.std.specs.Prelude.{slice_get, Ok, Err, IfOk, OnErr, IsErrOf}
 use Rattle.std.specs.Result.{IsErrAnd}
 use Rattle.std.specs.declared.result.Result.{Result}
 use Rattle.time_sharing.specs.Machine.{Line}
@@ -90,6 +90,11 @@ command_took t r p q c d l command op s h shut none first what on said = command
 pub ok_map : {A E : Type 0} (P Q : A → Type 0) (result : Result A E) → ((a : A) → P a → Q a) → IfOk result P → IfOk result Q
 ok_map P Q (Ok a) f h = f a h
 ok_map P Q (Err e) f h = h
+
+-- what holds holds where an answer is an error
+pub on_err : {A E : Type 0} (result : Result A E) (P : Type 0) → P → OnErr result P
+on_err (Ok a) P h = tt
+on_err (Err e) P h = h
 
 -- over some files
 pub over_map : (tells : Bool) (old new : Stored) (R S : Stored → Stored → Type 0) → ((had has : List FileBody) → R (stored old.core had) (stored new.core has) → S (stored old.core had) (stored new.core has)) → Over tells old new R → Over tells old new S

@@ -14,6 +14,7 @@ ghost use Rattle.user_model.specs.Session.{works_in};
 ghost use Rattle.user_model.specs.Texts.{time_text, ready_text, logged_out_text};
 ghost use Rattle.user_session.specs.Stores.{stored, Over, OfSome, Uses, Reads};
 ghost use Rattle.user_session.specs.Turns.{IsTurn, Obeys};
+ghost use Rattle.user_session.specs.Calls.{CanStep, IsDirectoryOf, KeepsUser};
 
 use crate::file_command::DONE;
 use crate::session::Session;
@@ -90,8 +91,7 @@ impl Session {
         requires fits { self.old.own < 2 ^ 64 - 1 }
         ensures row { IfOk result (λ turn. Obeys line Command.Logout turn now self.old self.new
             (stored (M.words core.now) (P.files files.old)) (stored (M.words core.now) (P.files files.new))) }
-        ensures account { self.new.inner.account ≡ self.old.inner.account }
-        ensures err { OnErr result (self.new ≡ self.old) }
+        ensures user { KeepsUser result self.old self.new }
         ensures uses { Uses P.FilePort result files.old files.new }
     {
         self.talk.reserve(3)?;
@@ -173,14 +173,12 @@ impl Session {
         now: u64,
     ) -> Result<Turn, StepFault>
         requires on { self.old.on ≡ true }
-        requires size { length (M.words core.now) ≡ 256 * self.old.inner.blocks }
+        requires can { CanStep self.old (M.words core.now) }
         requires port { P.Usable files.old }
-        requires fits { self.old.own < 2 ^ 64 - 1 }
         ensures row { IfOk result (λ turn. Over (P.tells files.old)
             (stored (M.words core.now) (P.files files.old)) (stored (M.words core.now) (P.files files.new))
             (Obeys line (Command.LoadGo name) turn now self.old self.new)) }
-        ensures account { self.new.inner.account ≡ self.old.inner.account }
-        ensures err { OnErr result (self.new ≡ self.old) }
+        ensures user { KeepsUser result self.old self.new }
         ensures uses { Uses P.FilePort result files.old files.new }
     {
         match self.read_deck(files, name)? {
@@ -216,15 +214,12 @@ impl Session {
         now: u64,
     ) -> Result<Turn, StepFault>
         requires on { self.old.on ≡ true }
-        requires size { length (M.words core.now) ≡ 256 * self.old.inner.blocks }
-        requires port { P.Usable files.old }
-        requires quota { P.quota files.old ≡ self.old.inner.account.tracks }
-        requires fits { self.old.own < 2 ^ 64 - 1 }
+        requires can { CanStep self.old (M.words core.now) }
+        requires own { IsDirectoryOf P.FilePort self.old files.old }
         ensures row { IfOk result (λ turn. Over (P.tells files.old)
             (stored (M.words core.now) (P.files files.old)) (stored (M.words core.now) (P.files files.new))
             (Obeys line command turn now self.old self.new)) }
-        ensures account { self.new.inner.account ≡ self.old.inner.account }
-        ensures err { OnErr result (self.new ≡ self.old) }
+        ensures user { KeepsUser result self.old self.new }
         ensures uses { Uses P.FilePort result files.old files.new }
     {
         match command {
@@ -289,15 +284,12 @@ impl Session {
         requires on { self.old.on ≡ true }
         requires works { works_in self.old.inner.state ≡ false }
         requires shut { self.old.inner.debugger ≡ None }
-        requires size { length (M.words core.now) ≡ 256 * self.old.inner.blocks }
-        requires port { P.Usable files.old }
-        requires quota { P.quota files.old ≡ self.old.inner.account.tracks }
-        requires fits { self.old.own < 2 ^ 64 - 1 }
+        requires can { CanStep self.old (M.words core.now) }
+        requires own { IsDirectoryOf P.FilePort self.old files.old }
         ensures turn { IfOk result (λ turn. Over (P.tells files.old)
             (stored (M.words core.now) (P.files files.old)) (stored (M.words core.now) (P.files files.new))
             (IsTurn turn now self.old self.new)) }
-        ensures account { self.new.inner.account ≡ self.old.inner.account }
-        ensures err { OnErr result (self.new ≡ self.old) }
+        ensures user { KeepsUser result self.old self.new }
         ensures uses { Uses P.FilePort result files.old files.new }
     {
         let _ = &self.account;

@@ -7,6 +7,7 @@ ghost use Rattle.user_session.specs.Stores.{stored, Over, OfSome, Uses};
 ghost use Rattle.ctss_types.specs.declared.file.FileBody.{FileBody};
 ghost use Rattle.file_map.specs.Known.{known};
 ghost use Rattle.user_session.specs.Turns.{Obeys};
+ghost use Rattle.user_session.specs.Calls.{CanStep, IsDirectoryOf, KeepsUser};
 
 use crate::file_command::DONE;
 use crate::session::Session;
@@ -39,14 +40,12 @@ impl Session {
         now: u64,
     ) -> Result<Turn, StepFault>
         requires on { self.old.on ≡ true }
-        requires size { length (M.words core.now) ≡ 256 * self.old.inner.blocks }
+        requires can { CanStep self.old (M.words core.now) }
         requires port { P.Usable files.old }
-        requires fits { self.old.own < 2 ^ 64 - 1 }
         ensures row { IfOk result (λ turn. Over (P.tells files.old)
             (stored (M.words core.now) (P.files files.old)) (stored (M.words core.now) (P.files files.new))
             (Obeys line (Command.CopyTo name) turn now self.old self.new)) }
-        ensures account { self.new.inner.account ≡ self.old.inner.account }
-        ensures err { OnErr result (self.new ≡ self.old) }
+        ensures user { KeepsUser result self.old self.new }
         ensures uses { Uses P.FilePort result files.old files.new }
     {
         match files.get(name) {
@@ -72,16 +71,13 @@ impl Session {
         now: u64,
     ) -> Result<Step, StepFault>
         requires on { self.old.on ≡ true }
-        requires size { length (M.words core.now) ≡ 256 * self.old.inner.blocks }
-        requires port { P.Usable files.old }
-        requires quota { P.quota files.old ≡ self.old.inner.account.tracks }
-        requires fits { self.old.own < 2 ^ 64 - 1 }
+        requires can { CanStep self.old (M.words core.now) }
+        requires own { IsDirectoryOf P.FilePort self.old files.old }
         ensures row { (fs : List FileBody) → known (P.tells files.old) fs ≡ P.files files.old
             → IfOk result (λ s. OfSome (P.tells files.old) (P.files files.new) (λ has.
             Copies line target words.now s.ending s.clock now self.old self.new
             (stored (M.words core.now) fs) (stored (M.words core.now) has))) }
-        ensures account { self.new.inner.account ≡ self.old.inner.account }
-        ensures err { OnErr result (self.new ≡ self.old) }
+        ensures user { KeepsUser result self.old self.new }
         ensures uses { Uses P.FilePort result files.old files.new }
     {
         match target {
@@ -105,16 +101,13 @@ impl Session {
         now: u64,
     ) -> Result<Step, StepFault>
         requires on { self.old.on ≡ true }
-        requires size { length (M.words core.now) ≡ 256 * self.old.inner.blocks }
-        requires port { P.Usable files.old }
-        requires quota { P.quota files.old ≡ self.old.inner.account.tracks }
-        requires fits { self.old.own < 2 ^ 64 - 1 }
+        requires can { CanStep self.old (M.words core.now) }
+        requires own { IsDirectoryOf P.FilePort self.old files.old }
         ensures row { (fs : List FileBody) → known (P.tells files.old) fs ≡ P.files files.old
             → IfOk result (λ s. OfSome (P.tells files.old) (P.files files.new) (λ has.
             TookReply line command reply.now s.ending s.clock now self.old self.new
             (stored (M.words core.now) fs) (stored (M.words core.now) has))) }
-        ensures account { self.new.inner.account ≡ self.old.inner.account }
-        ensures err { OnErr result (self.new ≡ self.old) }
+        ensures user { KeepsUser result self.old self.new }
         ensures uses { Uses P.FilePort result files.old files.new }
     {
         match reply {

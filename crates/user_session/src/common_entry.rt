@@ -10,6 +10,7 @@ ghost use Rattle.ctss_types.specs.declared.file.FileBody.{FileBody};
 ghost use Rattle.user_session.specs.Stores.{stored};
 ghost use Rattle.user_session.specs.Turns.{Enters};
 ghost use Rattle.file_model.specs.Commons.{ReplyFits};
+ghost use Rattle.user_session.specs.Calls.{CanStep, KeepsUser};
 
 use crate::file_entry::WENT;
 use crate::session::Session;
@@ -48,13 +49,11 @@ impl Session {
         now: u64,
     ) -> Result<Turn, NoMemory>
         requires on { self.old.on ≡ true }
-        requires size { length (M.words core.now) ≡ 256 * self.old.inner.blocks }
-        requires fits { self.old.own < 2 ^ 64 - 1 }
+        requires can { CanStep self.old (M.words core.now) }
         ensures row { (fs : List FileBody)
             → IfOk result (λ turn. Enters (Ok (Call.CommonRead name at count place)) turn
             now self.old self.new (stored (M.words core.now) fs) (stored (M.words core.now) fs)) }
-        ensures account { self.new.inner.account ≡ self.old.inner.account }
-        ensures err { OnErr result (self.new ≡ self.old) }
+        ensures user { KeepsUser result self.old self.new }
     {
         if !is_common_count(count) {
             self.reply(3, 7, None);
@@ -75,14 +74,12 @@ impl Session {
         now: u64,
     ) -> Result<Turn, NoMemory>
         requires on { self.old.on ≡ true }
-        requires size { length (M.words core.now) ≡ 256 * self.old.inner.blocks }
-        requires fits { self.old.own < 2 ^ 64 - 1 }
+        requires can { CanStep self.old (M.words core.now) }
         requires within { at + count ≤ length (M.words core.now) }
         ensures row { (fs : List FileBody)
             → IfOk result (λ turn. Enters (Ok (Call.CommonWrite name at count place)) turn
             now self.old self.new (stored (M.words core.now) fs) (stored (M.words core.now) fs)) }
-        ensures account { self.new.inner.account ≡ self.old.inner.account }
-        ensures err { OnErr result (self.new ≡ self.old) }
+        ensures user { KeepsUser result self.old self.new }
     {
         if !is_common_count(count) {
             self.reply(3, 7, None);
@@ -107,8 +104,7 @@ impl Session {
     ) -> Step
         requires on { self.old.on ≡ true }
         requires arguments { arguments ≤ 3 }
-        requires size { length (M.words core.old) ≡ 256 * self.old.inner.blocks }
-        requires fits { self.old.own < 2 ^ 64 - 1 }
+        requires can { CanStep self.old (M.words core.old) }
         requires reply_fits { ReplyFits reply.now }
         ensures row { (fs : List FileBody) → Answered arguments at reply.now result.ending result.clock
             self.old self.new (stored (M.words core.old) fs) (stored (M.words core.new) fs) }
@@ -144,8 +140,7 @@ impl Session {
         reply: &Reply,
     ) -> Step
         requires on { self.old.on ≡ true }
-        requires size { length (M.words core.old) ≡ 256 * self.old.inner.blocks }
-        requires fits { self.old.own < 2 ^ 64 - 1 }
+        requires can { CanStep self.old (M.words core.old) }
         requires reply_fits { ReplyFits reply.now }
         requires asks { (op : CommonOp) × (call_asks call (M.words core.old) ≡ Some op) }
         ensures row { (fs : List FileBody) → CallTook call reply.now result.ending result.clock

@@ -12,6 +12,7 @@ ghost use Rattle.user_model.specs.Answers.{DidCommand};
 ghost use Rattle.user_model.specs.Session.{works_in};
 ghost use Rattle.user_session.specs.Stores.{stored, Over};
 ghost use Rattle.user_session.specs.Turns.{IsTurn, Debugs};
+ghost use Rattle.user_session.specs.Calls.{CanStep, KeepsCore, KeepsUser};
 
 use crate::entry::STOPPED;
 use crate::file_command::DONE;
@@ -49,12 +50,10 @@ impl Session {
         now: u64,
     ) -> Result<Step, NoMemory>
         requires on { self.old.on ≡ true }
-        requires size { length (M.words core.now) ≡ 256 * self.old.inner.blocks }
-        requires fits { self.old.own < 2 ^ 64 - 1 }
+        requires can { CanStep self.old (M.words core.now) }
         ensures row { (fs : List FileBody) → IfOk result (λ s. DidCommand line Command.Debug s.ending s.clock
             now self.old self.new (stored (M.words core.now) fs) (stored (M.words core.now) fs)) }
-        ensures account { self.new.inner.account ≡ self.old.inner.account }
-        ensures err { OnErr result (self.new ≡ self.old) }
+        ensures user { KeepsUser result self.old self.new }
     {
         if !self.is_dormant() {
             self.say_why(line, b"NO PROGRAM", now)?;
@@ -122,13 +121,11 @@ impl Session {
         at: u16,
     ) -> Result<Step, NoMemory>
         requires on { self.old.on ≡ true }
-        requires size { length (M.words core.now) ≡ 256 * self.old.inner.blocks }
-        requires fits { self.old.own < 2 ^ 64 - 1 }
+        requires can { CanStep self.old (M.words core.now) }
         requires debugger { (s : Stops) × (self.old.inner.debugger ≡ Some s) }
         ensures row { Debugs line (DebugLine.Break at) result self.old self.new
             (M.words core.now) (M.words core.now) }
-        ensures account { self.new.inner.account ≡ self.old.inner.account }
-        ensures err { OnErr result (self.new ≡ self.old) }
+        ensures user { KeepsUser result self.old self.new }
     {
         if self.has_no_room(at) {
             return self.tell_why(line, b"BAD ARGUMENTS");
@@ -152,13 +149,11 @@ impl Session {
         at: u16,
     ) -> Result<Step, NoMemory>
         requires on { self.old.on ≡ true }
-        requires size { length (M.words core.now) ≡ 256 * self.old.inner.blocks }
-        requires fits { self.old.own < 2 ^ 64 - 1 }
+        requires can { CanStep self.old (M.words core.now) }
         requires debugger { (s : Stops) × (self.old.inner.debugger ≡ Some s) }
         ensures row { Debugs line (DebugLine.Clear at) result self.old self.new
             (M.words core.now) (M.words core.now) }
-        ensures account { self.new.inner.account ≡ self.old.inner.account }
-        ensures err { OnErr result (self.new ≡ self.old) }
+        ensures user { KeepsUser result self.old self.new }
     {
         if !is_inside(core, at) {
             return self.tell_why(line, b"PROTECTION");
@@ -174,13 +169,11 @@ impl Session {
     #[tactic(auto, using(user_model::proofs::CoreLaws::recut_same))]
     fn let_go<M: MemoryPort>(&mut self, core: &M, line: LineText) -> Result<Step, NoMemory>
         requires on { self.old.on ≡ true }
-        requires size { length (M.words core.now) ≡ 256 * self.old.inner.blocks }
-        requires fits { self.old.own < 2 ^ 64 - 1 }
+        requires can { CanStep self.old (M.words core.now) }
         requires debugger { (s : Stops) × (self.old.inner.debugger ≡ Some s) }
         ensures row { Debugs line DebugLine.Go result self.old self.new
             (M.words core.now) (M.words core.now) }
-        ensures account { self.new.inner.account ≡ self.old.inner.account }
-        ensures err { OnErr result (self.new ≡ self.old) }
+        ensures user { KeepsUser result self.old self.new }
     {
         let _ = core;
         self.tell(line, &[])?;
@@ -200,13 +193,11 @@ impl Session {
         at: u16,
     ) -> Result<Step, NoMemory>
         requires on { self.old.on ≡ true }
-        requires size { length (M.words core.now) ≡ 256 * self.old.inner.blocks }
-        requires fits { self.old.own < 2 ^ 64 - 1 }
+        requires can { CanStep self.old (M.words core.now) }
         requires debugger { (s : Stops) × (self.old.inner.debugger ≡ Some s) }
         ensures row { Debugs line (DebugLine.Look at) result self.old self.new
             (M.words core.now) (M.words core.now) }
-        ensures account { self.new.inner.account ≡ self.old.inner.account }
-        ensures err { OnErr result (self.new ≡ self.old) }
+        ensures user { KeepsUser result self.old self.new }
     {
         let text = word_line(core, at);
         self.tell(line, &[text])?;
@@ -221,13 +212,11 @@ impl Session {
         line: LineText,
     ) -> Result<Step, NoMemory>
         requires on { self.old.on ≡ true }
-        requires size { length (M.words core.now) ≡ 256 * self.old.inner.blocks }
-        requires fits { self.old.own < 2 ^ 64 - 1 }
+        requires can { CanStep self.old (M.words core.now) }
         requires debugger { (s : Stops) × (self.old.inner.debugger ≡ Some s) }
         ensures row { Debugs line DebugLine.Regs result self.old self.new
             (M.words core.now) (M.words core.now) }
-        ensures account { self.new.inner.account ≡ self.old.inner.account }
-        ensures err { OnErr result (self.new ≡ self.old) }
+        ensures user { KeepsUser result self.old self.new }
     {
         let _ = core;
         let lines = register_lines(&self.regs);
@@ -245,15 +234,12 @@ impl Session {
         word: Word,
     ) -> Result<Step, NoMemory>
         requires on { self.old.on ≡ true }
-        requires size { length (M.words core.old) ≡ 256 * self.old.inner.blocks }
-        requires fits { self.old.own < 2 ^ 64 - 1 }
+        requires can { CanStep self.old (M.words core.old) }
         requires debugger { (s : Stops) × (self.old.inner.debugger ≡ Some s) }
         ensures row { Debugs line (DebugLine.Set at word) result self.old self.new
             (M.words core.old) (M.words core.new) }
-        ensures account { self.new.inner.account ≡ self.old.inner.account }
-        ensures err { OnErr result (self.new ≡ self.old) }
-        ensures err_core { OnErr result (M.words core.new ≡ M.words core.old) }
-        ensures keeps { M.Keeps core.old core.new }
+        ensures user { KeepsUser result self.old self.new }
+        ensures core { KeepsCore M.MemoryPort result core.old core.new }
     {
         if !is_inside(core, at) {
             return self.tell_why(line, b"PROTECTION");
@@ -267,13 +253,11 @@ impl Session {
     #[tactic(auto, using(user_model::proofs::CoreLaws::recut_same))]
     fn end_debugger<M: MemoryPort>(&mut self, core: &M, line: LineText) -> Result<Step, NoMemory>
         requires on { self.old.on ≡ true }
-        requires size { length (M.words core.now) ≡ 256 * self.old.inner.blocks }
-        requires fits { self.old.own < 2 ^ 64 - 1 }
+        requires can { CanStep self.old (M.words core.now) }
         requires debugger { (s : Stops) × (self.old.inner.debugger ≡ Some s) }
         ensures row { Debugs line DebugLine.End result self.old self.new
             (M.words core.now) (M.words core.now) }
-        ensures account { self.new.inner.account ≡ self.old.inner.account }
-        ensures err { OnErr result (self.new ≡ self.old) }
+        ensures user { KeepsUser result self.old self.new }
     {
         let _ = core;
         self.tell(line, &[ready_text(1)])?;
@@ -289,15 +273,12 @@ impl Session {
         asked: DebugLine,
     ) -> Result<Step, NoMemory>
         requires on { self.old.on ≡ true }
-        requires size { length (M.words core.old) ≡ 256 * self.old.inner.blocks }
-        requires fits { self.old.own < 2 ^ 64 - 1 }
+        requires can { CanStep self.old (M.words core.old) }
         requires debugger { (s : Stops) × (self.old.inner.debugger ≡ Some s) }
         ensures row { Debugs line asked result self.old self.new
             (M.words core.old) (M.words core.new) }
-        ensures account { self.new.inner.account ≡ self.old.inner.account }
-        ensures err { OnErr result (self.new ≡ self.old) }
-        ensures err_core { OnErr result (M.words core.new ≡ M.words core.old) }
-        ensures keeps { M.Keeps core.old core.new }
+        ensures user { KeepsUser result self.old self.new }
+        ensures core { KeepsCore M.MemoryPort result core.old core.new }
     {
         match asked {
             DebugLine::Break(at) => self.break_at(core, line, at),
@@ -322,16 +303,13 @@ impl Session {
         requires on { self.old.on ≡ true }
         requires works { works_in self.old.inner.state ≡ false }
         requires debugger { (s : Stops) × (self.old.inner.debugger ≡ Some s) }
-        requires size { length (M.words core.old) ≡ 256 * self.old.inner.blocks }
+        requires can { CanStep self.old (M.words core.old) }
         requires port { P.Usable files.now }
-        requires fits { self.old.own < 2 ^ 64 - 1 }
         ensures turn { IfOk result (λ turn. Over (P.tells files.now)
             (stored (M.words core.old) (P.files files.now)) (stored (M.words core.new) (P.files files.now))
             (IsTurn turn now self.old self.new)) }
-        ensures account { self.new.inner.account ≡ self.old.inner.account }
-        ensures err { OnErr result (self.new ≡ self.old) }
-        ensures err_core { OnErr result (M.words core.new ≡ M.words core.old) }
-        ensures keeps { M.Keeps core.old core.new }
+        ensures user { KeepsUser result self.old self.new }
+        ensures core { KeepsCore M.MemoryPort result core.old core.new }
     {
         let _ = files;
         let _ = now;

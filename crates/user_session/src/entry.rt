@@ -17,6 +17,7 @@ ghost use Rattle.ctss_types.specs.declared.file.FileBody.{FileBody};
 ghost use Rattle.user_session.specs.Stores.{stored, Over, Uses};
 ghost use Rattle.user_session.specs.Turns.{Enters, Runs};
 ghost use Rattle.user_model.specs.Programs.{at_break};
+ghost use Rattle.user_session.specs.Calls.{CanStep, IsAtInstruction, IsDirectoryOf, KeepsCore, KeepsUser, Leaves};
 
 use crate::file_entry::WENT;
 use crate::session::Session;
@@ -80,12 +81,10 @@ impl Session {
         now: u64,
     ) -> Result<Turn, NoMemory>
         requires on { self.old.on ≡ true }
-        requires size { length (M.words core.now) ≡ 256 * self.old.inner.blocks }
-        requires fits { self.old.own < 2 ^ 64 - 1 }
+        requires can { CanStep self.old (M.words core.now) }
         ensures row { (fs : List FileBody) → IfOk result (λ turn. Enters (Err fault) turn
             now self.old self.new (stored (M.words core.now) fs) (stored (M.words core.now) fs)) }
-        ensures account { self.new.inner.account ≡ self.old.inner.account }
-        ensures err { OnErr result (self.new ≡ self.old) }
+        ensures user { KeepsUser result self.old self.new }
     {
         match fault {
             EntryFault::NoSuchEntry => {
@@ -135,15 +134,12 @@ impl Session {
         now: u64,
     ) -> Result<Turn, NoMemory>
         requires on { self.old.on ≡ true }
-        requires size { length (M.words core.old) ≡ 256 * self.old.inner.blocks }
-        requires fits { self.old.own < 2 ^ 64 - 1 }
+        requires can { CanStep self.old (M.words core.old) }
         requires within { HasBuffer (length (M.words core.old)) (Call.ReadLine at count) }
         ensures row { (fs : List FileBody) → IfOk result (λ turn. Enters (Ok (Call.ReadLine at count)) turn
             now self.old self.new (stored (M.words core.old) fs) (stored (M.words core.new) fs)) }
-        ensures account { self.new.inner.account ≡ self.old.inner.account }
-        ensures err { OnErr result (self.new ≡ self.old) }
-        ensures err_core { OnErr result (M.words core.new ≡ M.words core.old) }
-        ensures keeps { M.Keeps core.old core.new }
+        ensures user { KeepsUser result self.old self.new }
+        ensures core { KeepsCore M.MemoryPort result core.old core.new }
     {
         if !is_line_count(count) {
             self.reply(1, 7, None);
@@ -173,13 +169,11 @@ impl Session {
         now: u64,
     ) -> Result<Turn, NoMemory>
         requires on { self.old.on ≡ true }
-        requires size { length (M.words core.now) ≡ 256 * self.old.inner.blocks }
-        requires fits { self.old.own < 2 ^ 64 - 1 }
+        requires can { CanStep self.old (M.words core.now) }
         requires within { HasBuffer (length (M.words core.now)) (Call.WriteLine at count) }
         ensures row { (fs : List FileBody) → IfOk result (λ turn. Enters (Ok (Call.WriteLine at count)) turn
             now self.old self.new (stored (M.words core.now) fs) (stored (M.words core.now) fs)) }
-        ensures account { self.new.inner.account ≡ self.old.inner.account }
-        ensures err { OnErr result (self.new ≡ self.old) }
+        ensures user { KeepsUser result self.old self.new }
     {
         if !is_line_count(count) {
             self.reply(1, 7, None);
@@ -195,8 +189,7 @@ impl Session {
     #[tactic(auto, using(user_model::proofs::CoreLaws::recut_same))]
     fn set_memory<M: MemoryPort>(&mut self, core: &M, blocks: u16, now: u64) -> Turn
         requires on { self.old.on ≡ true }
-        requires size { length (M.words core.now) ≡ 256 * self.old.inner.blocks }
-        requires fits { self.old.own < 2 ^ 64 - 1 }
+        requires can { CanStep self.old (M.words core.now) }
         ensures row { (fs : List FileBody) → Enters (Ok (Call.SetMemory blocks)) result
             now self.old self.new (stored (M.words core.now) fs) (stored (M.words core.now) fs) }
         ensures account { self.new.inner.account ≡ self.old.inner.account }
@@ -222,8 +215,7 @@ impl Session {
     #[tactic(auto, using(user_model::proofs::CoreLaws::recut_same))]
     fn tell_time<M: MemoryPort>(&mut self, core: &M, now: u64) -> Turn
         requires on { self.old.on ≡ true }
-        requires size { length (M.words core.now) ≡ 256 * self.old.inner.blocks }
-        requires fits { self.old.own < 2 ^ 64 - 1 }
+        requires can { CanStep self.old (M.words core.now) }
         requires time { now < 2 ^ 35 }
         ensures row { (fs : List FileBody)
             → Enters (Ok Call.GetTime) result now self.old self.new (stored (M.words core.now) fs)
@@ -241,8 +233,7 @@ impl Session {
     #[tactic(auto, using(user_model::proofs::CoreLaws::recut_same))]
     fn tell_memory<M: MemoryPort>(&mut self, core: &M, now: u64) -> Turn
         requires on { self.old.on ≡ true }
-        requires size { length (M.words core.now) ≡ 256 * self.old.inner.blocks }
-        requires fits { self.old.own < 2 ^ 64 - 1 }
+        requires can { CanStep self.old (M.words core.now) }
         ensures row { (fs : List FileBody)
             → Enters (Ok Call.GetMemory) result now self.old self.new (stored (M.words core.now) fs)
             (stored (M.words core.now) fs) }
@@ -257,12 +248,10 @@ impl Session {
     #[tactic(auto, using(user_model::proofs::CoreLaws::recut_none))]
     fn end_dead<M: MemoryPort>(&mut self, core: &M, now: u64) -> Result<Turn, NoMemory>
         requires on { self.old.on ≡ true }
-        requires size { length (M.words core.now) ≡ 256 * self.old.inner.blocks }
-        requires fits { self.old.own < 2 ^ 64 - 1 }
+        requires can { CanStep self.old (M.words core.now) }
         ensures row { (fs : List FileBody) → IfOk result (λ turn. Enters (Ok Call.Dead) turn
             now self.old self.new (stored (M.words core.now) fs) (stored (M.words core.now) fs)) }
-        ensures account { self.new.inner.account ≡ self.old.inner.account }
-        ensures err { OnErr result (self.new ≡ self.old) }
+        ensures user { KeepsUser result self.old self.new }
     {
         self.talk.reserve(1)?;
         let n = self.own + 1 - self.own_at_command;
@@ -280,12 +269,10 @@ impl Session {
     #[tactic(auto, using(user_model::proofs::CoreLaws::recut_same))]
     fn end_dormant<M: MemoryPort>(&mut self, core: &M, now: u64) -> Result<Turn, NoMemory>
         requires on { self.old.on ≡ true }
-        requires size { length (M.words core.now) ≡ 256 * self.old.inner.blocks }
-        requires fits { self.old.own < 2 ^ 64 - 1 }
+        requires can { CanStep self.old (M.words core.now) }
         ensures row { (fs : List FileBody) → IfOk result (λ turn. Enters (Ok Call.Dormant) turn
             now self.old self.new (stored (M.words core.now) fs) (stored (M.words core.now) fs)) }
-        ensures account { self.new.inner.account ≡ self.old.inner.account }
-        ensures err { OnErr result (self.new ≡ self.old) }
+        ensures user { KeepsUser result self.old self.new }
     {
         self.talk.reserve(1)?;
         let n = self.own + 1 - self.own_at_command;
@@ -304,20 +291,14 @@ impl Session {
         now: u64,
     ) -> Result<Turn, StepFault>
         requires on { self.old.on ≡ true }
-        requires size { length (M.words core.old) ≡ 256 * self.old.inner.blocks }
-        requires port { P.Usable files.old }
-        requires quota { P.quota files.old ≡ self.old.inner.account.tracks }
-        requires fits { self.old.own < 2 ^ 64 - 1 }
+        requires can { CanStep self.old (M.words core.old) }
+        requires own { IsDirectoryOf P.FilePort self.old files.old }
         requires within { HasBuffer (length (M.words core.old)) call }
         requires time { now < 2 ^ 35 }
         ensures row { IfOk result (λ turn. Over (P.tells files.old)
             (stored (M.words core.old) (P.files files.old)) (stored (M.words core.new) (P.files files.new))
             (Enters (Ok call) turn now self.old self.new)) }
-        ensures account { self.new.inner.account ≡ self.old.inner.account }
-        ensures err { OnErr result (self.new ≡ self.old) }
-        ensures err_core { OnErr result (M.words core.new ≡ M.words core.old) }
-        ensures keeps { M.Keeps core.old core.new }
-        ensures uses { Uses P.FilePort result files.old files.new }
+        ensures leaves { Leaves M.MemoryPort P.FilePort result self.old self.new core.old core.new files.old files.new }
     {
         match call {
             Call::ReadLine { at, count } => Ok(self.read_line(core, at, count, now)?),
@@ -371,24 +352,15 @@ impl Session {
         name: Word,
         now: u64,
     ) -> Result<Turn, StepFault>
-        requires on { self.old.on ≡ true }
-        requires works { works_in self.old.inner.state ≡ true }
-        requires filled { self.old.inner.fill ≡ None }
-        requires unbroken { at_break self.old.inner ≡ false }
+        requires ready { IsAtInstruction self.old }
         requires at { step_of self.old.inner.regs (M.words core.old) ≡ entry name }
-        requires size { length (M.words core.old) ≡ 256 * self.old.inner.blocks }
-        requires port { P.Usable files.old }
-        requires quota { P.quota files.old ≡ self.old.inner.account.tracks }
-        requires fits { self.old.own < 2 ^ 64 - 1 }
+        requires can { CanStep self.old (M.words core.old) }
+        requires own { IsDirectoryOf P.FilePort self.old files.old }
         requires time { now < 2 ^ 35 }
         ensures turn { IfOk result (λ turn. Over (P.tells files.old)
             (stored (M.words core.old) (P.files files.old)) (stored (M.words core.new) (P.files files.new))
             (Runs turn now self.old self.new)) }
-        ensures account { self.new.inner.account ≡ self.old.inner.account }
-        ensures err { OnErr result (self.new ≡ self.old) }
-        ensures err_core { OnErr result (M.words core.new ≡ M.words core.old) }
-        ensures keeps { M.Keeps core.old core.new }
-        ensures uses { Uses P.FilePort result files.old files.new }
+        ensures leaves { Leaves M.MemoryPort P.FilePort result self.old self.new core.old core.new files.old files.new }
     {
         match read_call(&self.regs, core, name) {
             Err(fault) => Ok(self.refuse(core, fault, now)?),
@@ -406,24 +378,15 @@ impl Session {
         name: Word,
         now: u64,
     ) -> Result<Turn, StepFault>
-        requires on { self.old.on ≡ true }
-        requires works { works_in self.old.inner.state ≡ true }
-        requires filled { self.old.inner.fill ≡ None }
-        requires unbroken { at_break self.old.inner ≡ false }
+        requires ready { IsAtInstruction self.old }
         requires at { step_of self.old.inner.regs (M.words core.old) ≡ entry name }
-        requires size { length (M.words core.old) ≡ 256 * self.old.inner.blocks }
-        requires port { P.Usable files.old }
-        requires quota { P.quota files.old ≡ self.old.inner.account.tracks }
-        requires fits { self.old.own < 2 ^ 64 - 1 }
+        requires can { CanStep self.old (M.words core.old) }
+        requires own { IsDirectoryOf P.FilePort self.old files.old }
         requires time { now < 2 ^ 35 }
         ensures turn { IfOk result (λ turn. Over (P.tells files.old)
             (stored (M.words core.old) (P.files files.old)) (stored (M.words core.new) (P.files files.new))
             (Runs turn now self.old self.new)) }
-        ensures account { self.new.inner.account ≡ self.old.inner.account }
-        ensures err { OnErr result (self.new ≡ self.old) }
-        ensures err_core { OnErr result (M.words core.new ≡ M.words core.old) }
-        ensures keeps { M.Keeps core.old core.new }
-        ensures uses { Uses P.FilePort result files.old files.new }
+        ensures leaves { Leaves M.MemoryPort P.FilePort result self.old self.new core.old core.new files.old files.new }
     {
         if is_get_time(name) {
             return Ok(self.tell_time(core, now));

@@ -12,6 +12,7 @@ ghost use Rattle.user_session.specs.Stores.{stored, Over, OfSome, Uses, Reads};
 ghost use Rattle.user_session.specs.Turns.{Obeys};
 ghost use Rattle.ctss_types.specs.declared.file.FileBody.{FileBody};
 ghost use Rattle.file_map.specs.Known.{known};
+ghost use Rattle.user_session.specs.Calls.{CanStep, IsDirectoryOf, KeepsUser};
 
 use crate::session::Session;
 use crate::{Step, Turn};
@@ -81,16 +82,13 @@ impl Session {
         words: &[Word],
         now: u64,
     ) -> Result<Step, StepFault>
-        requires size { length (M.words core.now) ≡ 256 * self.old.inner.blocks }
-        requires port { P.Usable files.old }
-        requires quota { P.quota files.old ≡ self.old.inner.account.tracks }
-        requires fits { self.old.own < 2 ^ 64 - 1 }
+        requires can { CanStep self.old (M.words core.now) }
+        requires own { IsDirectoryOf P.FilePort self.old files.old }
         ensures row { (fs : List FileBody) → known (P.tells files.old) fs ≡ P.files files.old
             → IfOk result (λ s. OfSome (P.tells files.old) (P.files files.new) (λ has.
             DidPut line name words.now s.ending s.clock now self.old self.new
             (stored (M.words core.now) fs) (stored (M.words core.now) has))) }
-        ensures account { self.new.inner.account ≡ self.old.inner.account }
-        ensures err { OnErr result (self.new ≡ self.old) }
+        ensures user { KeepsUser result self.old self.new }
         ensures uses { Uses P.FilePort result files.old files.new }
     {
         self.talk.reserve(4)?;
@@ -120,14 +118,11 @@ impl Session {
         now: u64,
     ) -> Result<Step, NoMemory>
         requires on { self.old.on ≡ true }
-        requires size { length (M.words core.now) ≡ 256 * self.old.inner.blocks }
-        requires port { P.Usable files.now }
-        requires quota { P.quota files.now ≡ self.old.inner.account.tracks }
-        requires fits { self.old.own < 2 ^ 64 - 1 }
+        requires can { CanStep self.old (M.words core.now) }
+        requires own { IsDirectoryOf P.FilePort self.old files.now }
         ensures row { IfOk result (λ s. DidCommand line Command.List s.ending s.clock now self.old self.new
             (stored (M.words core.now) (P.files files.now)) (stored (M.words core.now) (P.files files.now))) }
-        ensures account { self.new.inner.account ≡ self.old.inner.account }
-        ensures err { OnErr result (self.new ≡ self.old) }
+        ensures user { KeepsUser result self.old self.new }
     {
         let lines = listing(self.talk.allocator(), files)?;
         self.say_all(line, lines.as_slice(), now)?;
@@ -164,14 +159,12 @@ impl Session {
         now: u64,
     ) -> Result<Turn, StepFault>
         requires on { self.old.on ≡ true }
-        requires size { length (M.words core.now) ≡ 256 * self.old.inner.blocks }
+        requires can { CanStep self.old (M.words core.now) }
         requires port { P.Usable files.old }
-        requires fits { self.old.own < 2 ^ 64 - 1 }
         ensures row { IfOk result (λ turn. Over (P.tells files.old)
             (stored (M.words core.now) (P.files files.old)) (stored (M.words core.now) (P.files files.new))
             (Obeys line (Command.Print name) turn now self.old self.new)) }
-        ensures account { self.new.inner.account ≡ self.old.inner.account }
-        ensures err { OnErr result (self.new ≡ self.old) }
+        ensures user { KeepsUser result self.old self.new }
         ensures uses { Uses P.FilePort result files.old files.new }
     {
         let lines = self.lines_of(files, name)?;
@@ -191,13 +184,11 @@ impl Session {
         now: u64,
     ) -> Result<Turn, StepFault>
         requires on { self.old.on ≡ true }
-        requires size { length (M.words core.now) ≡ 256 * self.old.inner.blocks }
+        requires can { CanStep self.old (M.words core.now) }
         requires port { P.Usable files.old }
-        requires fits { self.old.own < 2 ^ 64 - 1 }
         ensures row { IfOk result (λ turn. Obeys line (Command.Rename name to) turn now self.old self.new
             (stored (M.words core.now) (P.files files.old)) (stored (M.words core.now) (P.files files.new))) }
-        ensures account { self.new.inner.account ≡ self.old.inner.account }
-        ensures err { OnErr result (self.new ≡ self.old) }
+        ensures user { KeepsUser result self.old self.new }
         ensures uses { Uses P.FilePort result files.old files.new }
     {
         self.talk.reserve(4)?;
@@ -228,13 +219,11 @@ impl Session {
         now: u64,
     ) -> Result<Turn, StepFault>
         requires on { self.old.on ≡ true }
-        requires size { length (M.words core.now) ≡ 256 * self.old.inner.blocks }
+        requires can { CanStep self.old (M.words core.now) }
         requires port { P.Usable files.old }
-        requires fits { self.old.own < 2 ^ 64 - 1 }
         ensures row { IfOk result (λ turn. Obeys line (Command.Delete name) turn now self.old self.new
             (stored (M.words core.now) (P.files files.old)) (stored (M.words core.now) (P.files files.new))) }
-        ensures account { self.new.inner.account ≡ self.old.inner.account }
-        ensures err { OnErr result (self.new ≡ self.old) }
+        ensures user { KeepsUser result self.old self.new }
         ensures uses { Uses P.FilePort result files.old files.new }
     {
         self.talk.reserve(4)?;
@@ -266,13 +255,11 @@ impl Session {
         now: u64,
     ) -> Result<Turn, StepFault>
         requires on { self.old.on ≡ true }
-        requires size { length (M.words core.now) ≡ 256 * self.old.inner.blocks }
+        requires can { CanStep self.old (M.words core.now) }
         requires port { P.Usable files.old }
-        requires fits { self.old.own < 2 ^ 64 - 1 }
         ensures row { IfOk result (λ turn. Obeys line (Command.ChangeMode name mode) turn now self.old self.new
             (stored (M.words core.now) (P.files files.old)) (stored (M.words core.now) (P.files files.new))) }
-        ensures account { self.new.inner.account ≡ self.old.inner.account }
-        ensures err { OnErr result (self.new ≡ self.old) }
+        ensures user { KeepsUser result self.old self.new }
         ensures uses { Uses P.FilePort result files.old files.new }
     {
         self.talk.reserve(4)?;

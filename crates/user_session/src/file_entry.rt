@@ -4,6 +4,7 @@ ghost use Rattle.program_model.specs.declared.Call.{Call};
 ghost use Rattle.tia_entry.specs.Buffers.{HasBuffer};
 ghost use Rattle.user_session.specs.Turns.{Enters};
 ghost use Rattle.user_session.specs.Stores.{stored, Over, Uses};
+ghost use Rattle.user_session.specs.Calls.{CanStep, IsDirectoryOf, KeepsUser, Leaves};
 
 use crate::session::Session;
 use crate::{Step, Turn};
@@ -32,9 +33,8 @@ impl Session {
         now: u64,
     ) -> Turn
         requires on { self.old.on ≡ true }
-        requires size { length (M.words core.now) ≡ 256 * self.old.inner.blocks }
+        requires can { CanStep self.old (M.words core.now) }
         requires port { P.Usable files.now }
-        requires fits { self.old.own < 2 ^ 64 - 1 }
         ensures row { Enters (Ok (Call.FileStat name)) result now self.old self.new
             (stored (M.words core.now) (P.files files.now)) (stored (M.words core.now) (P.files files.now)) }
         ensures account { self.new.inner.account ≡ self.old.inner.account }
@@ -65,18 +65,13 @@ impl Session {
         now: u64,
     ) -> Result<Turn, StepFault>
         requires on { self.old.on ≡ true }
-        requires size { length (M.words core.old) ≡ 256 * self.old.inner.blocks }
+        requires can { CanStep self.old (M.words core.old) }
         requires port { P.Usable files.old }
-        requires fits { self.old.own < 2 ^ 64 - 1 }
         requires within { HasBuffer (length (M.words core.old)) (Call.ReadFile name at count place) }
         ensures row { IfOk result (λ turn. Over (P.tells files.old)
             (stored (M.words core.old) (P.files files.old)) (stored (M.words core.new) (P.files files.new))
             (Enters (Ok (Call.ReadFile name at count place)) turn now self.old self.new)) }
-        ensures account { self.new.inner.account ≡ self.old.inner.account }
-        ensures err { OnErr result (self.new ≡ self.old) }
-        ensures err_core { OnErr result (M.words core.new ≡ M.words core.old) }
-        ensures keeps { M.Keeps core.old core.new }
-        ensures uses { Uses P.FilePort result files.old files.new }
+        ensures leaves { Leaves M.MemoryPort P.FilePort result self.old self.new core.old core.new files.old files.new }
     {
         match files.read(name, place, count) {
             Ok(words) => {
@@ -106,16 +101,13 @@ impl Session {
         now: u64,
     ) -> Result<Turn, StepFault>
         requires on { self.old.on ≡ true }
-        requires size { length (M.words core.now) ≡ 256 * self.old.inner.blocks }
-        requires port { P.Usable files.old }
-        requires quota { P.quota files.old ≡ self.old.inner.account.tracks }
-        requires fits { self.old.own < 2 ^ 64 - 1 }
+        requires can { CanStep self.old (M.words core.now) }
+        requires own { IsDirectoryOf P.FilePort self.old files.old }
         requires within { HasBuffer (length (M.words core.now)) (Call.WriteFile name at count place) }
         ensures row { IfOk result (λ turn. Over (P.tells files.old)
             (stored (M.words core.now) (P.files files.old)) (stored (M.words core.now) (P.files files.new))
             (Enters (Ok (Call.WriteFile name at count place)) turn now self.old self.new)) }
-        ensures account { self.new.inner.account ≡ self.old.inner.account }
-        ensures err { OnErr result (self.new ≡ self.old) }
+        ensures user { KeepsUser result self.old self.new }
         ensures uses { Uses P.FilePort result files.old files.new }
     {
         let words = words_in(self.talk.allocator(), core, at, count)?;
@@ -143,13 +135,11 @@ impl Session {
         now: u64,
     ) -> Result<Turn, StepFault>
         requires on { self.old.on ≡ true }
-        requires size { length (M.words core.now) ≡ 256 * self.old.inner.blocks }
+        requires can { CanStep self.old (M.words core.now) }
         requires port { P.Usable files.old }
-        requires fits { self.old.own < 2 ^ 64 - 1 }
         ensures row { IfOk result (λ turn. Enters (Ok (Call.DeleteFile name)) turn now self.old self.new
             (stored (M.words core.now) (P.files files.old)) (stored (M.words core.now) (P.files files.new))) }
-        ensures account { self.new.inner.account ≡ self.old.inner.account }
-        ensures err { OnErr result (self.new ≡ self.old) }
+        ensures user { KeepsUser result self.old self.new }
         ensures uses { Uses P.FilePort result files.old files.new }
     {
         match files.delete(name) {
@@ -177,13 +167,11 @@ impl Session {
         now: u64,
     ) -> Result<Turn, StepFault>
         requires on { self.old.on ≡ true }
-        requires size { length (M.words core.now) ≡ 256 * self.old.inner.blocks }
+        requires can { CanStep self.old (M.words core.now) }
         requires port { P.Usable files.old }
-        requires fits { self.old.own < 2 ^ 64 - 1 }
         ensures row { IfOk result (λ turn. Enters (Ok (Call.RenameFile name to)) turn now self.old self.new
             (stored (M.words core.now) (P.files files.old)) (stored (M.words core.now) (P.files files.new))) }
-        ensures account { self.new.inner.account ≡ self.old.inner.account }
-        ensures err { OnErr result (self.new ≡ self.old) }
+        ensures user { KeepsUser result self.old self.new }
         ensures uses { Uses P.FilePort result files.old files.new }
     {
         match files.rename(name, to) {
@@ -211,13 +199,11 @@ impl Session {
         now: u64,
     ) -> Result<Turn, StepFault>
         requires on { self.old.on ≡ true }
-        requires size { length (M.words core.now) ≡ 256 * self.old.inner.blocks }
+        requires can { CanStep self.old (M.words core.now) }
         requires port { P.Usable files.old }
-        requires fits { self.old.own < 2 ^ 64 - 1 }
         ensures row { IfOk result (λ turn. Enters (Ok (Call.ChangeMode name mode)) turn now self.old self.new
             (stored (M.words core.now) (P.files files.old)) (stored (M.words core.now) (P.files files.new))) }
-        ensures account { self.new.inner.account ≡ self.old.inner.account }
-        ensures err { OnErr result (self.new ≡ self.old) }
+        ensures user { KeepsUser result self.old self.new }
         ensures uses { Uses P.FilePort result files.old files.new }
     {
         match files.chmode(name, mode_within(mode)) {

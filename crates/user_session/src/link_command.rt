@@ -6,6 +6,7 @@ ghost use Rattle.user_model.specs.Answers.{DidCommand};
 ghost use Rattle.user_model.specs.Commands.{modules_in, names_in};
 ghost use Rattle.user_model.specs.declared.Command.{Command};
 ghost use Rattle.user_session.specs.Stores.{stored, Over, OfSome, Uses, Reads};
+ghost use Rattle.user_session.specs.Calls.{CanStep, IsDirectoryOf, KeepsUser};
 
 use crate::Step;
 use crate::command::deck_name;
@@ -78,15 +79,12 @@ impl Session {
         now: u64,
     ) -> Result<Step, StepFault>
         requires on { self.old.on ≡ true }
-        requires size { length (M.words core.now) ≡ 256 * self.old.inner.blocks }
-        requires port { P.Usable files.old }
-        requires quota { P.quota files.old ≡ self.old.inner.account.tracks }
-        requires fits { self.old.own < 2 ^ 64 - 1 }
+        requires can { CanStep self.old (M.words core.now) }
+        requires own { IsDirectoryOf P.FilePort self.old files.old }
         ensures row { IfOk result (λ s. Over (P.tells files.old)
             (stored (M.words core.now) (P.files files.old)) (stored (M.words core.now) (P.files files.new))
             (DidCommand line (Command.Link name) s.ending s.clock now self.old self.new)) }
-        ensures account { self.new.inner.account ≡ self.old.inner.account }
-        ensures err { OnErr result (self.new ≡ self.old) }
+        ensures user { KeepsUser result self.old self.new }
         ensures uses { Uses P.FilePort result files.old files.new }
     {
         match self.deck_of_modules(files, &line)? {

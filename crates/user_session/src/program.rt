@@ -12,6 +12,7 @@ ghost use Rattle.user_session.specs.Turns.{IsReplied, IsTurn, Instructs, Runs};
 ghost use Rattle.user_model.specs.Answers.{DidBreak, marked};
 ghost use Rattle.user_model.specs.Programs.{at_break};
 ghost use Rattle.file_model.specs.Commons.{ReplyFits};
+ghost use Rattle.user_session.specs.Calls.{CanStep, IsAtInstruction, IsDirectoryOf, KeepsCore, KeepsUser, Leaves};
 
 use crate::entry::STOPPED;
 use crate::file_entry::WENT;
@@ -41,8 +42,7 @@ impl Session {
         ensures ok { OnOk result (OfSome (P.tells files.old) (P.files files.old)
             (λ fs. IsStored with fs self.old self.new (M.words core.old) (M.words core.new))) }
         ensures err { OnErr result (self.new ≡ self.old) }
-        ensures err_core { OnErr result (M.words core.new ≡ M.words core.old) }
-        ensures keeps { M.Keeps core.old core.new }
+        ensures core { KeepsCore M.MemoryPort result core.old core.new }
         ensures reads { Reads P.FilePort result files.old files.new }
     {
         fill(&with, &mut self.regs, core, files)?;
@@ -64,17 +64,12 @@ impl Session {
         requires works { works_in self.old.inner.state ≡ true }
         requires waits { self.old.inner.fill ≡ Some with }
         requires start { StartsInCore with }
-        requires size { length (M.words core.old) ≡ 256 * self.old.inner.blocks }
+        requires can { CanStep self.old (M.words core.old) }
         requires port { P.Usable files.old }
-        requires fits { self.old.own < 2 ^ 64 - 1 }
         ensures turn { IfOk result (λ turn. Over (P.tells files.old)
             (stored (M.words core.old) (P.files files.old)) (stored (M.words core.new) (P.files files.new))
             (IsTurn turn now self.old self.new)) }
-        ensures account { self.new.inner.account ≡ self.old.inner.account }
-        ensures err { OnErr result (self.new ≡ self.old) }
-        ensures err_core { OnErr result (M.words core.new ≡ M.words core.old) }
-        ensures keeps { M.Keeps core.old core.new }
-        ensures uses { Uses P.FilePort result files.old files.new }
+        ensures leaves { Leaves M.MemoryPort P.FilePort result self.old self.new core.old core.new files.old files.new }
     {
         self.store(core, files, with)?;
         Ok(Turn::Done(WENT))
@@ -83,18 +78,12 @@ impl Session {
     /// The next instruction of a program. A supervisor entry is not done yet.
     #[inline(always)]
     fn instruct<M: MemoryPort>(&mut self, core: &mut M, now: u64) -> Result<Instructed, NoMemory>
-        requires on { self.old.on ≡ true }
-        requires works { works_in self.old.inner.state ≡ true }
-        requires filled { self.old.inner.fill ≡ None }
-        requires unbroken { at_break self.old.inner ≡ false }
-        requires size { length (M.words core.old) ≡ 256 * self.old.inner.blocks }
-        requires fits { self.old.own < 2 ^ 64 - 1 }
+        requires ready { IsAtInstruction self.old }
+        requires can { CanStep self.old (M.words core.old) }
         ensures does { (fs : List FileBody) → IfOk result (λ done. Instructs done now self.old self.new
             (stored (M.words core.old) fs) (stored (M.words core.new) fs)) }
-        ensures account { self.new.inner.account ≡ self.old.inner.account }
-        ensures err { OnErr result (self.new ≡ self.old) }
-        ensures err_core { OnErr result (M.words core.new ≡ M.words core.old) }
-        ensures keeps { M.Keeps core.old core.new }
+        ensures user { KeepsUser result self.old self.new }
+        ensures core { KeepsCore M.MemoryPort result core.old core.new }
     {
         self.talk.reserve(2)?;
         let place = self.regs.ic;
@@ -131,23 +120,14 @@ impl Session {
         files: &mut P,
         now: u64,
     ) -> Result<Turn, StepFault>
-        requires on { self.old.on ≡ true }
-        requires works { works_in self.old.inner.state ≡ true }
-        requires filled { self.old.inner.fill ≡ None }
-        requires unbroken { at_break self.old.inner ≡ false }
-        requires size { length (M.words core.old) ≡ 256 * self.old.inner.blocks }
-        requires port { P.Usable files.old }
-        requires quota { P.quota files.old ≡ self.old.inner.account.tracks }
-        requires fits { self.old.own < 2 ^ 64 - 1 }
+        requires ready { IsAtInstruction self.old }
+        requires can { CanStep self.old (M.words core.old) }
+        requires own { IsDirectoryOf P.FilePort self.old files.old }
         requires time { now < 2 ^ 35 }
         ensures turn { IfOk result (λ turn. Over (P.tells files.old)
             (stored (M.words core.old) (P.files files.old)) (stored (M.words core.new) (P.files files.new))
             (Runs turn now self.old self.new)) }
-        ensures account { self.new.inner.account ≡ self.old.inner.account }
-        ensures err { OnErr result (self.new ≡ self.old) }
-        ensures err_core { OnErr result (M.words core.new ≡ M.words core.old) }
-        ensures keeps { M.Keeps core.old core.new }
-        ensures uses { Uses P.FilePort result files.old files.new }
+        ensures leaves { Leaves M.MemoryPort P.FilePort result self.old self.new core.old core.new files.old files.new }
     {
         match self.instruct(core, now)? {
             Instructed::Done(step) => Ok(Turn::Done(step)),
@@ -169,12 +149,10 @@ impl Session {
     #[tactic(auto, using(user_model::proofs::CoreLaws::recut_same))]
     fn make_break<M: MemoryPort>(&mut self, core: &M) -> Result<Step, NoMemory>
         requires on { self.old.on ≡ true }
-        requires size { length (M.words core.now) ≡ 256 * self.old.inner.blocks }
-        requires fits { self.old.own < 2 ^ 64 - 1 }
+        requires can { CanStep self.old (M.words core.now) }
         ensures row { (fs : List FileBody) → IfOk result (λ s. DidBreak s.ending s.clock self.old self.new
             (stored (M.words core.now) fs) (stored (M.words core.now) fs)) }
-        ensures account { self.new.inner.account ≡ self.old.inner.account }
-        ensures err { OnErr result (self.new ≡ self.old) }
+        ensures user { KeepsUser result self.old self.new }
     {
         self.talk.reserve(2)?;
         let n = self.own + 1 - self.own_at_command;
@@ -204,19 +182,13 @@ impl Session {
         requires on { self.old.on ≡ true }
         requires works { works_in self.old.inner.state ≡ true }
         requires filled { self.old.inner.fill ≡ None }
-        requires size { length (M.words core.old) ≡ 256 * self.old.inner.blocks }
-        requires port { P.Usable files.old }
-        requires quota { P.quota files.old ≡ self.old.inner.account.tracks }
-        requires fits { self.old.own < 2 ^ 64 - 1 }
+        requires can { CanStep self.old (M.words core.old) }
+        requires own { IsDirectoryOf P.FilePort self.old files.old }
         requires time { now < 2 ^ 35 }
         ensures turn { IfOk result (λ turn. Over (P.tells files.old)
             (stored (M.words core.old) (P.files files.old)) (stored (M.words core.new) (P.files files.new))
             (IsTurn turn now self.old self.new)) }
-        ensures account { self.new.inner.account ≡ self.old.inner.account }
-        ensures err { OnErr result (self.new ≡ self.old) }
-        ensures err_core { OnErr result (M.words core.new ≡ M.words core.old) }
-        ensures keeps { M.Keeps core.old core.new }
-        ensures uses { Uses P.FilePort result files.old files.new }
+        ensures leaves { Leaves M.MemoryPort P.FilePort result self.old self.new core.old core.new files.old files.new }
     {
         if self.is_at_break() {
             let broken = self.make_break(core)?;
@@ -243,19 +215,13 @@ impl Session {
         requires on { self.old.on ≡ true }
         requires works { works_in self.old.inner.state ≡ true }
         requires filled { self.old.inner.fill ≡ None }
-        requires size { length (M.words core.old) ≡ 256 * self.old.inner.blocks }
-        requires port { P.Usable files.old }
-        requires quota { P.quota files.old ≡ self.old.inner.account.tracks }
-        requires fits { self.old.own < 2 ^ 64 - 1 }
+        requires can { CanStep self.old (M.words core.old) }
+        requires own { IsDirectoryOf P.FilePort self.old files.old }
         requires time { now < 2 ^ 35 }
         ensures turn { IfOk result (λ turn. Over (P.tells files.old)
             (stored (M.words core.old) (P.files files.old)) (stored (M.words core.new) (P.files files.new))
             (IsTurn turn now self.old self.new)) }
-        ensures account { self.new.inner.account ≡ self.old.inner.account }
-        ensures err { OnErr result (self.new ≡ self.old) }
-        ensures err_core { OnErr result (M.words core.new ≡ M.words core.old) }
-        ensures keeps { M.Keeps core.old core.new }
-        ensures uses { Uses P.FilePort result files.old files.new }
+        ensures leaves { Leaves M.MemoryPort P.FilePort result self.old self.new core.old core.new files.old files.new }
     {
         if self.is_debugged() {
             return self.run_debugged(core, files, now);
@@ -288,13 +254,9 @@ impl Session {
 
     /// A program's call that made a common operation goes on with its reply.
     fn entry_replied<M: MemoryPort>(&mut self, core: &mut M, reply: &Reply, now: u64) -> Step
-        requires on { self.old.on ≡ true }
-        requires works { works_in self.old.inner.state ≡ true }
-        requires filled { self.old.inner.fill ≡ None }
-        requires unbroken { at_break self.old.inner ≡ false }
+        requires ready { IsAtInstruction self.old }
         requires asks { (op : CommonOp) × IsEntryFor op self.old (M.words core.old) }
-        requires size { length (M.words core.old) ≡ 256 * self.old.inner.blocks }
-        requires fits { self.old.own < 2 ^ 64 - 1 }
+        requires can { CanStep self.old (M.words core.old) }
         requires reply_fits { ReplyFits reply.now }
         ensures step { (op : CommonOp) (fs : List FileBody) → IsEntryFor op self.old (M.words core.old)
             → IsReplied result op reply.now now self.old self.new (stored (M.words core.old) fs)
@@ -325,21 +287,15 @@ impl Session {
     ) -> Result<Step, StepFault>
         requires asks { (op : CommonOp) × IsToMake (P.tells files.old)
             (stored (M.words core.old) (P.files files.old)) op self.old }
-        requires size { length (M.words core.old) ≡ 256 * self.old.inner.blocks }
-        requires port { P.Usable files.old }
-        requires quota { P.quota files.old ≡ self.old.inner.account.tracks }
-        requires fits { self.old.own < 2 ^ 64 - 1 }
+        requires can { CanStep self.old (M.words core.old) }
+        requires own { IsDirectoryOf P.FilePort self.old files.old }
         requires reply_fits { ReplyFits reply.now }
         ensures step { (op : CommonOp) → IsToMake (P.tells files.old)
             (stored (M.words core.old) (P.files files.old)) op self.old
             → IfOk result (λ s. Over (P.tells files.old)
             (stored (M.words core.old) (P.files files.old)) (stored (M.words core.new) (P.files files.new))
             (IsReplied s op reply.now now self.old self.new)) }
-        ensures account { self.new.inner.account ≡ self.old.inner.account }
-        ensures err { OnErr result (self.new ≡ self.old) }
-        ensures err_core { OnErr result (M.words core.new ≡ M.words core.old) }
-        ensures keeps { M.Keeps core.old core.new }
-        ensures uses { Uses P.FilePort result files.old files.new }
+        ensures leaves { Leaves M.MemoryPort P.FilePort result self.old self.new core.old core.new files.old files.new }
     {
         let _ = &self.account;
         if self.works() {
@@ -362,19 +318,13 @@ impl Session {
     ) -> Result<Turn, StepFault>
         requires on { self.old.on ≡ true }
         requires idle { works_in self.old.inner.state ≡ false }
-        requires size { length (M.words core.old) ≡ 256 * self.old.inner.blocks }
-        requires port { P.Usable files.old }
-        requires quota { P.quota files.old ≡ self.old.inner.account.tracks }
-        requires fits { self.old.own < 2 ^ 64 - 1 }
+        requires can { CanStep self.old (M.words core.old) }
+        requires own { IsDirectoryOf P.FilePort self.old files.old }
         requires time { now < 2 ^ 35 }
         ensures turn { IfOk result (λ turn. Over (P.tells files.old)
             (stored (M.words core.old) (P.files files.old)) (stored (M.words core.new) (P.files files.new))
             (IsTurn turn now self.old self.new)) }
-        ensures account { self.new.inner.account ≡ self.old.inner.account }
-        ensures err { OnErr result (self.new ≡ self.old) }
-        ensures err_core { OnErr result (M.words core.new ≡ M.words core.old) }
-        ensures keeps { M.Keeps core.old core.new }
-        ensures uses { Uses P.FilePort result files.old files.new }
+        ensures leaves { Leaves M.MemoryPort P.FilePort result self.old self.new core.old core.new files.old files.new }
     {
         if self.is_debugged() {
             let turn = self.debug(core, files, now)?;
@@ -392,19 +342,13 @@ impl Session {
         now: u64,
     ) -> Result<Turn, StepFault>
         requires work { IsAtWork self.old }
-        requires size { length (M.words core.old) ≡ 256 * self.old.inner.blocks }
-        requires port { P.Usable files.old }
-        requires quota { P.quota files.old ≡ self.old.inner.account.tracks }
-        requires fits { self.old.own < 2 ^ 64 - 1 }
+        requires can { CanStep self.old (M.words core.old) }
+        requires own { IsDirectoryOf P.FilePort self.old files.old }
         requires time { now < 2 ^ 35 }
         ensures turn { IfOk result (λ turn. Over (P.tells files.old)
             (stored (M.words core.old) (P.files files.old)) (stored (M.words core.new) (P.files files.new))
             (IsTurn turn now self.old self.new)) }
-        ensures account { self.new.inner.account ≡ self.old.inner.account }
-        ensures err { OnErr result (self.new ≡ self.old) }
-        ensures err_core { OnErr result (M.words core.new ≡ M.words core.old) }
-        ensures keeps { M.Keeps core.old core.new }
-        ensures uses { Uses P.FilePort result files.old files.new }
+        ensures leaves { Leaves M.MemoryPort P.FilePort result self.old self.new core.old core.new files.old files.new }
     {
         self.go_on(core, files, now)
     }
@@ -418,19 +362,13 @@ impl Session {
         files: &mut P,
         now: u64,
     ) -> Result<Turn, StepFault>
-        requires size { length (M.words core.old) ≡ 256 * self.old.inner.blocks }
-        requires port { P.Usable files.old }
-        requires quota { P.quota files.old ≡ self.old.inner.account.tracks }
-        requires fits { self.old.own < 2 ^ 64 - 1 }
+        requires can { CanStep self.old (M.words core.old) }
+        requires own { IsDirectoryOf P.FilePort self.old files.old }
         requires time { now < 2 ^ 35 }
         ensures turn { IfOk result (λ turn. Over (P.tells files.old)
             (stored (M.words core.old) (P.files files.old)) (stored (M.words core.new) (P.files files.new))
             (IsTurn turn now self.old self.new)) }
-        ensures account { self.new.inner.account ≡ self.old.inner.account }
-        ensures err { OnErr result (self.new ≡ self.old) }
-        ensures err_core { OnErr result (M.words core.new ≡ M.words core.old) }
-        ensures keeps { M.Keeps core.old core.new }
-        ensures uses { Uses P.FilePort result files.old files.new }
+        ensures leaves { Leaves M.MemoryPort P.FilePort result self.old self.new core.old core.new files.old files.new }
     {
         if !self.is_open() {
             return Ok(Turn::Waits);
@@ -455,19 +393,13 @@ impl Session {
         files: &mut P,
         now: u64,
     ) -> Result<Turn, StepFault>
-        requires size { length (M.words core.old) ≡ 256 * self.old.inner.blocks }
-        requires port { P.Usable files.old }
-        requires quota { P.quota files.old ≡ self.old.inner.account.tracks }
-        requires fits { self.old.own < 2 ^ 64 - 1 }
+        requires can { CanStep self.old (M.words core.old) }
+        requires own { IsDirectoryOf P.FilePort self.old files.old }
         requires time { now < 2 ^ 35 }
         ensures turn { IfOk result (λ turn. Over (P.tells files.old)
             (stored (M.words core.old) (P.files files.old)) (stored (M.words core.new) (P.files files.new))
             (IsTurn turn now self.old self.new)) }
-        ensures account { self.new.inner.account ≡ self.old.inner.account }
-        ensures err { OnErr result (self.new ≡ self.old) }
-        ensures err_core { OnErr result (M.words core.new ≡ M.words core.old) }
-        ensures keeps { M.Keeps core.old core.new }
-        ensures uses { Uses P.FilePort result files.old files.new }
+        ensures leaves { Leaves M.MemoryPort P.FilePort result self.old self.new core.old core.new files.old files.new }
     {
         if self.is_at_work() {
             return self.work(core, files, now);

@@ -12,6 +12,7 @@ ghost use Rattle.user_model.specs.Answers.{DidCommand};
 ghost use Rattle.user_model.specs.Commands.{command_file, com_text};
 ghost use Rattle.user_session.specs.Changes.{DidFeed};
 ghost use Rattle.user_session.specs.Stores.{stored, Over, OfSome, Uses, Reads};
+ghost use Rattle.user_session.specs.Calls.{CanStep, KeepsUser};
 
 use crate::Step;
 use crate::file_command::DONE;
@@ -91,13 +92,11 @@ impl Session {
         lines: &[LineText],
         now: u64,
     ) -> Result<Step, NoMemory>
-        requires size { length (M.words core.now) ≡ 256 * self.old.inner.blocks }
-        requires fits { self.old.own < 2 ^ 64 - 1 }
+        requires can { CanStep self.old (M.words core.now) }
         ensures row { (fs : List FileBody) → IfOk result (λ s. DidFeed line
             (lines_with lines.now (drop 2 (words_of line)) (256 - (self.old.fed - 1)))
             s.ending s.clock now self.old self.new (stored (M.words core.now) fs) (stored (M.words core.now) fs)) }
-        ensures account { self.new.inner.account ≡ self.old.inner.account }
-        ensures err { OnErr result (self.new ≡ self.old) }
+        ensures user { KeepsUser result self.old self.new }
     {
         let left = self.talk.fed_count().saturating_sub(1);
         match substitute(
@@ -131,14 +130,12 @@ impl Session {
         now: u64,
     ) -> Result<Step, StepFault>
         requires on { self.old.on ≡ true }
-        requires size { length (M.words core.now) ≡ 256 * self.old.inner.blocks }
+        requires can { CanStep self.old (M.words core.now) }
         requires port { P.Usable files.old }
-        requires fits { self.old.own < 2 ^ 64 - 1 }
         ensures row { IfOk result (λ s. Over (P.tells files.old)
             (stored (M.words core.now) (P.files files.old)) (stored (M.words core.now) (P.files files.new))
             (DidCommand line (Command.RunFile name) s.ending s.clock now self.old self.new)) }
-        ensures account { self.new.inner.account ≡ self.old.inner.account }
-        ensures err { OnErr result (self.new ≡ self.old) }
+        ensures user { KeepsUser result self.old self.new }
         ensures uses { Uses P.FilePort result files.old files.new }
     {
         match self.command_lines(files, name)? {

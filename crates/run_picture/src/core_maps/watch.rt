@@ -20,34 +20,34 @@ use user_cores::Behind;
 /// One step below a limit, and such as write no entry.
 fn go_once<'a, 'd, D: Medium, F: Medium>(
     supervisor: &mut Supervisor,
-    behind: &mut Behind<Image<'a, D>, TrackDirectories<'d, F>>,
+    behind: &mut Behind<'a, 'd, D, F>,
     limit: u64,
 ) -> Result<(), RunFault>
-    requires usable { ⟦<Behind<Image<'a, D>, TrackDirectories<'d, F>> as user_cores::Backing>⟧.Usable behind.old }
+    requires usable { ⟦<Behind<'a, 'd, D, F> as user_cores::Backing>⟧.Usable behind.old }
     requires agrees { Agrees (whole_of supervisor.old
-        (⟦<Behind<Image<'a, D>, TrackDirectories<'d, F>> as user_cores::Backing>⟧.state behind.old)) }
-    requires tells { (⟦<Behind<Image<'a, D>, TrackDirectories<'d, F>> as user_cores::Backing>⟧.state
+        (⟦<Behind<'a, 'd, D, F> as user_cores::Backing>⟧.state behind.old)) }
+    requires tells { (⟦<Behind<'a, 'd, D, F> as user_cores::Backing>⟧.state
         behind.old).held.tells
         ≡ true }
     requires in_time { supervisor.old.clock < limit }
     requires limit { limit ≤ 100000000 }
     ensures usable { OnOk result
-        (⟦<Behind<Image<'a, D>, TrackDirectories<'d, F>> as user_cores::Backing>⟧.Usable behind.new) }
+        (⟦<Behind<'a, 'd, D, F> as user_cores::Backing>⟧.Usable behind.new) }
     ensures steps { OnOk result (Steps limit (whole_of supervisor.old
-        (⟦<Behind<Image<'a, D>, TrackDirectories<'d, F>> as user_cores::Backing>⟧.state behind.old))
+        (⟦<Behind<'a, 'd, D, F> as user_cores::Backing>⟧.state behind.old))
         (whole_of supervisor.new
-        (⟦<Behind<Image<'a, D>, TrackDirectories<'d, F>> as user_cores::Backing>⟧.state behind.new))) }
+        (⟦<Behind<'a, 'd, D, F> as user_cores::Backing>⟧.state behind.new))) }
 {
     supervisor.advance_once(behind, limit)
 }
 
 /// What lies behind users' sessions, as it was, and whose each place of its core is.
 fn look<'a, 'd, D: Medium, F: Medium>(
-    behind: Behind<Image<'a, D>, TrackDirectories<'d, F>>,
-) -> (Behind<Image<'a, D>, TrackDirectories<'d, F>>, [u8; 128])
+    behind: Behind<'a, 'd, D, F>,
+) -> (Behind<'a, 'd, D, F>, [u8; 128])
     ensures same { result.0 ≡ behind.entry }
     ensures owners { owner_in result.1
-        ≡ (⟦<Behind<Image<'a, D>, TrackDirectories<'d, F>> as user_cores::Backing>⟧.state
+        ≡ (⟦<Behind<'a, 'd, D, F> as user_cores::Backing>⟧.state
         behind.entry).held.places.owner }
 {
     let (cores, files) = behind.into_parts();
@@ -60,11 +60,11 @@ fn note_step<'a, 'd, D: Medium, F: Medium>(
     maps: &mut CoreMaps,
     supervisor: &Supervisor,
     before: usize,
-    behind: Behind<Image<'a, D>, TrackDirectories<'d, F>>,
-) -> Result<Behind<Image<'a, D>, TrackDirectories<'d, F>>, NoMemory>
+    behind: Behind<'a, 'd, D, F>,
+) -> Result<Behind<'a, 'd, D, F>, NoMemory>
     ensures same { IfOk result (λ same. same ≡ behind.entry) }
     ensures maps { OnOk result (map owner_in maps.new ≡ map owner_in maps.old
-        ++ map (λ tick. (⟦<Behind<Image<'a, D>, TrackDirectories<'d, F>> as user_cores::Backing>⟧.state
+        ++ map (λ tick. (⟦<Behind<'a, 'd, D, F> as user_cores::Backing>⟧.state
         behind.entry).held.places.owner) (load_ticks (drop before supervisor.now.entries))) }
 {
     let entries = supervisor.entries();
@@ -80,17 +80,17 @@ fn note_step<'a, 'd, D: Medium, F: Medium>(
 pub(crate) fn watch<'a, 'd, D: Medium, F: Medium>(
     alloc: Global,
     supervisor: &mut Supervisor,
-    behind: Behind<Image<'a, D>, TrackDirectories<'d, F>>,
+    behind: Behind<'a, 'd, D, F>,
     script: &Script,
 ) -> Result<CoreMaps, NoMemory>
     requires lawful { IsLawful script.now }
-    requires usable { ⟦<Behind<Image<'a, D>, TrackDirectories<'d, F>> as user_cores::Backing>⟧.Usable behind }
+    requires usable { ⟦<Behind<'a, 'd, D, F> as user_cores::Backing>⟧.Usable behind }
     requires agrees { Agrees (whole_of supervisor.old
-        (⟦<Behind<Image<'a, D>, TrackDirectories<'d, F>> as user_cores::Backing>⟧.state behind)) }
-    requires tells { (⟦<Behind<Image<'a, D>, TrackDirectories<'d, F>> as user_cores::Backing>⟧.state behind).held.tells
+        (⟦<Behind<'a, 'd, D, F> as user_cores::Backing>⟧.state behind)) }
+    requires tells { (⟦<Behind<'a, 'd, D, F> as user_cores::Backing>⟧.state behind).held.tells
         ≡ true }
     requires start { run_over (whole_of supervisor.old
-        (⟦<Behind<Image<'a, D>, TrackDirectories<'d, F>> as user_cores::Backing>⟧.state behind)) ≡ start_of script.now }
+        (⟦<Behind<'a, 'd, D, F> as user_cores::Backing>⟧.state behind)) ≡ start_of script.now }
     ensures { IfOk result (λ maps. map owner_in maps ≡ owners_of script.now) }
 {
     let mut maps = CoreMaps::new(alloc);

@@ -18,7 +18,7 @@ returns-clause-others g c = λ u other.
     let b = c.base-base.ensures.value in
     let n = c.size-blocks.ensures.value in
     let front : take (256 * base_of now.owners.bases c.args.user) new ≡ take (256 * base_of now.owners.bases c.args.user) c.args.image.now.bank =
-    (λ j. take (256 * sym b j) new) ∙ c.store_in.ensures.front ∙ (λ j. take (256 * b j) (c.bank_mut.ensures.now j)) in
+    (λ j. take (256 * sym b j) new) ∙ c.store_in.ensures.around.front ∙ (λ j. take (256 * b j) (c.bank_mut.ensures.now j)) in
     let rest : drop (256 * (base_of now.owners.bases c.args.user + size_of now.sizes.items c.args.user)) new ≡ drop (256 * (base_of now.owners.bases c.args.user + size_of now.sizes.items c.args.user)) c.args.image.now.bank =
-    (λ j. drop (256 * (sym b j + sym n j)) new) ∙ c.store_in.ensures.rest ∙ (λ j. drop (256 * (b j + n j)) (c.bank_mut.ensures.now j)) in
+    (λ j. drop (256 * (sym b j + sym n j)) new) ∙ c.store_in.ensures.around.rest ∙ (λ j. drop (256 * (b j + n j)) (c.bank_mut.ensures.now j)) in
     image_stays c.args.image.now.bank c.store_in.new.bank (g.D.Medium.contents now.kept.drum.now) now.owners now.kept.slots now.sizes.items c.args.user u mine front rest other

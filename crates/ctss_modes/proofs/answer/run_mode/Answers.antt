@@ -1,11 +1,9 @@
-use Rattle.std.proofs.Common.{◌≡◌, ◌∙◌, ◌≤◌, true, false, Option, Some, None, refl, ap, subst, arith}
-use Rattle.std.proofs.lemmas.Bool.Decides.{nat_tests}
+use Rattle.std.proofs.Common.{◌≡◌, ◌∙◌, ◌≤◌, true, false, Option, Some, None, refl, ap, subst}
 use Rattle.text_model.specs.declared.mode.Mode.{Mode}
 use Rattle.text_model.specs.declared.mode.Mode.TheVariants.{Replay, Dump, Load, Asm, Serve}
 use Rattle.ctss_modes.specs.Modes.{turns_asked}
 use Rattle.ctss_modes.proofs.Allowed.{always}
 use Rattle.ctss_modes.proofs.Answering.{answer_as, scripted, assembles, refuses}
-use Rattle.ctss_modes.proofs.Says.{silent_by}
 use Rattle.ctss_modes.proofs.answer.run_mode.Goals as goal
 
 pub serve_consoles-requires-clause-turns : goal.serve_consoles-requires-clause-turns
@@ -19,14 +17,7 @@ returns-in-Replay g c =
       runs = refl;
       statuses = c.replay.ensures.status;
       told = c.replay.ensures.statuses;
-      done = c.replay.ensures.done _;
-      refused = λ reads h. c.replay.ensures.refused _ h;
-      cause = c.replay.ensures.cause _;
-      cut = λ words asked h. c.replay.ensures.part words _ asked h;
-      stopped = λ words asked h. c.replay.ensures.stopped words _ asked h;
-      lost = λ words asked h. c.replay.ensures.lost words _ asked h;
-      silent = λ h. c.replay.ensures.silent _ (grind (arith, h, c.replay.ensures.status, nat_tests));
-      spent = λ h. c.replay.ensures.spent _ (grind (arith, h, c.replay.ensures.status, nat_tests));
+      answers = c.replay.ensures.answers _;
       unlinked = λ h. refl;
     }))
 
@@ -38,14 +29,7 @@ returns-in-Dump g c =
       runs = refl;
       statuses = c.replay-in-Dump.ensures.status;
       told = c.replay-in-Dump.ensures.statuses;
-      done = c.replay-in-Dump.ensures.done _;
-      refused = λ reads h. c.replay-in-Dump.ensures.refused _ h;
-      cause = c.replay-in-Dump.ensures.cause _;
-      cut = λ words asked h. c.replay-in-Dump.ensures.part words _ asked h;
-      stopped = λ words asked h. c.replay-in-Dump.ensures.stopped words _ asked h;
-      lost = λ words asked h. c.replay-in-Dump.ensures.lost words _ asked h;
-      silent = λ h. c.replay-in-Dump.ensures.silent _ (grind (arith, h, c.replay-in-Dump.ensures.status, nat_tests));
-      spent = λ h. c.replay-in-Dump.ensures.spent _ (grind (arith, h, c.replay-in-Dump.ensures.status, nat_tests));
+      answers = c.replay-in-Dump.ensures.answers _;
       unlinked = λ h. refl;
     }))
 
@@ -57,37 +41,13 @@ returns-in-Load g c =
       runs = refl;
       statuses = c.load.ensures.status;
       told = always _ _ c.load.ensures.status;
-      done = c.load.ensures.done _ _;
-      refused = λ reads h. absurd (let wrong : false ≡ true = reads in cc);
-      cause = c.load.ensures.cause _ _;
-      cut = λ words asked h. c.load.ensures.part words _ _ asked h;
-      stopped = λ words asked h. c.load.ensures.stopped words _ _ asked h;
-      lost = λ words asked h. c.load.ensures.lost words _ _ asked h;
-      silent = λ h.
-          (let is : c.load.result.status ≡ 8 = grind (arith, h, c.load.ensures.status, nat_tests) in
-          silent_by _ 8 _ _ c.load.result is (c.load.ensures.silent _ _ is));
-      spent = λ h. c.load.ensures.spent _ _ (grind (arith, h, c.load.ensures.status, nat_tests));
+      answers = c.load.ensures.answers _ _;
       unlinked = λ h. refl;
     }))
 
 pub returns-in-Asm : goal.returns-in-Asm
 returns-in-Asm g c =
-    answer_as c.args.asked (Some Asm) _ _ _ (c.in-Some.is ∙ ap Some c.in-Asm.is)
-    (assembles _ _ c.asm.result
-    (record {
-      statuses = c.asm.ensures.status;
-      told = c.asm.ensures.statuses;
-      deck = c.asm.ensures.deck _ _;
-      faults = c.asm.ensures.faults _ _;
-      long = c.asm.ensures.long _ _;
-      unread = c.asm.ensures.unread;
-      unwritten = c.asm.ensures.unwritten;
-      cut = c.asm.ensures.cut;
-      part = c.asm.ensures.part _ _;
-      silent = c.asm.ensures.silent _ _;
-      media = refl;
-      link = refl;
-    }))
+    answer_as c.args.asked (Some Asm) _ _ _ (c.in-Some.is ∙ ap Some c.in-Asm.is) (assembles _ _ c.asm.result (c.asm.ensures _ _) refl refl)
 
 pub returns-in-Serve : goal.returns-in-Serve
 returns-in-Serve g c =
@@ -97,14 +57,7 @@ returns-in-Serve g c =
       runs = refl;
       statuses = c.serve_consoles.ensures.status;
       told = c.serve_consoles.ensures.statuses;
-      done = c.serve_consoles.ensures.done;
-      refused = λ reads h. c.serve_consoles.ensures.refused h;
-      cause = c.serve_consoles.ensures.cause;
-      cut = c.serve_consoles.ensures.part;
-      stopped = c.serve_consoles.ensures.stopped;
-      lost = c.serve_consoles.ensures.lost;
-      silent = c.serve_consoles.ensures.silent;
-      spent = c.serve_consoles.ensures.spent;
+      answers = c.serve_consoles.ensures.answers;
       unlinked = λ h. absurd (let wrong : true ≡ false = h in cc);
     }))
 

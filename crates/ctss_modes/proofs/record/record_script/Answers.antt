@@ -5,7 +5,6 @@ use Rattle.image_map.specs.State.{DrumState}
 use Rattle.image_map.specs.Image.{state}
 use Rattle.track_directories.specs.Tables.{disk_of, shown}
 use Rattle.user_cores.specs.Backing.{back_of}
-use Rattle.user_cores.specs.Usable.{cores_in}
 use Rattle.supervisor.specs.Whole.{whole_of}
 use Rattle.live_run.specs.Finishes.{IfDone}
 use Rattle.live_run.specs.Media.{media_seen}
@@ -29,7 +28,7 @@ pub returns-clause-played : goal.returns-clause-played
 returns-clause-played g c =
     let run = c.run_script-supervisor.result in
     let was = media_seen g.D.Medium g.F.Medium c.args.drum.now c.args.disk.now in
-    let s = whole_of run.supervisor (back_of (cores_in (state run.behind.cores)) (shown g.F.Medium run.behind.files)) in
+    let s = whole_of run.supervisor (back_of (state run.behind.cores) (shown g.F.Medium run.behind.files)) in
     let last = c.finish-played.new.cores in
     let did = c.finish-played.ensures in
     let ends = c.into_parts-cores.ensures in
@@ -37,7 +36,7 @@ returns-clause-played g c =
     let disk = c.back-2.ensures.same ∙ ap (λ d. (disk_of d).ghost_name) ends.files ∙ did.keeps.1 ∙ c.run_script-supervisor.ensures.disk in
     both_ok c.finish-played.result _ _ _
     (λ p f lie.
-    played c.args.script.now was s _ run.ended c.run_script-supervisor.ensures.ran (back_of (cores_in (state last.cores)) (shown g.F.Medium last.files)) did.calls did.faults
+    played c.args.script.now was s _ run.ended c.run_script-supervisor.ensures.ran (back_of (state last.cores) (shown g.F.Medium last.files)) did.calls did.faults
     (sym (ap (λ i. (state i).drum.calls) ends.cores) ∙ search (rules, drum))
     (sym (ap (λ i. (state i).drum.faults) ends.cores) ∙ search (rules, drum))
     (sym (ap (λ d. g.F.Medium.faults (disk_of d).now) ends.files) ∙ search (rules, disk))
@@ -49,7 +48,7 @@ pub returns-clause-spent : goal.returns-clause-spent
 returns-clause-spent g c =
     let run = c.run_script-supervisor.result in
     let was = media_seen g.D.Medium g.F.Medium c.args.drum.now c.args.disk.now in
-    let s = whole_of run.supervisor (back_of (cores_in (state run.behind.cores)) (shown g.F.Medium run.behind.files)) in
+    let s = whole_of run.supervisor (back_of (state run.behind.cores) (shown g.F.Medium run.behind.files)) in
     let last = c.finish-played.new.cores in
     let did = c.finish-played.ensures in
     let ends = c.into_parts-cores.ensures in

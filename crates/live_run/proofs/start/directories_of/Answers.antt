@@ -12,7 +12,7 @@ pub add_files-wrote-requires-clause-first : goal.add_files-wrote-requires-clause
 add_files-wrote-requires-clause-first g c =
     let script = c.args.script.now in
     subst (λ (files : List OwnedFile). AreFirst files (shown g.F.Medium c.over-files.result)) (sym c.as_slice.ensures)
-    (can_be_first script c.requires.lawful.range (tells_of (g.F.Medium.contents c.args.disk.now)) (g.F.Medium.faults c.args.disk.now) c.args.empty.quotas c.requires.quotas (shown g.F.Medium c.over-files.result) c.over-files.ensures.none)
+    (can_be_first script c.requires.lawful.range (tells_of (g.F.Medium.contents c.args.disk.now)) (g.F.Medium.faults c.args.disk.now) c.args.empty.quotas c.requires.empty.quotas (shown g.F.Medium c.over-files.result) c.over-files.ensures.none)
 
 pub returns-clause-first : goal.returns-clause-first
 returns-clause-first g c =
@@ -23,4 +23,4 @@ returns-clause-first g c =
     let adds : Adds script.files c.add_files-wrote.result old new = subst (λ (files : List OwnedFile). Adds files c.add_files-wrote.result old new) c.as_slice.ensures c.add_files-wrote.ensures.adds in
     on_ok c.add_files-wrote.result (HasFirstFiles script.params.common script.accounts script.files (is_some contents) new)
     (λ is. subst (λ (told : Bool). HasFirstFiles script.params.common script.accounts script.files told new) (told_is_some contents)
-    (first_files script.params.common script.accounts script.files (tells_of contents) (g.F.Medium.faults c.args.disk.now) c.args.empty.quotas c.requires.quotas old c.over-files.ensures.none c.add_files-wrote.result new is adds))
+    (first_files script.params.common script.accounts script.files (tells_of contents) (g.F.Medium.faults c.args.disk.now) c.args.empty.quotas c.requires.empty.quotas old c.over-files.ensures.none c.add_files-wrote.result new is adds))

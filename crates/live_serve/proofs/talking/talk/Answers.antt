@@ -3,7 +3,7 @@ use Rattle.std.specs.Prelude.{OnOk, IfErr}
 use Rattle.console_server.specs.Server.{state}
 use Rattle.console_server.specs.Conversation.{TurnsAreDone, TurnsAreCut}
 use Rattle.live_serve.specs.Talks.{empty_desk}
-use Rattle.live_serve.proofs.Closing.{first_desk, talk_done, talk_cut, talk_sound, talk_ready, talk_cause}
+use Rattle.live_serve.proofs.Closing.{first_desk, talk_done, talk_cut, talk_can, talk_cause}
 use Rattle.live_serve.proofs.talking.talk.Goals as goal
 
 pub returns-clause-done : goal.returns-clause-done
@@ -30,13 +30,9 @@ returns-clause-cut g c =
     (c.turns-ended.ensures.cut empty_desk (first_desk goes see look old c.args.core _ c.new-server.ensures.state)))
     c.turns-ended.ensures.tables.tables.many c.finish-finished.ensures.link c.finish-finished.ensures.core (search rules)
 
-pub returns-clause-sound : goal.returns-clause-sound
-returns-clause-sound g c =
-    talk_sound g.C.LiveCore.Goes g.C.LiveCore.seen g.L.Link.seen g.C.LiveCore.Sound c.turns-ended.result (state c.turns-ended.new.self) _ c.turns-ended.ensures.ready c.finish-finished.ensures.core
-
-pub returns-clause-ready : goal.returns-clause-ready
-returns-clause-ready g c =
-    talk_ready g.C.LiveCore.Goes g.C.LiveCore.seen g.L.Link.seen g.C.LiveCore.Sound c.turns-ended.result (state c.turns-ended.new.self) _ c.turns-ended.ensures.ready c.finish-finished.ensures.core
+pub returns-clause-can : goal.returns-clause-can
+returns-clause-can g c =
+    talk_can g.C.LiveCore.Goes g.C.LiveCore.seen g.L.Link.seen g.C.LiveCore.Sound c.turns-ended.result (state c.turns-ended.new.self) _ c.turns-ended.ensures.ready c.finish-finished.ensures.core
 
 pub returns-clause-cause : goal.returns-clause-cause
 returns-clause-cause g c =

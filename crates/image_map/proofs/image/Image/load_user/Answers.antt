@@ -30,29 +30,29 @@ returns-in-Ok g c =
     let counts = load_counts old.owners old.kept.slots old.sizes.items u n words old.sound old.kept.slots.places some few low (omega arith) in
     record {
       keeps = record {
-        drum = all.same;
-        serves = all.serves;
-        quotas = all.quotas;
+        drum = all.moves.holds.same;
+        serves = all.moves.holds.serves;
+        quotas = all.moves.holds.quotas;
         sizes = search;
-        words = all.words;
+        words = all.moves.holds.words;
         outside = λ q away. all.others q (elim away [ inl below ↦ inl (omega (arith, base)) | inr past ↦ inr (omega (arith, base, size)) ]);
-        faults = all.faults_grow;
+        faults = all.moves.holds.faults_grow;
         writes_are = counts.0;
         reads_are = counts.1;
       };
       done = record {
         going = search;
-        images = c.in-Ok.ensures.images;
+        images = c.in-Ok.ensures.moves.done.images;
         resident = λ b below. c.in-Ok.ensures.resident b (omega (arith, size, below));
         places = c.in-Ok.ensures.places ∙ ap (λ (k : ℕ). loaded places u k) size;
         bases = c.in-Ok.ensures.bases ∙ (λ j. bases_before bases u (stay j) (base j));
-        block_map = c.in-Ok.ensures.block_map ∙ (λ j. load_to quotas (bases_before bases u (stay j) (base j)) (map_before quotas bases before u (stay j)) u (size j));
+        block_map = c.in-Ok.ensures.moves.done.block_map ∙ (λ j. load_to quotas (bases_before bases u (stay j) (base j)) (map_before quotas bases before u (stay j)) u (size j));
         base_is = base;
         moved = c.plan_of-plan.ensures.moved ∙ ap (λ (k : ℕ). is_moved places u k) size;
         dumped = c.plan_of-plan.ensures.dumped ∙ ap (λ (k : ℕ). dumps places u k) size;
         read = c.plan_of-plan.ensures.read ∙ ap (λ (k : ℕ). reads places u k) size;
         fresh = c.plan_of-plan.ensures.fresh ∙ ap (λ (k : ℕ). clears places u k) size;
-        calls = c.in-Ok.ensures.calls
+        calls = c.in-Ok.ensures.moves.done.calls
             ∙ (λ j. with_calls (g.D.Medium.calls old.kept.drum.now) (calls_before quotas bases before u (stay j) ++ calls_to quotas (bases_before bases u (stay j) (base j)) (map_before quotas bases before u (stay j)) u (size j) words));
       };
       fails = tt;
@@ -78,13 +78,13 @@ returns-in-Err g c =
     let counts = load_counts old.owners old.kept.slots old.sizes.items u n words old.sound old.kept.slots.places some few low (omega arith) in
     record {
       keeps = record {
-        drum = all.same;
-        serves = all.serves;
-        quotas = all.quotas;
+        drum = all.moves.holds.same;
+        serves = all.moves.holds.serves;
+        quotas = all.moves.holds.quotas;
         sizes = search;
-        words = all.words;
+        words = all.moves.holds.words;
         outside = λ q away. all.others q (elim away [ inl below ↦ inl (omega (arith, base)) | inr past ↦ inr (omega (arith, base, size)) ]);
-        faults = all.faults_grow;
+        faults = all.moves.holds.faults_grow;
         writes_are = counts.0;
         reads_are = counts.1;
       };
@@ -92,12 +92,20 @@ returns-in-Err g c =
       fails = record {
         lost = refl;
         calls = subst (λ (cs : List Call). FailedIn (g.D.Medium.calls old.kept.drum.now) (g.D.Medium.calls c.bring.new.self.tables.kept.drum.now) cs)
-            (λ j. calls_before quotas bases before u (stay j) ++ calls_to quotas (bases_before bases u (stay j) (base j)) (map_before quotas bases before u (stay j)) u (size j) words) c.in-Err.ensures.failed;
-        cause = c.in-Err.ensures.cause;
+            (λ j. calls_before quotas bases before u (stay j) ++ calls_to quotas (bases_before bases u (stay j) (base j)) (map_before quotas bases before u (stay j)) u (size j) words) c.in-Err.ensures.moves.fails.failed;
+        cause = c.in-Err.ensures.moves.fails.cause;
       };
     }
 
-pub bring-requires-clause-stays : goal.bring-requires-clause-stays
-bring-requires-clause-stays g c =
+pub bring-requires-clause-planned : goal.bring-requires-clause-planned
+bring-requires-clause-planned g c =
     let old = c.args.self.now.tables in
-    stay_is old.owners old.kept.slots c.args.user c.index-blocks.result.now c.stays-stay.result c.stays-stay.ensures
+    let size : c.index-blocks.result.now ≡ size_of old.sizes.items c.args.user = grind (arith, common_steps) in
+    record {
+      user_is = c.requires.user;
+      size_is = omega (arith, size);
+      inside = c.plan_of-plan.ensures.inside;
+      room = c.plan_of-plan.ensures.room;
+      stays = stay_is old.owners old.kept.slots c.args.user c.index-blocks.result.now c.stays-stay.result c.stays-stay.ensures;
+      starts = c.plan_of-plan.ensures.base;
+    }

@@ -1,23 +1,12 @@
-use Rattle.std.proofs.Common.{◌≡◌, ℕ, ◌≤◌}
-use Rattle.drum_slots.specs.Kept.{Serves}
-use Rattle.drum_slots.specs.Table.{records_of}
-use Rattle.image_map.specs.Images.{image_in}
-use Rattle.image_map.specs.Loads.{block_map_of, put_to, put_calls_to, with_calls}
+use Rattle.std.proofs.Common.{◌≡◌}
+use Rattle.image_map.specs.Image.{state}
+use Rattle.image_map.specs.Moves.{puts_below, Holds, AreMoved}
 use Rattle.image_map.proofs.image.Image.put_out.Given as goal
 
 abbrev pub invariant-putting : goal.invariant-putting
 invariant-putting g l = record {
-  same : l.self.tables.kept.drum.ghost_name ≡ l.fn.self.tables.kept.drum.ghost_name;
-  serves : Serves (g.D.Medium.contents l.self.tables.kept.drum.now) (g.D.Medium.record_count l.self.tables.kept.drum.now) (g.D.Medium.words_each l.self.tables.kept.drum.now) (records_of l.self.tables.kept.slots);
-  quotas : l.self.tables.kept.slots.quotas ≡ l.fn.self.tables.kept.slots.quotas;
-  sizes : l.self.tables.sizes ≡ l.fn.self.tables.sizes;
-  usable : l.self.failed ≡ l.fn.self.failed;
+  holds : Holds l.fn.self l.self;
+  moved : AreMoved (puts_below (state l.fn.self) l.fn.user l.place) l.fn.self l.self;
   bank : l.self.bank ≡ l.fn.self.bank;
   bases : l.self.tables.owners.bases ≡ l.fn.self.tables.owners.bases;
-  block_map : block_map_of l.self.tables.owners.owners l.self.tables.kept.slots ≡ put_to l.fn.self.tables.kept.slots.quotas.items l.fn.self.tables.owners.bases (block_map_of l.fn.self.tables.owners.owners l.fn.self.tables.kept.slots) l.fn.user l.place;
-  images : (u : ℕ) → 1 ≤ u → image_in l.self.bank (g.D.Medium.contents l.self.tables.kept.drum.now) l.self.tables.owners l.self.tables.kept.slots l.self.tables.sizes.items u
-      ≡ image_in l.fn.self.bank (g.D.Medium.contents l.fn.self.tables.kept.drum.now) l.fn.self.tables.owners l.fn.self.tables.kept.slots l.fn.self.tables.sizes.items u;
-  calls : g.D.Medium.calls l.self.tables.kept.drum.now ≡ with_calls (g.D.Medium.calls l.fn.self.tables.kept.drum.now)
-      (put_calls_to l.fn.self.tables.kept.slots.quotas.items l.fn.self.tables.owners.bases (block_map_of l.fn.self.tables.owners.owners l.fn.self.tables.kept.slots) l.fn.user l.place);
-  faults_grow : g.D.Medium.faults l.fn.self.tables.kept.drum.now ≤ g.D.Medium.faults l.self.tables.kept.drum.now;
 }

@@ -19,6 +19,8 @@ returns c =
       quotas = quotas;
       words = c.in_ok-new-3.ensures.words;
       sizes = c.in_ok-no_sizes.ensures ∙ ap (λ (n : ℕ). replicate n 0) (let a = ap (λ xs. length xs) accounts in omega (arith, many, a));
-      tracks = c.in_ok-new-4.ensures.tracks;
-      directories = c.in_ok-new-4.ensures.quotas ∙ ap (λ (all : List Account). c.args.script.now.params.common ∷ map (λ (a : Account). a.tracks) all) accounts;
+      directories = record {
+        tracks = c.in_ok-new-4.ensures.tracks;
+        quotas = c.in_ok-new-4.ensures.quotas ∙ ap (λ (all : List Account). c.args.script.now.params.common ∷ map (λ (a : Account). a.tracks) all) accounts;
+      };
     }

@@ -2,7 +2,7 @@ use Rattle.std.proofs.Common.{◌<◌, ℕ, List, length, map, sym, ap, subst, a
 use Rattle.image_map.specs.Image.{state}
 use Rattle.track_directories.specs.Tables.{shown, Sound}
 use Rattle.user_cores.specs.Backing.{back_of}
-use Rattle.user_cores.specs.Usable.{cores_in, IsWhole}
+use Rattle.user_cores.specs.Usable.{IsWhole}
 use Rattle.ctss_types.specs.declared.history.Entry.{Entry}
 use Rattle.system_model.specs.Run.{measure}
 use Rattle.supervisor.specs.Whole.{Whole, whole_of}
@@ -14,7 +14,7 @@ use Rattle.run_picture.proofs.core_maps.watch.watch.Goals as goal
 pub steps-init : goal.steps-init
 steps-init g c =
     let script = c.args.script.now in
-    let start : Whole = whole_of c.args.supervisor.now (back_of (cores_in (state c.args.behind.cores)) (shown g.F.Medium c.args.behind.files)) in
+    let start : Whole = whole_of c.args.supervisor.now (back_of (state c.args.behind.cores) (shown g.F.Medium c.args.behind.files)) in
     record {
       usable = c.requires.usable;
       way = subst (λ (maps : List (List ℕ)). IsOnTheWay script (map owner_in maps) start) (sym c.new-maps.ensures)
@@ -33,20 +33,20 @@ go_once-requires-clause-tells g c = c.steps.invariant.way.tells
 pub steps-smaller : goal.steps-smaller
 steps-smaller g c =
     let end = c.args.script.now.end in
-    let old : Whole = whole_of c.steps.supervisor (back_of (cores_in (state c.steps.behind.cores)) (shown g.F.Medium c.steps.behind.files)) in
+    let old : Whole = whole_of c.steps.supervisor (back_of (state c.steps.behind.cores) (shown g.F.Medium c.steps.behind.files)) in
     let there = c.go_once.new.behind in
-    let new : Whole = whole_of c.go_once.new.supervisor (back_of (cores_in (state there.cores)) (shown g.F.Medium there.files)) in
+    let new : Whole = whole_of c.go_once.new.supervisor (back_of (state there.cores) (shown g.F.Medium there.files)) in
     subst
-    (λ b. measure end (run_over (whole_of c.go_once.new.supervisor (back_of (cores_in (state b.cores)) (shown g.F.Medium b.files)))) < measure end (run_over old))
+    (λ b. measure end (run_over (whole_of c.go_once.new.supervisor (back_of (state b.cores) (shown g.F.Medium b.files)))) < measure end (run_over old))
     (sym c.in_ok-behind.ensures.same)
     (falls end old new (omega (arith, c.clock.ensures, c.steps-test.true)) c.in-Ok.ensures.steps)
 
 pub steps-preserved : goal.steps-preserved
 steps-preserved g c =
     let script = c.args.script.now in
-    let old : Whole = whole_of c.steps.supervisor (back_of (cores_in (state c.steps.behind.cores)) (shown g.F.Medium c.steps.behind.files)) in
+    let old : Whole = whole_of c.steps.supervisor (back_of (state c.steps.behind.cores) (shown g.F.Medium c.steps.behind.files)) in
     let there = c.go_once.new.behind in
-    let new : Whole = whole_of c.go_once.new.supervisor (back_of (cores_in (state there.cores)) (shown g.F.Medium there.files)) in
+    let new : Whole = whole_of c.go_once.new.supervisor (back_of (state there.cores) (shown g.F.Medium there.files)) in
     let same = sym c.in_ok-behind.ensures.same in
     record {
       usable = subst (λ b. IsWhole (state b.cores) × Sound g.F.Medium b.files) same c.in-Ok.ensures.usable;
@@ -54,7 +54,7 @@ steps-preserved g c =
           subst
           (λ b.
           IsOnTheWay script (map owner_in c.note_step.new.maps)
-          (whole_of c.go_once.new.supervisor (back_of (cores_in (state b.cores)) (shown g.F.Medium b.files))))
+          (whole_of c.go_once.new.supervisor (back_of (state b.cores) (shown g.F.Medium b.files))))
           same
           (goes_on script (map owner_in c.steps.maps) (map owner_in c.note_step.new.maps) (length c.entries-before.result.now) old new
           (omega (arith, c.clock.ensures, c.steps-test.true)) c.steps.invariant.way c.in-Ok.ensures.steps

@@ -5,7 +5,7 @@ use Rattle.user_cores.specs.Backing.{Held}
 use Rattle.supervisor.specs.Seen.{seen}
 use Rattle.ctss_types.specs.declared.session.Waiting.{Waiting}
 use Rattle.time_sharing.specs.System.{Service}
-use Rattle.plan_model.specs.Levels.{chosen, since_in}
+use Rattle.plan_model.specs.Levels.{chosen, user_of, since_in}
 use Rattle.plan_model.specs.Loads.{is_loaded}
 use Rattle.image_map.specs.Images.{size_of}
 use Rattle.system_model.proofs.SoundLaws.{first_user}
@@ -15,11 +15,18 @@ use Rattle.supervisor.proofs.Doing.{go_begin, go_same, load_fails}
 use Rattle.supervisor.proofs.Serving.{ends_map}
 use Rattle.supervisor.proofs.state.State.go_on.Goals as goal
 
-pub attend-requires-clause-user : goal.attend-requires-clause-user
-attend-requires-clause-user g c =
+pub attend-requires-clause-serves : goal.attend-requires-clause-serves
+attend-requires-clause-serves g c =
     let had : Held = (g.C.Backing.state c.args.cores.now).held in
     let old : Run = seen had.places c.args.self.now in
-    first_user old c.in-Some-None.next.level _ c.requires.held.sound c.in-Some-None.ensures.some
+    let early = c.requires.time.early in
+    let most = c.requires.time.most in
+    record {
+      user = first_user old c.in-Some-None.next.level _ c.requires.going.held.sound c.in-Some-None.ensures.some;
+      chosen_is = ap user_of c.in-Some-None.ensures.some;
+      ran = omega arith;
+      in_time = omega (arith, early, most);
+    }
 
 pub returns-in-Some-None-clause-ended : goal.returns-in-Some-None-clause-ended
 returns-in-Some-None-clause-ended g c =
@@ -35,8 +42,8 @@ returns-in-Some-None-clause-ended g c =
     (λ f. (
       f.0,
       f.1,
-      load_fails c.in-Some-None.next.level x old had (g.C.Backing.state c.args.cores.now).calls (g.C.Backing.state c.attend.new.cores).calls c.in-Some-None.ensures.some (λ w h. let both = sym none ∙ h in cc) c.requires.held.tied
-          (first_user old c.in-Some-None.next.level x c.requires.held.sound c.in-Some-None.ensures.some)
+      load_fails c.in-Some-None.next.level x old had (g.C.Backing.state c.args.cores.now).calls (g.C.Backing.state c.attend.new.cores).calls c.in-Some-None.ensures.some (λ w h. let both = sym none ∙ h in cc) c.requires.going.held.tied
+          (first_user old c.in-Some-None.next.level x c.requires.going.held.sound c.in-Some-None.ensures.some)
           f.2.0 f.2.1,
     ))
     (λ h. h)
@@ -59,7 +66,7 @@ returns-then-eq-clause-ended g c =
       f.1,
       load_fails c.in-Some-Some.next.level x old had (g.C.Backing.state c.args.cores.now).calls (g.C.Backing.state c.attend-then-eq.new.cores).calls c.in-Some-Some.ensures.some
           (λ w h. let both = sym h ∙ some in let e : w ≡ v = cc in ap (λ (s : Service). s.user) e ∙ same)
-          c.requires.held.tied (first_user old c.in-Some-Some.next.level x c.requires.held.sound c.in-Some-Some.ensures.some)
+          c.requires.going.held.tied (first_user old c.in-Some-Some.next.level x c.requires.going.held.sound c.in-Some-Some.ensures.some)
           (subst (λ (k : ℕ). is_loaded had.places k (size_of had.sizes k) ≡ false) same f.2.0)
           (subst (λ (k : ℕ). IsCutOff (g.C.Backing.state c.args.cores.now).calls (g.C.Backing.state c.attend-then-eq.new.cores).calls (calls_to_load k old)) same f.2.1),
     ))

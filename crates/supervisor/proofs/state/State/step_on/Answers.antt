@@ -1,4 +1,4 @@
-use Rattle.std.proofs.Common.{rules, ◌≡◌, None}
+use Rattle.std.proofs.Common.{rules, ◌≡◌, None, arith}
 use Rattle.system_model.specs.Run.{Run, rising}
 use Rattle.user_cores.specs.Backing.{Held}
 use Rattle.supervisor.specs.Seen.{seen}
@@ -18,8 +18,17 @@ returns-clause-ended g c =
     (λ h. h)
     c.go_on.ensures.ended
 
-pub serve-requires-clause-chosen : goal.serve-requires-clause-chosen
-serve-requires-clause-chosen g c = (c.requires.ready c.if-ready.true).first c.in-Some.v c.in-Some.is
+pub serve-requires-clause-serves : goal.serve-requires-clause-serves
+serve-requires-clause-serves g c =
+    let sound = c.requires.going.held.sound in
+    let early = c.requires.time.early in
+    let most = c.requires.time.most in
+    record {
+      user = sound.served c.in-Some.v c.in-Some.is;
+      chosen_is = (c.requires.ready c.if-ready.true).first c.in-Some.v c.in-Some.is;
+      ran = sound.ran c.in-Some.v c.in-Some.is;
+      in_time = omega (arith, early, most);
+    }
 
 pub serve-requires-clause-loaded : goal.serve-requires-clause-loaded
 serve-requires-clause-loaded g c = (c.requires.ready c.if-ready.true).loaded c.in-Some.v c.in-Some.is

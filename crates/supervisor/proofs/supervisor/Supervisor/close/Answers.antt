@@ -2,7 +2,7 @@ use Rattle.std.proofs.Common.{◌≡◌, ℕ, List, length, sym, ap, ◌∙◌}
 use Rattle.ctss_types.specs.declared.file.FileBody.{FileBody}
 use Rattle.plan_model.specs.Loads.{Places}
 use Rattle.user_model.specs.Inner.{Stored}
-use Rattle.directories.specs.Directories.{lists_from}
+use Rattle.track_directories.specs.Directories.{lists_from}
 use Rattle.system_model.specs.Run.{Run}
 use Rattle.system_model.specs.Cases.{closed}
 use Rattle.system_model.proofs.CaseLaws.{closes}

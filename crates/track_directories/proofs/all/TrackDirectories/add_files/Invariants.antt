@@ -1,5 +1,5 @@
 use Rattle.std.proofs.Common.{◌≡◌, ◌≤◌, ℕ, take}
-use Rattle.directories.specs.Directories.{KeepsUsers}
+use Rattle.track_directories.specs.Directories.{KeepsUsers}
 use Rattle.file_map.specs.Known.{known}
 use Rattle.file_model.specs.Owned.{files_of}
 use Rattle.track_directories.specs.Tables.{shown, Sound}

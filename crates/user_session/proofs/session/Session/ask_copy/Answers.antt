@@ -17,4 +17,4 @@ returns-in_ok-say-in-Err-Refused-clause-row g c =
     let told = c.in-Err-Refused.ensures.answer in
     let none : got c.args.name told.0 ≡ Err c.in-Err-Refused.refusal = refused_told {T = List ℕ} c.in-Err-Refused.field-0 c.in-Err-Refused.refusal (got c.args.name told.0) c.in-Err-Refused.field-0-is told.1.1 in
     over_read _ core core (g.P.FilePort.files c.args.files.now) _ _ (c.in-Err-Refused.ensures.left (λ e. (let k = c.in-Err-Refused.field-0-is in cc)))
-    (told.0, told.1.0, rw none (refl, search rules, recut_same _ _ c.requires.size, refl, refl, refl, refl))
+    (told.0, told.1.0, rw none (refl, search rules, recut_same _ _ c.requires.can.size, refl, refl, refl, refl))

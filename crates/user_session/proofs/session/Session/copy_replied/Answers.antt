@@ -12,10 +12,10 @@ returns-in-Words-clause-row g c = λ fs are.
     Copies c.args.line target c.in-Words.words s.ending s.clock c.args.now c.args.self.now c.put_copy.new.self (stored core fs) (stored core has)))) c.copy_target.ensures (c.put_copy.ensures.row fs are))
 
 pub returns-in_ok-say-in-Refused-clause-row : goal.returns-in_ok-say-in-Refused-clause-row
-returns-in_ok-say-in-Refused-clause-row g c = λ fs are. (fs, are, rw c.in-Refused.is (refl, search rules, recut_same _ _ c.requires.size, refl, refl, refl, refl))
+returns-in_ok-say-in-Refused-clause-row g c = λ fs are. (fs, are, rw c.in-Refused.is (refl, search rules, recut_same _ _ c.requires.can.size, refl, refl, refl, refl))
 
 pub returns-in_ok-say-in-Done-clause-row : goal.returns-in_ok-say-in-Done-clause-row
-returns-in_ok-say-in-Done-clause-row g c = λ fs are. (fs, are, rw c.in-Done.is (refl, search rules, recut_same _ _ c.requires.size, refl, refl, refl, refl))
+returns-in_ok-say-in-Done-clause-row g c = λ fs are. (fs, are, rw c.in-Done.is (refl, search rules, recut_same _ _ c.requires.can.size, refl, refl, refl, refl))
 
 pub returns-in_ok-say-in-Size-clause-row : goal.returns-in_ok-say-in-Size-clause-row
-returns-in_ok-say-in-Size-clause-row g c = λ fs are. (fs, are, rw c.in-Size.is (refl, search rules, recut_same _ _ c.requires.size, refl, refl, refl, refl))
+returns-in_ok-say-in-Size-clause-row g c = λ fs are. (fs, are, rw c.in-Size.is (refl, search rules, recut_same _ _ c.requires.can.size, refl, refl, refl, refl))

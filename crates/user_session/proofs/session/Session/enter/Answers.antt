@@ -8,26 +8,30 @@ pub returns-then-is_get_time-clause-turn : goal.returns-then-is_get_time-clause-
 returns-then-is_get_time-clause-turn g c =
     let core = g.M.MemoryPort.words c.args.core.now in
     let call : call_of c.args.self.now.inner.regs core c.args.name ≡ Ok GetTime = c.is_get_time.ensures c.if-is_get_time.true c.args.self.now.inner.regs core in
-    let are = g.met.P.FilePort.is_known c.args.files.now c.requires.port in
-    over_these _ _ _ _ are are (entered _ c.args.now c.args.self.now _ _ _ c.args.name (Ok GetTime) c.requires.works c.requires.filled c.requires.unbroken c.requires.at c.requires.on call (c.tell_time.ensures.row (g.P.FilePort.files c.args.files.now)))
+    let are = g.met.P.FilePort.is_known c.args.files.now c.requires.own.usable in
+    over_these _ _ _ _ are are (entered _ c.args.now c.args.self.now _ _ _ c.args.name (Ok GetTime) c.requires.ready.works c.requires.ready.filled c.requires.ready.unbroken c.requires.at c.requires.ready.on call (c.tell_time.ensures.row (g.P.FilePort.files c.args.files.now)))
 
-pub returns-then-is_get_time-clause-keeps : goal.returns-then-is_get_time-clause-keeps
-returns-then-is_get_time-clause-keeps g c = g.met.M.MemoryPort.stays _
-
-pub returns-then-is_get_time-clause-uses : goal.returns-then-is_get_time-clause-uses
-returns-then-is_get_time-clause-uses g c =
-    record { left = λ e. refl; telling = λ n. refl; usable = λ n. c.requires.port; keeps = g.met.P.FilePort.stays _; cause = λ e. cc }
+pub returns-then-is_get_time-clause-leaves : goal.returns-then-is_get_time-clause-leaves
+returns-then-is_get_time-clause-leaves g c = record {
+  account = c.tell_time.ensures.account;
+  err = tt;
+  err_core = tt;
+  keeps = g.met.M.MemoryPort.stays _;
+  uses = record { left = λ e. refl; telling = λ n. refl; usable = λ n. c.requires.own.usable; keeps = g.met.P.FilePort.stays _; cause = λ e. cc };
+}
 
 pub returns-then-is_get_memory-clause-turn : goal.returns-then-is_get_memory-clause-turn
 returns-then-is_get_memory-clause-turn g c =
     let core = g.M.MemoryPort.words c.args.core.now in
     let call : call_of c.args.self.now.inner.regs core c.args.name ≡ Ok GetMemory = c.is_get_memory.ensures c.if-is_get_memory.true c.args.self.now.inner.regs core in
-    let are = g.met.P.FilePort.is_known c.args.files.now c.requires.port in
-    over_these _ _ _ _ are are (entered _ c.args.now c.args.self.now _ _ _ c.args.name (Ok GetMemory) c.requires.works c.requires.filled c.requires.unbroken c.requires.at c.requires.on call (c.tell_memory.ensures.row (g.P.FilePort.files c.args.files.now)))
+    let are = g.met.P.FilePort.is_known c.args.files.now c.requires.own.usable in
+    over_these _ _ _ _ are are (entered _ c.args.now c.args.self.now _ _ _ c.args.name (Ok GetMemory) c.requires.ready.works c.requires.ready.filled c.requires.ready.unbroken c.requires.at c.requires.ready.on call (c.tell_memory.ensures.row (g.P.FilePort.files c.args.files.now)))
 
-pub returns-then-is_get_memory-clause-keeps : goal.returns-then-is_get_memory-clause-keeps
-returns-then-is_get_memory-clause-keeps g c = g.met.M.MemoryPort.stays _
-
-pub returns-then-is_get_memory-clause-uses : goal.returns-then-is_get_memory-clause-uses
-returns-then-is_get_memory-clause-uses g c =
-    record { left = λ e. refl; telling = λ n. refl; usable = λ n. c.requires.port; keeps = g.met.P.FilePort.stays _; cause = λ e. cc }
+pub returns-then-is_get_memory-clause-leaves : goal.returns-then-is_get_memory-clause-leaves
+returns-then-is_get_memory-clause-leaves g c = record {
+  account = c.tell_memory.ensures.account;
+  err = tt;
+  err_core = tt;
+  keeps = g.met.M.MemoryPort.stays _;
+  uses = record { left = λ e. refl; telling = λ n. refl; usable = λ n. c.requires.own.usable; keeps = g.met.P.FilePort.stays _; cause = λ e. cc };
+}

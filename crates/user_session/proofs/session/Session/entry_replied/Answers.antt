@@ -26,7 +26,7 @@ returns-clause-step g c = λ op fs asks.
     let row = subst (λ (ws : List ℕ). CallTook c.in-Ok.call c.args.reply.now c.call_replied-step.result.ending c.call_replied-step.result.clock c.args.self.now c.call_replied-step.new.self (stored ws fs) (stored (g.M.MemoryPort.words c.call_replied-step.new.core) fs)) c.in-Entry.ensures.stays.1 (c.call_replied-step.ensures.row fs) in
     subst (λ (q : User). IsReplied c.call_replied-step.result op c.args.reply.now c.args.now c.args.self.now q (stored core fs) (stored (g.M.MemoryPort.words c.call_replied-step.new.core) fs)) (sym c.mark.ensures)
     (entry_took c.args.now c.args.reply.now c.args.self.now c.call_replied-step.new.self (stored core fs) (stored (g.M.MemoryPort.words c.call_replied-step.new.core) fs) c.in-Entry.name (Ok c.in-Ok.call) op c.call_replied-step.result
-    c.requires.works c.requires.filled c.requires.unbroken found call c.requires.on (makes, row))
+    c.requires.ready.works c.requires.ready.filled c.requires.ready.unbroken found call c.requires.ready.on (makes, row))
 
 pub returns-clause-keeps : goal.returns-clause-keeps
 returns-clause-keeps g c = g.met.M.MemoryPort.goes_on _ _ _ c.in-Entry.ensures.keeps c.call_replied-step.ensures.keeps

@@ -11,5 +11,5 @@ returns-clause-turn g c =
       told.0,
       told.1,
       fill_turn c.args.now c.args.self.now _ _ _ c.args.with _ _ c.requires.works c.requires.waits c.requires.on
-          (refl, told.2.user, recut_same _ _ (g.met.M.MemoryPort.same_size _ _ c.in_ok-store.ensures.keeps ∙ c.requires.size) ∙ told.2.core, refl, refl, refl, tt),
+          (refl, told.2.user, recut_same _ _ (g.met.M.MemoryPort.same_size _ _ c.in_ok-store.ensures.core.keeps ∙ c.requires.can.size) ∙ told.2.core, refl, refl, refl, tt),
     )

@@ -13,4 +13,4 @@ pub returns-in_ok-say-in-Err-clause-row : goal.returns-in_ok-say-in-Err-clause-r
 returns-in_ok-say-in-Err-clause-row g c =
     let core = g.M.MemoryPort.words c.args.core.now in
     let told = c.in_ok-deck.ensures.answer in
-    over_read _ core core (g.P.FilePort.files c.args.files.now) _ _ (c.in_ok-deck.ensures.reads.files (λ e. cc)) (told.0, told.1, rw (sym told.2 ∙ c.in-Err.is) (refl, search rules, recut_same _ _ c.requires.size, refl, refl, refl, refl))
+    over_read _ core core (g.P.FilePort.files c.args.files.now) _ _ (c.in_ok-deck.ensures.reads.files (λ e. cc)) (told.0, told.1, rw (sym told.2 ∙ c.in-Err.is) (refl, search rules, recut_same _ _ c.requires.can.size, refl, refl, refl, refl))

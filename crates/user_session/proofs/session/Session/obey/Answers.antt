@@ -5,25 +5,25 @@ use Rattle.user_session.proofs.session.Session.obey.Goals as goal
 
 pub returns-in_ok-say_why-in-BadArguments-clause-row : goal.returns-in_ok-say_why-in-BadArguments-clause-row
 returns-in_ok-say_why-in-BadArguments-clause-row g c =
-    let are = g.met.P.FilePort.is_known c.args.files.now c.requires.port in
-    rw c.in-BadArguments.is (over_these _ _ _ _ are are (refl, c.in_ok-say_why-in-BadArguments.ensures.ok, recut_same _ _ c.requires.size, refl, refl, refl, refl))
+    let are = g.met.P.FilePort.is_known c.args.files.now c.requires.own.usable in
+    rw c.in-BadArguments.is (over_these _ _ _ _ are are (refl, c.in_ok-say_why-in-BadArguments.ensures.ok, recut_same _ _ c.requires.can.size, refl, refl, refl, refl))
 
 pub returns-in_ok-start-in-Start-clause-row : goal.returns-in_ok-start-in-Start-clause-row
 returns-in_ok-start-in-Start-clause-row g c =
-    let are = g.met.P.FilePort.is_known c.args.files.now c.requires.port in
+    let are = g.met.P.FilePort.is_known c.args.files.now c.requires.own.usable in
     rw c.in-Start.is (over_these _ _ _ _ are are (c.in_ok-start-in-Start.ensures.row (g.P.FilePort.files c.args.files.now)))
 
 pub returns-in_ok-tell_registers-in-Registers-clause-row : goal.returns-in_ok-tell_registers-in-Registers-clause-row
 returns-in_ok-tell_registers-in-Registers-clause-row g c =
-    let are = g.met.P.FilePort.is_known c.args.files.now c.requires.port in
+    let are = g.met.P.FilePort.is_known c.args.files.now c.requires.own.usable in
     rw c.in-Registers.is (over_these _ _ _ _ are are (c.in_ok-tell_registers-in-Registers.ensures.row (g.P.FilePort.files c.args.files.now)))
 
 pub returns-in_ok-tell_word-in-WordAt-clause-row : goal.returns-in_ok-tell_word-in-WordAt-clause-row
 returns-in_ok-tell_word-in-WordAt-clause-row g c =
-    let are = g.met.P.FilePort.is_known c.args.files.now c.requires.port in
+    let are = g.met.P.FilePort.is_known c.args.files.now c.requires.own.usable in
     rw c.in-WordAt.is (over_these _ _ _ _ are are (c.in_ok-tell_word-in-WordAt.ensures.row (g.P.FilePort.files c.args.files.now)))
 
 pub returns-in_ok-open_debugger-in-Debug-clause-row : goal.returns-in_ok-open_debugger-in-Debug-clause-row
 returns-in_ok-open_debugger-in-Debug-clause-row g c =
-    let are = g.met.P.FilePort.is_known c.args.files.now c.requires.port in
+    let are = g.met.P.FilePort.is_known c.args.files.now c.requires.own.usable in
     rw c.in-Debug.is (over_these _ _ _ _ are are (c.in_ok-open_debugger-in-Debug.ensures.row (g.P.FilePort.files c.args.files.now)))

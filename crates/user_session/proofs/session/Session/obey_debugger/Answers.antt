@@ -22,4 +22,4 @@ returns-in-End-clause-row g c = λ s fs is. rw c.in-End.is (c.end_debugger.ensur
 
 pub returns-in-Bad-clause-row : goal.returns-in-Bad-clause-row
 returns-in-Bad-clause-row g c = λ s fs is.
-    rw c.in-Bad.is (ok_map _ _ c.tell_why.result (λ d h. told_row Bad (bad_line (in_store (stored (g.M.MemoryPort.words c.args.core.now) fs) c.args.self.now).inner) (codes "BAD ARGUMENTS" ∷ []) c.args.line d c.args.self.now _ (g.M.MemoryPort.words c.args.core.now) fs refl h.0 h.1 c.requires.size) c.tell_why.ensures.ok)
+    rw c.in-Bad.is (ok_map _ _ c.tell_why.result (λ d h. told_row Bad (bad_line (in_store (stored (g.M.MemoryPort.words c.args.core.now) fs) c.args.self.now).inner) (codes "BAD ARGUMENTS" ∷ []) c.args.line d c.args.self.now _ (g.M.MemoryPort.words c.args.core.now) fs refl h.0 h.1 c.requires.can.size) c.tell_why.ensures.ok)

@@ -13,4 +13,4 @@ returns-in-Some-clause-row g c = λ fs are.
     (c.put_file.ensures.row fs are)
 
 pub returns-in_ok-say-in-None-clause-row : goal.returns-in_ok-say-in-None-clause-row
-returns-in_ok-say-in-None-clause-row g c = λ fs are. (fs, are, rw c.in-None.is (refl, search rules, recut_same _ _ c.requires.size, refl, refl, refl, refl))
+returns-in_ok-say-in-None-clause-row g c = λ fs are. (fs, are, rw c.in-None.is (refl, search rules, recut_same _ _ c.requires.can.size, refl, refl, refl, refl))

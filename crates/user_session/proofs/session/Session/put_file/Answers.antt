@@ -14,7 +14,7 @@ returns-in-Ok-clause-row g c = λ fs are.
     let told : known_of tells (put c.args.name c.args.words.now quota fs) ≡ Ok (g.P.FilePort.files c.put.new.self) =
     sym (put_known tells c.args.name c.args.words.now quota fs) ∙ ap (λ (gs : List FileBody). known_of tells (put c.args.name c.args.words.now quota gs)) are ∙ c.in-Ok.ensures.left in
     let k = known_done tells (put c.args.name c.args.words.now quota fs) (g.P.FilePort.files c.put.new.self) told in
-    (k.0, k.2, rw (ap (λ (q : ℕ). put c.args.name c.args.words.now q fs) (sym c.requires.quota) ∙ k.1) (refl, search rules, recut_same _ _ c.requires.size, refl, refl, refl, refl))
+    (k.0, k.2, rw (ap (λ (q : ℕ). put c.args.name c.args.words.now q fs) (sym c.requires.own.quota) ∙ k.1) (refl, search rules, recut_same _ _ c.requires.can.size, refl, refl, refl, refl))
 
 pub returns-in-Err-Refused-clause-row : goal.returns-in-Err-Refused-clause-row
 returns-in-Err-Refused-clause-row g c = λ fs are.
@@ -26,6 +26,6 @@ returns-in-Err-Refused-clause-row g c = λ fs are.
     sym (put_known tells c.args.name c.args.words.now quota fs) ∙ ap (λ (gs : List FileBody). known_of tells (put c.args.name c.args.words.now quota gs)) are ∙ ap (known_of tells) change.0 in (
       fs,
       are ∙ sym change.1,
-      rw (ap (λ (q : ℕ). put c.args.name c.args.words.now q fs) (sym c.requires.quota) ∙ known_refused tells (put c.args.name c.args.words.now quota fs) c.in-Err-Refused.refusal told)
-          (refl, search rules, recut_same _ _ c.requires.size, refl, refl, refl, refl),
+      rw (ap (λ (q : ℕ). put c.args.name c.args.words.now q fs) (sym c.requires.own.quota) ∙ known_refused tells (put c.args.name c.args.words.now quota fs) c.in-Err-Refused.refusal told)
+          (refl, search rules, recut_same _ _ c.requires.can.size, refl, refl, refl, refl),
     )

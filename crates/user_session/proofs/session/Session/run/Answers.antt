@@ -4,8 +4,13 @@ use Rattle.user_session.proofs.Enters.{ok_map, over_map, ran_alone, shut_is, unb
 use Rattle.user_session.specs.Stores.{stored}
 use Rattle.user_session.proofs.session.Session.run.Goals as goal
 
-pub go_on-requires-clause-unbroken : goal.go_on-requires-clause-unbroken
-go_on-requires-clause-unbroken g c = unbroken c.args.self.now (shut_is c.args.self.now.inner.debugger (sym c.is_debugged.ensures ∙ c.if-is_debugged.false))
+pub go_on-requires-clause-ready : goal.go_on-requires-clause-ready
+go_on-requires-clause-ready g c = record {
+  on = c.requires.on;
+  works = c.requires.works;
+  filled = c.requires.filled;
+  unbroken = unbroken c.args.self.now (shut_is c.args.self.now.inner.debugger (sym c.is_debugged.ensures ∙ c.if-is_debugged.false));
+}
 
 pub returns-clause-turn : goal.returns-clause-turn
 returns-clause-turn g c =

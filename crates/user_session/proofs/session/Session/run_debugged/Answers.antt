@@ -11,7 +11,7 @@ use Rattle.user_session.proofs.session.Session.run_debugged.Goals as goal
 
 pub returns-then-is_at_break-clause-turn : goal.returns-then-is_at_break-clause-turn
 returns-then-is_at_break-clause-turn g c =
-    let are = g.met.P.FilePort.is_known c.args.files.now c.requires.port in
+    let are = g.met.P.FilePort.is_known c.args.files.now c.requires.own.usable in
     over_these _ _ _ _ are are
     (break_turn c.args.now c.args.self.now _ _ _ _ _ c.requires.works c.requires.filled (sym c.is_at_break.ensures ∙ c.if-is_at_break.true) c.requires.on
     (c.in_ok-broken.ensures.row (g.P.FilePort.files c.args.files.now)))

@@ -15,7 +15,7 @@ returns-clause-row g c =
     let tells = g.P.FilePort.tells c.args.files.now in
     let files = g.P.FilePort.files c.args.files.now in
     let left = g.P.FilePort.files c.put_file.new.files in
-    let are = g.met.P.FilePort.is_known c.args.files.now c.requires.port in
+    let are = g.met.P.FilePort.is_known c.args.files.now c.requires.own.usable in
     let dormant : is_dormant c.args.self.now.inner.state ≡ true = sym c.is_dormant.ensures ∙ c.if-not-is_dormant.false in
     let words : c.deref.result.now ≡ saved c.args.self.now.inner.blocks c.args.self.now.inner.regs core =
     c.deref.ensures.value ∙ c.in_ok-words.ensures ∙ ap (λ (u : User). saved u.inner.blocks u.inner.regs core) c.self.view_is in

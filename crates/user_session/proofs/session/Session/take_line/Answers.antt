@@ -8,7 +8,7 @@ use Rattle.user_session.proofs.session.Session.take_line.Goals as goal
 
 pub returns-in_default-clause-turn : goal.returns-in_default-clause-turn
 returns-in_default-clause-turn g c =
-    let are = g.met.P.FilePort.is_known c.args.files.now c.requires.port in
+    let are = g.met.P.FilePort.is_known c.args.files.now c.requires.own.usable in
     over_these _ _ _ _ are are (record { cannot = command_waits c.args.self.now (stored (g.M.MemoryPort.words c.args.core.now) (g.P.FilePort.files c.args.files.now)) c.requires.works (sym c.in_default.ensures); same = refl; store = refl })
 
 pub returns-in_ok-typed-in-Some-input-clause-turn : goal.returns-in_ok-typed-in-Some-input-clause-turn

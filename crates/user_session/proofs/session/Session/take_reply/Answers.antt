@@ -1,4 +1,4 @@
-use Rattle.std.proofs.Common.{◌≡◌, ◌∙◌, false, [], None, Some, sym, ap}
+use Rattle.std.proofs.Common.{◌≡◌, ◌∙◌, true, false, [], None, Some, sym, ap}
 use Rattle.machine_model.specs.Machine.{step_of}
 use Rattle.user_model.specs.declared.Command.{Command}
 use Rattle.user_model.specs.Commands.{command_asks}
@@ -9,16 +9,12 @@ use Rattle.user_session.specs.Stores.{stored}
 use Rattle.user_session.proofs.Enters.{asks_anywhere, command_took, ok_map}
 use Rattle.user_session.proofs.session.Session.take_reply.Goals as goal
 
-pub entry_replied-requires-clause-on : goal.entry_replied-requires-clause-on
-entry_replied-requires-clause-on g c = asked_on (in_store (stored (g.M.MemoryPort.words c.args.core.now) c.requires.asks.1.had) c.args.self.now) c.requires.asks.1.can
-
-pub entry_replied-requires-clause-filled : goal.entry_replied-requires-clause-filled
-entry_replied-requires-clause-filled g c =
-    (asked_filled (in_store (stored (g.M.MemoryPort.words c.args.core.now) c.requires.asks.1.had) c.args.self.now) c.requires.asks.0 (sym c.works.ensures ∙ c.if-works.true) c.requires.asks.1.makes).0
-
-pub entry_replied-requires-clause-unbroken : goal.entry_replied-requires-clause-unbroken
-entry_replied-requires-clause-unbroken g c =
-    (asked_filled (in_store (stored (g.M.MemoryPort.words c.args.core.now) c.requires.asks.1.had) c.args.self.now) c.requires.asks.0 (sym c.works.ensures ∙ c.if-works.true) c.requires.asks.1.makes).1
+pub entry_replied-requires-clause-ready : goal.entry_replied-requires-clause-ready
+entry_replied-requires-clause-ready g c =
+    let p = in_store (stored (g.M.MemoryPort.words c.args.core.now) c.requires.asks.1.had) c.args.self.now in
+    let works : works_in c.args.self.now.inner.state ≡ true = sym c.works.ensures ∙ c.if-works.true in
+    let asked = asked_filled p c.requires.asks.0 works c.requires.asks.1.makes in
+    record { on = asked_on p c.requires.asks.1.can; works = works; filled = asked.0; unbroken = asked.1 }
 
 pub entry_replied-requires-clause-asks : goal.entry_replied-requires-clause-asks
 entry_replied-requires-clause-asks g c =

@@ -4,8 +4,9 @@ use Rattle.user_session.proofs.Enters.{ok_map, over_map, ran_alone, unbroken}
 use Rattle.user_session.specs.Stores.{stored}
 use Rattle.user_session.proofs.session.Session.work.Goals as goal
 
-pub go_on-requires-clause-unbroken : goal.go_on-requires-clause-unbroken
-go_on-requires-clause-unbroken g c = unbroken c.args.self.now c.requires.work.alone
+pub go_on-requires-clause-ready : goal.go_on-requires-clause-ready
+go_on-requires-clause-ready g c =
+    let at = c.requires.work in record { on = at.on; works = at.works; filled = at.filled; unbroken = unbroken c.args.self.now at.alone }
 
 pub returns-clause-turn : goal.returns-clause-turn
 returns-clause-turn g c =

@@ -1,5 +1,0 @@
-use Rattle.console_laws.proofs.cut_events_are_visits.Goals as goal
-use Rattle.console_laws.proofs.CutVisits.{cut_events_are_visits}
-
-pub returns : goal.returns
-returns c = cut_events_are_visits

@@ -1,5 +1,0 @@
-use Rattle.console_laws.proofs.own_counts.Goals as goal
-use Rattle.console_laws.proofs.OwnCounts.{others_leave_it}
-
-pub returns-clause-others : goal.returns-clause-others
-returns-clause-others c = others_leave_it

@@ -1,3 +1,0 @@
-pub mod Stops
-pub mod Laws
-pub mod VisitLaws

@@ -78,7 +78,7 @@ fn deck_of(alloc: Global, cards: &[Card]) -> Result<Assembly, NoMemory>
 }
 
 /// What cards make as a module's.
-#[tactic(auto, using(link_laws::proofs::Fits::made_fits))]
+#[tactic(auto, using(rule_laws::proofs::Fits::made_fits))]
 fn module_of(alloc: Global, cards: &[Card]) -> Result<Assembly, NoMemory>
     requires few { length cards.now < 2 ^ 32 - 1 }
     ensures { IfOk result (λ a. a ≡ module_assembly (module_made (texts cards.now))) }

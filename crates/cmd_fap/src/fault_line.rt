@@ -4,14 +4,14 @@ ghost use Rattle.user_model.specs.Texts.{fault_text};
 ghost use Rattle.cmd_fap.specs.Assemblies.{line_of_fault};
 
 use arrayvec::ArrayVec;
-use cmd_files::put;
+use cmd_program::put;
 use ctss_types::{LineList, LineText, NoMemory};
 use fap_assemble::CardFault;
 use itoa::Buffer;
 use std::alloc::{AllocError, Global};
 
 /// The number of a card at fault, and of its fault.
-#[tactic(auto, using(cmd_files::proofs::Decimals::decimal_is), unfolding(user_model::specs::Texts::fault_text))]
+#[tactic(auto, using(cmd_program::proofs::Decimals::decimal_is), unfolding(user_model::specs::Texts::fault_text))]
 fn fault_line(fault: &CardFault) -> LineText
     ensures { result ≡ line_of_fault fault.now }
 {

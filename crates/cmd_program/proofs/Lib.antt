@@ -2,3 +2,10 @@ pub mod Stores
 pub mod Heads
 pub mod Digits
 pub mod Links
+pub mod Blanks
+pub mod Decimals
+pub mod Filling
+pub mod Groups
+pub mod Modes
+pub mod Printing
+pub mod Rows

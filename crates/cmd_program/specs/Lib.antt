@@ -1,3 +1,5 @@
 pub mod Loads
 pub mod Links
 pub mod Ports
+pub mod Lines
+pub mod Rows

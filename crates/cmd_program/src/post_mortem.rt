@@ -5,9 +5,9 @@ ghost use Rattle.bcd48.specs.Characters.{is_character};
 ghost use Rattle.word36.specs.Octal.{octal_digits};
 ghost use Rattle.program_model.specs.Saved.{bit, register_lines as lines_of, sign_of, word_line as line_of_word};
 
+use crate::part::put;
 use crate::saved::indexes_of;
 use arrayvec::ArrayVec;
-use cmd_files::put;
 use cpu_regs::{MemoryPort, Regs};
 use ctss_types::LineText;
 

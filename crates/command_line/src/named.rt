@@ -3,8 +3,8 @@ ghost use Rattle.std.specs.Option.{option_map};
 ghost use Rattle.text_model.specs.Words.{mode_by, mode_named, mode_of_words, mode_serving, mode_with};
 ghost use Rattle.command_line.specs.Places.{words_at};
 
-use card_fields::number;
 use text_model::Mode;
+use text_model::fields::number;
 
 /// The largest number that a script is made of.
 const LARGEST_LOAD: u32 = 999_999;

@@ -6,7 +6,7 @@ use Rattle.std.proofs.lemmas.Option.{slice_get-get_or}
 use Rattle.std.proofs.lemmas.List.{append-nil, map-set, length-map, get_or-set_same, get_or-set_other}
 use Rattle.std.proofs.Math.ListN.{get_or-map}
 use Rattle.time_sharing.specs.Machine.{Line, Item, CutKind, Quit, Hang, Spent, End, Ending, Went, Stopped, Resized, Replaced, LoggedOut, CommonOp, Reply}
-use Rattle.time_sharing.specs.System.{Timed, Service, Console, Off, On, Password, Session, Entry, Taken, Login, Refused, Idle, Swap, Rise, Serve, Clock, Common, EventKind, LineTaken, Cause, Stop, kind_of, cause_of, service_after, service_entry, clock_entry, common_entry, consoles_after, without, out_of, at}
+use Rattle.time_sharing.specs.System.{Timed, Service, Console, Off, On, Password, Session, Entry, Taken, Login, Refused, Serve, Common, EventKind, LineTaken, Cause, Stop, kind_of, cause_of, service_after, service_entry, clock_entry, common_entry, consoles_after, without, out_of, at}
 use Rattle.time_sharing.specs.Texts.{refusals}
 use Rattle.user_model.specs.User.{User, typed, opened, cut, can_step, step, ending, asks_clock, asks_common}
 use Rattle.user_model.specs.Session.{nobody}
@@ -76,42 +76,25 @@ refusals-append c (Refused tick console cause ∷ xs) ys = by_test (refusals-app
     by_test more true = ap (λ (ls : List Line). codes "LOGIN REFUSED" ∷ ls) more
     by_test more false = more
 refusals-append c (Taken tick console kind user own ∷ xs) ys = refusals-append c xs ys
-refusals-append c (Login tick console user ∷ xs) ys = refusals-append c xs ys
-refusals-append c (Idle from until ∷ xs) ys = refusals-append c xs ys
-refusals-append c (Swap tick user dumped read fresh ∷ xs) ys = refusals-append c xs ys
-refusals-append c (Rise tick user level ∷ xs) ys = refusals-append c xs ys
-refusals-append c (Serve tick user level ran cause ∷ xs) ys = refusals-append c xs ys
-refusals-append c (Clock answer user ∷ xs) ys = refusals-append c xs ys
 refusals-append c (Common user op reply ∷ xs) ys = refusals-append c xs ys
+refusals-append c (_ ∷ xs) ys = refusals-append c xs ys
 
 pub refused-append : (xs : List Entry) (y : Entry) (ys : List Entry) → refused_by (xs ++ y ∷ ys) ≡ refused_by (y ∷ ys)
 refused-append [] y ys = refl
 refused-append (Refused tick console cause ∷ []) y ys = refl
 refused-append (Refused tick console cause ∷ x ∷ xs) y ys = refused-append (x ∷ xs) y ys
-refused-append (Taken tick console kind user own ∷ xs) y ys = refused-append xs y ys
-refused-append (Login tick console user ∷ xs) y ys = refused-append xs y ys
-refused-append (Idle from until ∷ xs) y ys = refused-append xs y ys
-refused-append (Swap tick user dumped read fresh ∷ xs) y ys = refused-append xs y ys
-refused-append (Rise tick user level ∷ xs) y ys = refused-append xs y ys
-refused-append (Serve tick user level ran cause ∷ xs) y ys = refused-append xs y ys
-refused-append (Clock answer user ∷ xs) y ys = refused-append xs y ys
 refused-append (Common user op reply ∷ xs) y ys = refused-append xs y ys
+refused-append (_ ∷ xs) y ys = refused-append xs y ys
 
 -- it is that of the last entry
 pub refused_last : (es : List Entry) → refusal_in (slice_get es (length es - 1)) ≡ refused_by es
 refused_last [] = refl
 refused_last (Refused tick console cause ∷ []) = refl
-refused_last (Taken tick console kind user own ∷ []) = refl
-refused_last (Login tick console user ∷ []) = refl
-refused_last (Idle from until ∷ []) = refl
-refused_last (Swap tick user dumped read fresh ∷ []) = refl
-refused_last (Rise tick user level ∷ []) = refl
-refused_last (Serve tick user level ran cause ∷ []) = refl
-refused_last (Clock answer user ∷ []) = refl
 refused_last (Common user op reply ∷ []) = refl
 refused_last (x ∷ y ∷ es) =
     let n : length (x ∷ y ∷ es) - 1 ≡ suc (length (y ∷ es) - 1) = omega arith in
     ap (λ (k : ℕ). refusal_in (slice_get (x ∷ y ∷ es) k)) n ∙ refused_last (y ∷ es) ∙ sym (refused-append (x ∷ []) y es)
+refused_last (_ ∷ []) = refl
 
 pub refused_at_end : (es : List Entry) (x : Entry) → 0 < length es → x ≡ get_or es (length es - 1) x → refusal_in (Some x) ≡ refused_by es
 refused_at_end es x some is = ap (λ (e : Entry). refusal_in (Some e)) is ∙ ap refusal_in (sym (slice_get-get_or es (length es - 1) x (omega (arith, some)))) ∙ refused_last es

@@ -17,8 +17,7 @@ use Rattle.time_sharing.proofs.Ending as ending
 use Rattle.user_model.specs.User.{User}
 use Rattle.user_model.specs.Session.{user_rows, nobody}
 use Rattle.plan_model.specs.Plan.{Plan}
-use Rattle.system_model.specs.Round.{round}
-use Rattle.system_model.specs.Run.{Run, State, next, due_of}
+use Rattle.system_model.specs.Run.{world, Run, State, next, due_of}
 use Rattle.system_model.specs.Sound.{Sound}
 use Rattle.system_model.proofs.RunLaws.{ends}
 use Rattle.console_texts.specs.Parts.{Shown, Transcripts, text_of, Fits, Extends, AreLengths, wrote, refusal_lines, said_by}
@@ -28,7 +27,7 @@ use Rattle.console_texts.proofs.Laws.{step_text, text_grown, fit_grown}
 use Rattle.console_texts.proofs.Steps.{next_tells, next_rests}
 
 abbrev W : Run → theory.World User Plan (List FileBody)
-W r = round r.swap r.common r.accounts
+W r = world r
 
 -- what a console newly shows is said by the transcripts
 

@@ -9,8 +9,7 @@ use Rattle.ctss_types.specs.declared.file.FileBody.{FileBody}
 use Rattle.user_model.specs.Session.{user_rows}
 use Rattle.user_model.specs.User.{User}
 use Rattle.plan_model.specs.Plan.{Plan}
-use Rattle.system_model.specs.Round.{round}
-use Rattle.system_model.specs.Run.{Run, next}
+use Rattle.system_model.specs.Run.{world, Run, next}
 use Rattle.console_texts.specs.Parts.{Transcripts}
 
 -- the transcripts of a run's users
@@ -23,17 +22,17 @@ watch r texts = record { system = r.system; texts = texts }
 
 -- the texts after one step
 unfoldable pub texts_next : ℕ → Run → List (List ℕ) → List (List ℕ)
-texts_next limit r texts = texts_after (machine user_rows) (round r.swap r.common r.accounts) 1 r.system (next limit r).system texts
+texts_next limit r texts = texts_after (machine user_rows) (world r) 1 r.system (next limit r).system texts
 
 -- the texts after all steps below the limit
 unfoldable pub texts_to : ℕ → Run → List (List ℕ) → List (List ℕ)
-texts_to limit r texts = (watched_to (machine user_rows) (round r.swap r.common r.accounts) limit (watch r texts)).texts
+texts_to limit r texts = (watched_to (machine user_rows) (world r) limit (watch r texts)).texts
 
 -- a run and its texts after some whole steps
 unfoldable pub AfterShown : ℕ → (old new : Run) → (shown shows : List (List ℕ)) → Type 0
 AfterShown limit old new shown shows =
-    (n : ℕ) × (new ≡ record old { system = whole.iterate (machine user_rows) (round old.swap old.common old.accounts) limit n old.system })
-    × (shows ≡ (repeat (λ (y : Watched User Plan (List FileBody)). whole.clock_is_below (machine user_rows) (round old.swap old.common old.accounts) limit y.system) (next_watched (machine user_rows) (round old.swap old.common old.accounts) limit) n (watch old shown)).texts)
+    (n : ℕ) × (new ≡ record old { system = whole.iterate (machine user_rows) (world old) limit n old.system })
+    × (shows ≡ (repeat (λ (y : Watched User Plan (List FileBody)). whole.clock_is_below (machine user_rows) (world old) limit y.system) (next_watched (machine user_rows) (world old) limit) n (watch old shown)).texts)
 
 -- the console at which the last entry says that a login was refused, or 0
 abbrev pub refused_by : List Entry → ℕ

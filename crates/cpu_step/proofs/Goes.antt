@@ -8,7 +8,7 @@ use Rattle.opcode_table.specs.declared.op.Op.{Op}
 use Rattle.opcode_table.specs.declared.op.Op.TheVariants as op
 use Rattle.opcode_table.specs.declared.op.Class.TheVariants as class
 use Rattle.machine_model.specs.Results.{Goes, Keeps}
-use Rattle.operations.specs.IndexFamilies.{is_count}
+use Rattle.cpu_step.specs.IndexFamilies.{is_count}
 use Rattle.cpu_step.specs.Results.{Stands}
 
 -- the operations of prefixes are the counts

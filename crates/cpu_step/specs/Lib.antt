@@ -1,1 +1,5 @@
 pub mod Results
+pub mod Families
+pub mod LogicFamilies
+pub mod IndexFamilies
+pub mod Does

@@ -1,5 +1,10 @@
-//! One step of the machine.
+//! One step of the machine, and what each instruction does, by groups: loads, stores and fixed-point arithmetic
+//! (`fixed`); logic, shifts and sense indicators (`logic`); index registers, transfers and stops (`index`).
 #![tactic(auto)]
+
+pub mod fixed;
+pub mod index;
+pub mod logic;
 
 ghost use Rattle.std.specs.Prelude.{◌≡◌, ◌≢◌, ◌<◌, ◌≤◌, ◌^◌, ◌%◌, ◌/◌, nat_eq, true, false, IfOk};
 ghost use Rattle.opcode_table.specs.Table.{class_of, kind_of, row_of};
@@ -70,7 +75,7 @@ fn do_prefixed<M: MemoryPort>(regs: &mut Regs, core: &mut M, word: Word) -> Step
     let Some(i) = decode_prefixed(word) else {
         return Stepped::Illegal;
     };
-    as_step(operations::index::apply(regs, core, &i, i.address))
+    as_step(index::apply(regs, core, &i, i.address))
 }
 
 /// Does the instruction that a word without a prefix is. Its row of the table is looked up once. What isn't a
@@ -198,7 +203,7 @@ fn go_prefixed<M: MemoryPort>(regs: &mut Regs, core: &mut M, word: Word) -> bool
     let Some(i) = decode_prefixed(word) else {
         return false;
     };
-    match operations::index::count(regs, core, &i, i.address) {
+    match index::count(regs, core, &i, i.address) {
         OpEnd::Went => true,
         OpEnd::Halt | OpEnd::Outside(_) => false,
     }
@@ -244,18 +249,18 @@ fn go_at<M: MemoryPort>(regs: &mut Regs, core: &mut M, known: &Row, word: Word, 
     ensures ic { regs.new.ic < 2 ^ 15 }
 {
     match known.0 {
-        Op::Cla => operations::fixed::load_or_store(regs, core, &instr_coded(known, word), y),
-        Op::Sto => operations::fixed::load_or_store(regs, core, &instr_coded(known, word), y),
-        Op::Ldq => operations::fixed::load_or_store(regs, core, &instr_coded(known, word), y),
-        Op::Add => operations::fixed::sum(regs, core, &instr_coded(known, word), y),
-        Op::Sub => operations::fixed::sum(regs, core, &instr_coded(known, word), y),
-        Op::Cal => operations::logic::load_or_store(regs, core, &instr_coded(known, word), y),
-        Op::Slw => operations::logic::load_or_store(regs, core, &instr_coded(known, word), y),
-        Op::Ana => operations::logic::combine(regs, core, &instr_coded(known, word), y),
-        Op::Ora => operations::logic::combine(regs, core, &instr_coded(known, word), y),
-        Op::Tra => operations::index::transfer(regs, core, &instr_coded(known, word), y),
-        Op::Tze => operations::index::transfer(regs, core, &instr_coded(known, word), y),
-        Op::Tnz => operations::index::transfer(regs, core, &instr_coded(known, word), y),
+        Op::Cla => fixed::load_or_store(regs, core, &instr_coded(known, word), y),
+        Op::Sto => fixed::load_or_store(regs, core, &instr_coded(known, word), y),
+        Op::Ldq => fixed::load_or_store(regs, core, &instr_coded(known, word), y),
+        Op::Add => fixed::sum(regs, core, &instr_coded(known, word), y),
+        Op::Sub => fixed::sum(regs, core, &instr_coded(known, word), y),
+        Op::Cal => logic::load_or_store(regs, core, &instr_coded(known, word), y),
+        Op::Slw => logic::load_or_store(regs, core, &instr_coded(known, word), y),
+        Op::Ana => logic::combine(regs, core, &instr_coded(known, word), y),
+        Op::Ora => logic::combine(regs, core, &instr_coded(known, word), y),
+        Op::Tra => index::transfer(regs, core, &instr_coded(known, word), y),
+        Op::Tze => index::transfer(regs, core, &instr_coded(known, word), y),
+        Op::Tnz => index::transfer(regs, core, &instr_coded(known, word), y),
         Op::Tia => OpEnd::Halt,
         _ => go_fixed(regs, core, known, word, y),
     }
@@ -275,33 +280,32 @@ fn go_fixed<M: MemoryPort>(regs: &mut Regs, core: &mut M, known: &Row, word: Wor
     ensures ic { regs.new.ic < 2 ^ 15 }
 {
     match known.0 {
-        Op::Cls | Op::Stz | Op::Stq => operations::fixed::load_or_store(
+        Op::Cls | Op::Stz | Op::Stq => fixed::load_or_store(
             regs,
             core,
             &instr_coded(known, word),
             y,
         ),
-        Op::Slq | Op::Sta | Op::Std | Op::Stt | Op::Stl | Op::Stp => operations::fixed::store_part(
+        Op::Slq | Op::Sta | Op::Std | Op::Stt | Op::Stl | Op::Stp => fixed::store_part(
             regs,
             core,
             &instr_coded(known, word),
             y,
         ),
-        Op::Adm | Op::Sbm => operations::fixed::sum(regs, core, &instr_coded(known, word), y),
-        Op::Mpy | Op::Mpr | Op::Dvp => operations::fixed::product(
+        Op::Adm | Op::Sbm => fixed::sum(regs, core, &instr_coded(known, word), y),
+        Op::Mpy | Op::Mpr | Op::Dvp => fixed::product(regs, core, &instr_coded(known, word), y),
+        Op::Cas | Op::Zet | Op::Nzt | Op::Lbt | Op::Pbt | Op::Dct => fixed::test(
             regs,
             core,
             &instr_coded(known, word),
             y,
         ),
-        Op::Cas | Op::Zet | Op::Nzt | Op::Lbt | Op::Pbt | Op::Dct => operations::fixed::test(
+        Op::Xca | Op::Clm | Op::Chs | Op::Ssp | Op::Ssm | Op::Com | Op::Rnd => fixed::change(
             regs,
             core,
             &instr_coded(known, word),
             y,
         ),
-        Op::Xca | Op::Clm | Op::Chs | Op::Ssp | Op::Ssm | Op::Com | Op::Rnd =>
-            operations::fixed::change(regs, core, &instr_coded(known, word), y),
         _ => go_logic(regs, core, known, word, y),
     }
 }
@@ -320,30 +324,29 @@ fn go_logic<M: MemoryPort>(regs: &mut Regs, core: &mut M, known: &Row, word: Wor
     ensures ic { regs.new.ic < 2 ^ 15 }
 {
     match known.0 {
-        Op::Ldi | Op::Sti => operations::logic::load_or_store(
-            regs,
-            core,
-            &instr_coded(known, word),
-            y,
-        ),
-        Op::Acl | Op::Era | Op::Ans | Op::Ors | Op::Las => operations::logic::combine(
+        Op::Ldi | Op::Sti => logic::load_or_store(regs, core, &instr_coded(known, word), y),
+        Op::Acl | Op::Era | Op::Ans | Op::Ors | Op::Las => logic::combine(
             regs,
             core,
             &instr_coded(known, word),
             y,
         ),
         Op::Xcl | Op::Als | Op::Ars | Op::Lls | Op::Lrs | Op::Lgl | Op::Lgr | Op::Rql =>
-            operations::logic::shift(regs, core, &instr_coded(known, word), y),
-        Op::Pai | Op::Pia | Op::Oai | Op::Iia | Op::Ria | Op::Tio | Op::Tif =>
-            operations::logic::indicate(regs, core, &instr_coded(known, word), y),
-        Op::Osi | Op::Iis | Op::Ris | Op::Ont | Op::Oft => operations::logic::indicate_by_word(
+            logic::shift(regs, core, &instr_coded(known, word), y),
+        Op::Pai | Op::Pia | Op::Oai | Op::Iia | Op::Ria | Op::Tio | Op::Tif => logic::indicate(
+            regs,
+            core,
+            &instr_coded(known, word),
+            y,
+        ),
+        Op::Osi | Op::Iis | Op::Ris | Op::Ont | Op::Oft => logic::indicate_by_word(
             regs,
             core,
             &instr_coded(known, word),
             y,
         ),
         Op::Sir | Op::Sil | Op::Rir | Op::Ril | Op::Rnt | Op::Lnt | Op::Rft | Op::Lft =>
-            operations::logic::indicate_by_half(regs, core, &instr_coded(known, word), y),
+            logic::indicate_by_half(regs, core, &instr_coded(known, word), y),
         _ => go_index(regs, core, known, word, y),
     }
 }
@@ -371,12 +374,16 @@ fn go_index<M: MemoryPort>(regs: &mut Regs, core: &mut M, known: &Row, word: Wor
         | Op::Pax
         | Op::Pdx
         | Op::Pac
-        | Op::Pdc => operations::index::load_index(regs, core, &instr_coded(known, word), y),
+        | Op::Pdc => index::load_index(regs, core, &instr_coded(known, word), y),
         Op::Sxa | Op::Sxd | Op::Sca | Op::Scd | Op::Pxa | Op::Pxd | Op::Pca | Op::Pcd =>
-            operations::index::store_index(regs, core, &instr_coded(known, word), y),
-        Op::Tpl | Op::Tmi | Op::Tov | Op::Tno | Op::Tqp | Op::Tlq | Op::Tsx =>
-            operations::index::transfer(regs, core, &instr_coded(known, word), y),
-        Op::Nop => operations::index::pass(regs, core, &instr_coded(known, word), y),
+            index::store_index(regs, core, &instr_coded(known, word), y),
+        Op::Tpl | Op::Tmi | Op::Tov | Op::Tno | Op::Tqp | Op::Tlq | Op::Tsx => index::transfer(
+            regs,
+            core,
+            &instr_coded(known, word),
+            y,
+        ),
+        Op::Nop => index::pass(regs, core, &instr_coded(known, word), y),
         _ => OpEnd::Halt,
     }
 }
@@ -477,9 +484,9 @@ fn perform_at<M: MemoryPort>(
     ensures ic { regs.new.ic < 2 ^ 15 }
 {
     match kind {
-        Kind::Fixed => as_step(operations::fixed::apply(regs, core, i, y)),
-        Kind::Logic => as_step(operations::logic::apply(regs, core, i, y)),
-        Kind::Index => as_step(operations::index::apply(regs, core, i, y)),
+        Kind::Fixed => as_step(fixed::apply(regs, core, i, y)),
+        Kind::Logic => as_step(logic::apply(regs, core, i, y)),
+        Kind::Index => as_step(index::apply(regs, core, i, y)),
         Kind::Tia => match core.load(y) {
             Ok(word) => Stepped::Entry(word),
             Err(_) => Stepped::Outside(y),

@@ -24,8 +24,9 @@ status_is o p is = ap (λ (x : Outcome). x.status) is
 -- what was performed, by how the script's run ended, or where no record of it came
 
 module _ (bytes : TextOfRun) (script : Script) (was now : MediaSeen) (had : OutputSeen) (o : Outcome) where
-  pub done_performs : (has : OutputSeen) (rec : Record) → IsDone script was now rec → IsOneOf o.status (0 ∷ 4 ∷ 8 ∷ []) → (o.status ≢ 8 → o.run ≡ rec) → (o.card ≡ 0) × (o.cause ≡ 0)
-      → (o.status ≡ 0 → has.held ≡ after had.held (bytes script o.run)) → (o.status ≡ 4 → GrewByProperPrefix had.held (bytes script o.run) has.held) → (o.status ≡ 4 → Rose had.faults has.faults)
+  pub done_performs : (has : OutputSeen) (rec : Record) → IsDone script was now rec → IsOneOf o.status (0 ∷ 4 ∷ 8 ∷ [])
+      → (o.status ≢ 8 → o.run ≡ rec) → (o.card ≡ 0) × (o.cause ≡ 0) → (o.status ≡ 0 → has.held ≡ after had.held (bytes script o.run))
+      → (o.status ≡ 4 → GrewByProperPrefix had.held (bytes script o.run) has.held) → (o.status ≡ 4 → Rose had.faults has.faults)
       → (o.status ≡ 8 → o ≡ bare 8 0 0) → (o.status ≡ 8 → has.held ≡ had.held) → Performs bytes script was now had has o
   done_performs has rec done status run numbers text part cause memory silent =
       record {
@@ -138,7 +139,8 @@ module _ (mode : Mode) (old new : DevicesSeen) (o : Outcome) where
 
   -- a script that came was performed, whose text is the mode's
 
-  ends_performed : serves mode ≡ false → runs_script mode ≡ true → (script : Script) → Comes mode old new script → Performs (text_for mode) script old.media new.media old.output new.output o → EndsFor mode old new o
+  ends_performed : serves mode ≡ false → runs_script mode ≡ true → (script : Script) → Comes mode old new script
+      → Performs (text_for mode) script old.media new.media old.output new.output o → EndsFor mode old new o
   ends_performed alone runs script comes p =
       record {
         done = λ h. is_run mode old new o script comes (p.done (grind (arith, h, nat_tests))) p.numbers (p.text h);
@@ -148,7 +150,8 @@ module _ (mode : Mode) (old new : DevicesSeen) (o : Outcome) where
         spent = λ h. script_spends mode alone runs old new script comes (p.spent (grind (arith, h, p.status, nat_tests)));
       }
 
-  pub answers_performed : serves mode ≡ false → runs_script mode ≡ true → (script : Script) → Comes mode old new script → Performs (text_for mode) script old.media new.media old.output new.output o → AnswersFor mode old new o
+  pub answers_performed : serves mode ≡ false → runs_script mode ≡ true → (script : Script) → Comes mode old new script
+      → Performs (text_for mode) script old.media new.media old.output new.output o → AnswersFor mode old new o
   answers_performed alone runs script comes p =
       record {
         ends = ends_performed alone runs script comes p;
@@ -167,7 +170,8 @@ module _ (mode : Mode) (old new : DevicesSeen) (o : Outcome) where
 
   -- the script was refused, and so it was written, or not as memory lacked
   pub answers_refused : SpendsFor mode old new → IsOneOf o.status (2 ∷ 4 ∷ 8 ∷ []) → (o.status ≡ 2 → ScriptIsRefused mode old new o)
-      → ((words : List (List ℕ)) → mode_of words ≡ Some mode → o.status ≡ 4 → IsCutOff words old new o) → (o.status ≡ 4 → Rose old.output.faults new.output.faults)
+      → ((words : List (List ℕ)) → mode_of words ≡ Some mode → o.status ≡ 4 → IsCutOff words old new o)
+      → (o.status ≡ 4 → Rose old.output.faults new.output.faults)
       → (o.status ≡ 8 → o ≡ bare 8 0 0) → (o.status ≡ 8 → new.output.held ≡ old.output.held) → AnswersFor mode old new o
   answers_refused spends status refused part cause memory silent =
       record {
@@ -195,4 +199,5 @@ module _ (mode : Mode) (old new : DevicesSeen) (o : Outcome) where
   pub answers_no_memory : SpendsFor mode old new → o ≡ bare 8 0 0 → new.output.held ≡ old.output.held → AnswersFor mode old new o
   answers_no_memory spends is same =
       let at : o.status ≡ 8 = status_is o (bare 8 0 0) is in
-      answers_refused spends (grind (arith, at, nat_tests)) (λ h. absurd (omega (arith, h, at))) (λ words asked h. absurd (omega (arith, h, at))) (λ h. absurd (omega (arith, h, at))) (λ h. is) (λ h. same)
+      answers_refused spends (grind (arith, at, nat_tests)) (λ h. absurd (omega (arith, h, at)))
+      (λ words asked h. absurd (omega (arith, h, at))) (λ h. absurd (omega (arith, h, at))) (λ h. is) (λ h. same)

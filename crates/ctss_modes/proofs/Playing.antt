@@ -29,9 +29,9 @@ use Rattle.live_run.specs.declared.ending.Played.{Played}
 use Rattle.live_run.specs.declared.ending.Played.TheVariants.{Done, DrumFailed, DiskFailed}
 use Rattle.live_run.specs.Finishes.{Finishes, IfDone, OnTheWay, BehindTheEnd}
 use Rattle.supervisor.proofs.Counting.{counted_same}
-use Rattle.live_laws.specs.Beginnings.{IsBeginning}
-use Rattle.live_laws.proofs.Beginnings.{stopped_runs_are_beginnings}
-use Rattle.live_laws.proofs.Records.{counted_at_end, ends_joined}
+use Rattle.live_run.specs.Beginnings.{IsBeginning}
+use Rattle.live_run.proofs.Beginnings.{stopped_runs_are_beginnings}
+use Rattle.live_run.proofs.Records.{counted_at_end, ends_joined}
 use Rattle.live_serve.specs.Live.{HasNoFiles}
 use Rattle.ctss_modes.specs.Played.{IsDone, IsCut, AtStart, InRun, AtEnd, IsLost, IsPlayed, HasGone, IsScriptRun, Ran, NeverRan, NotGiven, HasSpent, InSteps, AtLoad}
 

@@ -19,12 +19,12 @@ use Rattle.text_model.specs.Reading.{script_of, max_bytes}
 use Rattle.script_read.specs.Bases.{base_of}
 use Rattle.system_model.specs.Record.{EachIsAlone, IsOneList}
 use Rattle.system_model.proofs.AloneLaws.{users_are_alone, commons_are_one}
-use Rattle.live_laws.specs.Parts.{live_script}
+use Rattle.live_run.specs.Parts.{live_script}
 use Rattle.live_serve.specs.Talks.{IsTalk}
 use Rattle.live_serve.specs.declared.ending.Served.{Served}
 use Rattle.live_serve.specs.declared.ending.Served.TheVariants.{Done, DrumFailed, DiskFailed}
 use Rattle.live_serve.specs.Live.{IsServed, IsLiveRecord, IsStopped as LiveIsStopped, IsLost as LiveIsLost, HasSpent as HasLiveSpent, BehindTurns}
-use Rattle.live_laws.specs.Beginnings.{IsBeginning}
+use Rattle.live_run.specs.Beginnings.{IsBeginning}
 use Rattle.console_link.specs.Links.{LinkSeen}
 use Rattle.live_run.specs.Media.{MediaSeen}
 use Rattle.ctss_modes.specs.declared.outcome.Outcome.{Outcome}
@@ -32,7 +32,7 @@ use Rattle.ctss_modes.specs.Outcomes.{bare, failed}
 use Rattle.ctss_modes.specs.Devices.{DevicesSeen}
 use Rattle.ctss_modes.specs.Played.{IsDone, IsCut, IsLost, HasSpent, InSteps}
 use Rattle.ctss_modes.specs.Modes.{runs_script, reads_script, replays, serves, script_for, Comes, IsSpelled, IsRefused, text_for}
-use Rattle.ctss_modes.specs.Top.{IsRun, RunIsStopped, ScriptIsStopped, StopsFor, RunLosesFiles, ScriptLosesFiles, LosesFor, ScriptIsRefused, OfRefusal, OfRun, IsCutOff, IsSilent, ScriptSpends, Unbegun, Begun, SpendsFor, statuses_for, statuses_live}
+use Rattle.ctss_modes.specs.Top.{IsRun, RunIsStopped, ScriptIsStopped, StopsFor, RunLosesFiles, ScriptLosesFiles, LosesFor, ScriptIsRefused, OfRefusal, OfRun, IsCutOff, ScriptSpends, Unbegun, Begun, SpendsFor, statuses_for, statuses_live}
 
 -- a list with one more behind its first
 one_more_said : (a n rest : Bool) → (a || rest) ≡ true → (a || (n || rest)) ≡ true
@@ -215,9 +215,6 @@ is_lost words mode alone old new o script asked comes silent lost numbers =
       card = numbers.0;
       cause = numbers.1;
     }
-
-pub silent_by : (status n : ℕ) (old new : DevicesSeen) (o : Outcome) → status ≡ n → IsSilent n old new o → IsSilent status old new o
-silent_by status n old new o is h = subst (λ (k : ℕ). IsSilent k old new o) (sym is) h
 
 -- live consoles
 

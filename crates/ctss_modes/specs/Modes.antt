@@ -14,7 +14,7 @@ use Rattle.text_model.specs.Made.{made_script}
 use Rattle.text_model.specs.Report.{report_of}
 use Rattle.text_model.specs.Summary.{summary_of}
 use Rattle.script_read.specs.Bases.{base_of}
-use Rattle.live_laws.specs.Parts.{live_script}
+use Rattle.live_run.specs.Parts.{live_script}
 use Rattle.live_serve.specs.Talks.{IsTalk}
 use Rattle.ctss_modes.specs.Devices.{InputSeen, DevicesSeen}
 

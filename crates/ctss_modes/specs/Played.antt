@@ -17,7 +17,7 @@ use Rattle.supervisor.specs.Whole.{Whole, Advances, run_apart}
 use Rattle.file_tracks.specs.Lying.{LieOn}
 use Rattle.live_run.specs.Calls.{run_over}
 use Rattle.live_run.specs.Media.{MediaSeen}
-use Rattle.live_laws.specs.Beginnings.{IsBeginning}
+use Rattle.live_run.specs.Beginnings.{IsBeginning}
 use Rattle.live_serve.specs.Live.{HasNoFiles}
 use Rattle.live_run.specs.declared.ending.Played.{Played}
 use Rattle.live_run.specs.declared.ending.Played.TheVariants.{Done, DrumFailed, DiskFailed}

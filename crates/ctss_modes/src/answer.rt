@@ -13,6 +13,7 @@ use crate::outcome::Outcome;
 use crate::write::refuse_words;
 use console_link::Link;
 use ctss_io::{Sink, Source};
+use live_serve::Listening;
 use medium::Medium;
 use std::alloc::Global;
 use text_model::Mode;
@@ -44,7 +45,8 @@ pub fn run_mode<S: Source, K: Sink, D: Medium, F: Medium, L: Link>(
         Mode::Load(n) => load(alloc, n, output, drum, disk),
         Mode::Asm => asm(alloc, input, output),
         Mode::Serve { port, turns } => {
-            serve_consoles(alloc, port, turns, input, output, drum, disk, link)
+            let listening = Listening { port, turns };
+            serve_consoles(alloc, listening, input, output, drum, disk, link)
         }
     }
 }

@@ -18,7 +18,7 @@ use crate::write::{end_unread, refuse_script};
 use console_link::Link;
 use ctss_io::{Sink, Source, read_bytes};
 use ctss_types::Script;
-use live_serve::{Served, ServingFault, serve};
+use live_serve::{Listening, Served, ServingFault, serve};
 use medium::Medium;
 use script_read::{ScriptFault, read_base};
 use std::alloc::Global;
@@ -28,20 +28,19 @@ use text_model::Mode;
 fn host<K: Sink, D: Medium, F: Medium, L: Link>(
     alloc: Global,
     base: Script,
-    port: u16,
-    turns: u32,
+    listening: Listening,
     sink: &mut K,
     drum: &mut D,
     disk: &mut F,
     link: &mut L,
 ) -> Outcome
-    requires turns { turns ≤ 100000 }
+    requires turns { listening.turns ≤ 100000 }
     requires lawful { IsLawful base }
     requires drum { Serves (D.contents drum.old) (D.record_count drum.old) (D.words_each drum.old) 3840 }
     requires disk { Holds (F.contents disk.old) (F.record_count disk.old) (F.words_each disk.old) 10000 }
     ensures status { IsOneOf result.status (0 ∷ 4 ∷ 5 ∷ 6 ∷ 7 ∷ 8 ∷ []) }
-    ensures ends { (was now : InputSeen) → IsSpelled (Mode.Serve port turns) was.left now.left base
-        → EndsFor (Mode.Serve port turns)
+    ensures ends { (was now : InputSeen) → IsSpelled (Mode.Serve listening.port listening.turns) was.left now.left base
+        → EndsFor (Mode.Serve listening.port listening.turns)
         (devices was (output_seen K.Sink sink.old) (media_seen D.Medium F.Medium drum.old disk.old) (L.seen link.old))
         (devices now (output_seen K.Sink sink.new) (media_seen D.Medium F.Medium drum.new disk.new)
         (L.seen link.new)) result }
@@ -54,15 +53,16 @@ fn host<K: Sink, D: Medium, F: Medium, L: Link>(
         (devices now (output_seen K.Sink sink.new) (media_seen D.Medium F.Medium drum.new disk.new)
         (L.seen link.new)) result }
 {
-    match serve(alloc, &base, port, turns, drum, disk, link) {
+    match serve(alloc, &base, listening, drum, disk, link) {
         Ok(Served::Done { events, record }) => {
             let live = Script {
                 params: base.params,
                 accounts: base.accounts,
                 files: base.files,
                 events,
-                end: 1000 * u64::from(turns),
+                end: 1000 * u64::from(listening.turns),
             };
+            let Listening { port, turns } = listening;
             write_run(alloc, &Mode::Serve { port, turns }, &live, record, sink)
         }
         Ok(Served::DrumFailed(run)) => Outcome::failed(5, run),
@@ -75,19 +75,18 @@ fn host<K: Sink, D: Medium, F: Medium, L: Link>(
 /// A base script is read, people are served over it, and the text of what they did is written.
 pub(crate) fn serve_consoles<S: Source, K: Sink, D: Medium, F: Medium, L: Link>(
     alloc: Global,
-    port: u16,
-    turns: u32,
+    listening: Listening,
     input: &mut S,
     sink: &mut K,
     drum: &mut D,
     disk: &mut F,
     link: &mut L,
 ) -> Outcome
-    requires turns { turns ≤ 100000 }
+    requires turns { listening.turns ≤ 100000 }
     requires drum { Serves (D.contents drum.old) (D.record_count drum.old) (D.words_each drum.old) 3840 }
     requires disk { Holds (F.contents disk.old) (F.record_count disk.old) (F.words_each disk.old) 10000 }
     ensures status { IsOneOf result.status (0 ∷ 2 ∷ 3 ∷ 4 ∷ 5 ∷ 6 ∷ 7 ∷ 8 ∷ []) }
-    ensures answers { AnswersFor (Mode.Serve port turns)
+    ensures answers { AnswersFor (Mode.Serve listening.port listening.turns)
         (seen S.Source K.Sink D.Medium F.Medium input.old sink.old drum.old disk.old (L.seen link.old))
         (seen S.Source K.Sink D.Medium F.Medium input.new sink.new drum.new disk.new (L.seen link.new)) result }
     ensures statuses { WhereTold (S.left input.old) (λ bytes. IsOneOf result.status (statuses_live (base_of bytes))) }
@@ -97,7 +96,7 @@ pub(crate) fn serve_consoles<S: Source, K: Sink, D: Medium, F: Medium, L: Link>(
         Err(end) => return end_unread(alloc, sink, end),
     };
     match read_base(alloc, &bytes) {
-        Ok(base) => host(alloc, base, port, turns, sink, drum, disk, link),
+        Ok(base) => host(alloc, base, listening, sink, drum, disk, link),
         Err(ScriptFault::Refused(refusal)) => {
             refuse_script(alloc, sink, refusal.card, refusal.cause.number())
         }

@@ -25,10 +25,10 @@ use ctss_types::{Record, Script};
 use live_run::Played;
 use made_script::make_script;
 use medium::Medium;
-use report_text::{Report, Summary};
 use script_read::{ScriptFault, ScriptText, read_script};
 use std::alloc::Global;
 use text_model::Mode;
+use text_writer::report::{Report, Summary};
 use text_writer::{Text, TextFault, TextWriter, write_text};
 
 /// A text of a script's run, which goes out piece by piece.

@@ -3,7 +3,7 @@ use Rattle.std.proofs.Common.{◌≡◌, ◌%◌, ◌+◌, ◌/◌, ℕ, true, [
 use Rattle.std.specs.List.{list_all}
 use Rattle.bcd48.specs.Characters.{is_character}
 use Rattle.user_model.specs.Texts.{digit, time_text}
-use Rattle.cmd_files.proofs.Decimals.{below_ten}
+use Rattle.cmd_program.proofs.Decimals.{below_ten}
 
 digit_is : (n : ℕ) → is_character (digit n) ≡ true
 digit_is n = below_ten (n % 10) (omega arith)

@@ -1,2 +1,5 @@
 pub mod Said
 pub mod Unread
+pub mod Words
+pub mod Places
+pub mod Made

@@ -1,4 +1,5 @@
-//! What a user and the system say to each other: the transcript, and the lines that were typed ahead and are not read yet.
+//! What a user and the system say to each other: what typed lines ask for, the transcript, and the lines that were
+//! typed ahead and are not read yet.
 //!
 //! The lines that were typed ahead are kept by `line_buffer`, those that a session writes of its own are made by `session_text`.
 //!
@@ -14,8 +15,11 @@ ghost use Rattle.time_sharing.specs.Rows.{out_all, some_line};
 ghost use Rattle.user_model.specs.Session.{quit_text};
 ghost use Rattle.user_model.specs.Texts.{time_text, ready_text, stop_text, logged_in_text, logged_out_text};
 
+pub mod command_table;
+pub mod fap_debug;
 pub mod line_buffer;
 mod notes;
+pub mod runcom;
 pub mod session_text;
 
 use crate::line_buffer::Lines;
@@ -23,8 +27,8 @@ pub use crate::line_buffer::Put;
 use crate::notes::{
     note, note_command, note_end, note_lines, note_read, note_ready, note_stop, note_taken,
 };
+use crate::runcom::CommandLines;
 use crate::session_text::{logged_in_text, logged_out_text, ready_text};
-use command_lines::runcom::CommandLines;
 use ctss_types::{Item, Items, LineText, NoMemory, Sequence};
 use program_model::ProgramState;
 use std::alloc::Global;

@@ -36,7 +36,7 @@ pub fn time_text(t: u64) -> LineText
 }
 
 /// `R n` for a number of own steps.
-#[tactic(auto, using(cmd_files::proofs::Decimals::decimal_is), unfolding(user_model::specs::Texts::ready_text))]
+#[tactic(auto, using(cmd_program::proofs::Decimals::decimal_is), unfolding(user_model::specs::Texts::ready_text))]
 pub fn ready_text(n: u64) -> LineText
     ensures { result ≡ ready_text n }
 {

@@ -12,11 +12,15 @@ use Rattle.fap_model.specs.Decks.{Whole, instruction, index_from}
 use Rattle.fap_assemble.specs.declared.field.Address.{Address}
 use Rattle.fap_assemble.specs.declared.field.Address.TheVariants.{Plain, Literal}
 use Rattle.fap_assemble.specs.declared.field.Said.{Said}
+use Rattle.fap_assemble.specs.declared.place.KnownAt.{KnownAt}
 use Rattle.fap_assemble.specs.declared.field.Said.TheVariants.{Placed, Half, Nothing, Value, Words}
 
 -- what is known where the first symbols of a table are seen
 abbrev pub known_at : List (ℕ × ℕ) → ℕ → ℕ → Known
 known_at symbols visible place = record { place = place; symbols = take visible symbols }
+
+abbrev pub known_in : KnownAt → Known
+known_in k = known_at k.symbols.now k.visible k.place
 
 abbrev pub address_said : List (ℕ × ℕ) → ℕ → says.Address → Address
 address_said names place (says.plain ts) = Plain (value_of names place ts)

@@ -3,12 +3,12 @@ ghost use Rattle.std.specs.Prelude.{◌≡◌, ◌^◌, ◌<◌, Some, IfOk};
 ghost use Rattle.fap_model.specs.Causes.{fault_number, cause_by, cause_of};
 ghost use Rattle.fap_model.specs.Decks.{fault_of};
 ghost use Rattle.fap_assemble.specs.Causes.{cause_said, card_cause};
-ghost use Rattle.fap_assemble.specs.Fields.{known_at};
+ghost use Rattle.fap_assemble.specs.Fields.{known_at, known_in};
 ghost use Rattle.fap_assemble.specs.Wholes.{whole_in};
 ghost use Rattle.fap_model.specs.declared.types.Operation.TheVariants.{End as end};
 
 use crate::field::{Said, is_defined, is_wrong, read};
-use crate::place::{count, is_equ, is_far, is_known, takes_flag};
+use crate::place::{KnownAt, count, is_equ, is_far, is_known, takes_flag};
 use crate::symbols::Symbols;
 use crate::whole::{Whole, is_start_outside, names_seen};
 use ctss_types::NoMemory;
@@ -16,19 +16,17 @@ use fap_model::{FaultCause, Operation};
 use fap_read::{flag, has_bad_symbol, has_symbol, is_bad, is_comment, operation};
 use std::alloc::Global;
 
-/// Why a card with an operation is at fault, if it is. The first `visible` symbols are those of earlier cards, `more` words
-/// follow its own, and `wrong` is a fault of its field that only the whole list shows.
+/// Why a card with an operation is at fault, if it is: `more` words follow its own, and `wrong` is a fault of its field that
+/// only the whole list shows.
 fn cause(
     op: Operation,
     text: &[u8],
     said: &Option<Said>,
-    symbols: &Symbols,
-    visible: usize,
-    place: u64,
+    k: KnownAt<'_>,
     more: usize,
     wrong: bool,
 ) -> Option<FaultCause>
-    ensures { result ≡ cause_said more wrong (known_at symbols.now visible place) op text.now said.now }
+    ensures { result ≡ cause_said more wrong (known_in k.entry) op text.now said.now }
 {
     if is_bad(text) {
         Some(FaultCause::Characters)
@@ -46,9 +44,9 @@ fn cause(
         Some(FaultCause::Start)
     } else if !is_defined(said) {
         Some(FaultCause::Undefined)
-    } else if is_known(text, symbols, visible, place) {
+    } else if is_known(text, k.symbols, k.visible, k.place) {
         Some(FaultCause::Repeated)
-    } else if is_far(place, count(op, said), more) {
+    } else if is_far(k.place, count(op, said), more) {
         Some(FaultCause::PastEnd)
     } else {
         None
@@ -71,16 +69,12 @@ fn end_cause(
     let said = read(alloc, Operation::End, text, symbols, symbols.len(), place)?;
     let more = whole.literals.len();
     let wrong = is_start_outside(whole.blocks, &said);
-    Ok(cause(
-        Operation::End,
-        text,
-        &said,
+    let k = KnownAt {
         symbols,
         visible,
         place,
-        more,
-        wrong,
-    ))
+    };
+    Ok(cause(Operation::End, text, &said, k, more, wrong))
 }
 
 /// Why a card with an operation that isn't END is at fault.
@@ -96,7 +90,12 @@ fn card_cause(
 {
     let names = names_seen(op, symbols, visible);
     let said = read(alloc, op, text, symbols, names, place)?;
-    Ok(cause(op, text, &said, symbols, visible, place, 0, false))
+    let k = KnownAt {
+        symbols,
+        visible,
+        place,
+    };
+    Ok(cause(op, text, &said, k, 0, false))
 }
 
 /// Why a card with an operation is at fault.

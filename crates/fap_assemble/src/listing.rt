@@ -176,19 +176,27 @@ fn start_of(alloc: Global, cards: &[Card], end: usize, whole: &Whole) -> Result<
     }
 }
 
-/// What all cards of a program come to: the cards up to the first END are those of the deck that `assemble` makes, or that it
-/// finds at fault.
-pub fn list(alloc: Global, cards: &[Card]) -> Result<Listed, NoMemory>
-    requires { length cards.now < 2 ^ 32 - 1 }
+/// What all cards come to, by what they tell together.
+fn listed_with(
+    alloc: Global,
+    cards: &[Card],
+    read: &[Card],
+    end: usize,
+    whole: &Whole,
+) -> Result<Listed, NoMemory>
+    requires few { length read.now < 2 ^ 32 - 1 }
+    requires end { end ≡ end_index cards.now }
+    requires read { texts read.now ≡ cards_read (texts cards.now) }
+    requires whole { whole_in whole.now ≡ whole_of (texts cards.now) }
+    requires place { whole.now.end_place < 2 ^ 33 }
+    requires literals { length whole.now.literals < 2 ^ 33 }
+    requires blocks { whole.now.blocks < 2 ^ 30 }
     ensures { IfOk result (λ l. l ≡ listed (texts cards.now)) }
 {
-    let end = end_index(cards);
-    let read = cards_read(cards, end);
-    let whole = whole_of(alloc, cards, read)?;
-    let rows = rows_of(alloc, read, &whole)?;
+    let rows = rows_of(alloc, read, whole)?;
     let definitions = definitions_of(alloc, read)?;
     let uses = uses_of(alloc, read)?;
-    let start = start_of(alloc, cards, end, &whole)?;
+    let start = start_of(alloc, cards, end, whole)?;
     let symbols = whole.symbols.to_list(alloc)?;
     Ok(Listed {
         rows,
@@ -201,4 +209,18 @@ pub fn list(alloc: Global, cards: &[Card]) -> Result<Listed, NoMemory>
         has_end: end < cards.len(),
         literals: whole.literals.to_list(alloc)?,
     })
+}
+
+/// What all cards of a program come to: the cards up to the first END are those of the deck that `assemble` makes, or that it
+/// finds at fault.
+pub fn list(alloc: Global, cards: &[Card]) -> Result<Listed, NoMemory>
+    requires { length cards.now < 2 ^ 32 - 1 }
+    ensures { IfOk result (λ l. l ≡ listed (texts cards.now)) }
+{
+    let end = end_index(cards);
+    let read = cards_read(cards, end);
+    let whole = whole_of(alloc, cards, read)?;
+    let listed = listed_with(alloc, cards, read, end, &whole);
+    drop(whole);
+    listed
 }

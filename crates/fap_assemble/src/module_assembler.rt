@@ -121,10 +121,16 @@ fn sound_module(
     requires sound { module_faults (texts cards.now) ≡ [] }
     ensures { IfOk result (λ m. m ≡ module_of_cards (texts cards.now)) }
 {
-    let start = start(alloc, cards, end, &r)?;
-    let entries = entries_of(alloc, read, &r)?;
-    let places = cells_of(alloc, read, &r)?;
-    let Relocated { externs, .. } = r;
+    let Ok(start) = start(alloc, cards, end, &r) else {
+        return Err(r.spent());
+    };
+    let Ok(entries) = entries_of(alloc, read, &r) else {
+        return Err(r.spent());
+    };
+    let Ok(places) = cells_of(alloc, read, &r) else {
+        return Err(r.spent());
+    };
+    let externs = r.into_externs();
     Ok(Module {
         start,
         entries,
@@ -177,9 +183,16 @@ fn module_of(
     requires tells { TellsAll r (texts read.now) }
     ensures { IsModuleMade result (module_made (texts cards.now)) }
 {
-    refuse_faults(alloc, cards, read, end, &r)?;
-    let made = sound_module(alloc, cards, read, end, r)?;
-    Ok(made)
+    match refuse_faults(alloc, cards, read, end, &r) {
+        Ok(()) => {
+            let made = sound_module(alloc, cards, read, end, r)?;
+            Ok(made)
+        }
+        Err(fault) => {
+            drop(r);
+            Err(fault)
+        }
+    }
 }
 
 /// The module of a list of cards, or the faults of its cards: `Faults` has each card at fault with its least fault, in order,

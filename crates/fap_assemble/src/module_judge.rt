@@ -22,7 +22,7 @@ use crate::module_cards::{field_symbol, is_marked};
 use crate::moves::without_org;
 use crate::names::Names;
 use crate::past::{ENTRY, EXTERN, Past};
-use crate::place::fault_known;
+use crate::place::{Surroundings, fault_known};
 use crate::relocated::{Relocated, Spot};
 use crate::whole::{is_start_outside, names_seen};
 use ctss_types::{NoMemory, Sequence};
@@ -198,8 +198,13 @@ fn end_fault(
     let said = card_said(alloc, op, r, spot, text)?;
     let wrong = is_end_wrong(r, spot, text, &said);
     let more = words_behind(r);
-    let known = is_known(r, past, spot, text);
-    Ok(fault_known(op, text, &said, known, spot.place, more, wrong))
+    let around = Surroundings {
+        known: is_known(r, past, spot, text),
+        place: spot.place,
+        more,
+        wrong,
+    };
+    Ok(fault_known(op, text, &said, around))
 }
 
 /// The fault of a card with another operation, where the last place is 32766.
@@ -215,8 +220,13 @@ fn word_fault(
 {
     let said = card_said(alloc, op, r, spot, text)?;
     let wrong = card_kind(op, r, spot, text).is_none();
-    let known = is_known(r, past, spot, text);
-    Ok(fault_known(op, text, &said, known, spot.place, 1, wrong))
+    let around = Surroundings {
+        known: is_known(r, past, spot, text),
+        place: spot.place,
+        more: 1,
+        wrong,
+    };
+    Ok(fault_known(op, text, &said, around))
 }
 
 /// The fault of a card with an operation that is none of a module's own.
@@ -285,24 +295,30 @@ pub(crate) fn module_fault(
     }
 }
 
+/// The text of a card, and its number.
+#[derive(Clone, Copy)]
+struct NumberedCard<'a> {
+    number: u32,
+    text: &'a [u8],
+}
+
 /// Notes a card's fault, if it has one.
 fn judge_card(
     faults: &mut FaultList,
     alloc: Global,
-    number: u32,
+    card: NumberedCard<'_>,
     r: &Relocated,
     past: &Past,
     spot: Spot,
-    text: &[u8],
 ) -> Result<(), NoMemory>
     requires blocks { r.now.whole.blocks < 2 ^ 30 }
     requires literals { length r.now.whole.literals < 2 ^ 33 }
     ensures { OnOk result (numbered faults.new
-        ≡ numbered faults.old ++ fault_entry number
-        (module_fault_by (relocated_in r.now) past.now (moved_at r.now spot) text.now)) }
+        ≡ numbered faults.old ++ fault_entry card.entry.number
+        (module_fault_by (relocated_in r.now) past.now (moved_at r.now spot) card.entry.text.now)) }
 {
-    let fault = module_fault(alloc, r, past, spot, text)?;
-    note(faults, number, fault)?;
+    let fault = module_fault(alloc, r, past, spot, card.text)?;
+    note(faults, card.number, fault)?;
     Ok(())
 }
 
@@ -326,7 +342,14 @@ pub(crate) fn module_faults(
     let mut number = 1;
     for card in cards {
         let text = card.text.as_slice();
-        judge_card(&mut faults, alloc, number, r, &past, spot, text)?;
+        judge_card(
+            &mut faults,
+            alloc,
+            NumberedCard { number, text },
+            r,
+            &past,
+            spot,
+        )?;
         let more = past.with(text)?;
         past = more;
         let next = r.behind(alloc, spot, text)?;

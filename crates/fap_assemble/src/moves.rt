@@ -12,7 +12,7 @@ use crate::field::{read, read_with};
 use crate::kind::{kind, value_kind};
 use crate::literals::Literals;
 use crate::names::Names;
-use crate::place::{count, fault, operation_in, said_number};
+use crate::place::{KnownAt, count, fault, operation_in, said_number};
 use crate::roster::Roster;
 use crate::symbols::Symbols;
 use crate::tables::{enter_literal, literal_by};
@@ -92,16 +92,12 @@ fn equ_fault(alloc: Global, text: &[u8], b: Before<'_>) -> Result<u8, NoMemory>
     };
     let said = read_with(alloc, Operation::Equ, text, names, b.place)?;
     let wrong = equ_weight(text, b).is_none();
-    Ok(fault(
-        Operation::Equ,
-        text,
-        &said,
-        b.symbols,
-        b.visible,
-        b.place,
-        1,
-        wrong,
-    ))
+    let k = KnownAt {
+        symbols: b.symbols,
+        visible: b.visible,
+        place: b.place,
+    };
+    Ok(fault(Operation::Equ, text, &said, k, 1, wrong))
 }
 
 /// How many words a field takes or reserves, none where it is at fault.

@@ -4,7 +4,7 @@ ghost use Rattle.fap_model.specs.Statements.{field_for};
 ghost use Rattle.fap_model.specs.Places.{takes_flag, is_equ, symbol_is_known, max_place, early_fault, size_of, next_place, symbol_value, known_behind};
 ghost use Rattle.fap_model.specs.Places.{said as said_by};
 ghost use Rattle.fap_model.specs.Decks.{operation_in, size_by};
-ghost use Rattle.fap_assemble.specs.Fields.{known_at, count, fitting, size, is_misshapen, least, fault_known, fault, said_or};
+ghost use Rattle.fap_assemble.specs.Fields.{known_at, known_in, count, fitting, size, is_misshapen, least, fault_known, fault, said_or};
 ghost use Rattle.fap_assemble.specs.Steps.{definition, place_by, value_by, new_symbols};
 
 use crate::field::{Said, data_words, is_defined, is_wrong, number, read};
@@ -18,6 +18,24 @@ use word36::Word;
 
 /// The number of places.
 const MAX_PLACE: u64 = 32768;
+
+/// What is known before a card: its place, and the first `visible` symbols, which are those of earlier cards.
+#[derive(Clone, Copy)]
+pub(crate) struct KnownAt<'a> {
+    pub(crate) symbols: &'a Symbols,
+    pub(crate) visible: usize,
+    pub(crate) place: u64,
+}
+
+/// What a card's fault depends on beside its text: whether an earlier card has its symbol, its place, how many words follow
+/// its own, and whether its field has a fault that only the whole list shows.
+#[derive(Clone, Copy)]
+pub(crate) struct Surroundings {
+    pub(crate) known: bool,
+    pub(crate) place: u64,
+    pub(crate) more: usize,
+    pub(crate) wrong: bool,
+}
 
 /// The operation of a card that isn't a comment.
 pub(crate) fn operation_in(text: &[u8]) -> Option<Operation>
@@ -138,43 +156,43 @@ fn least(misshapen: bool, wrong: bool, undefined: bool, known: bool, far: bool) 
     }
 }
 
-/// The least fault of a card with an operation, 0 where there is none. `known` says whether an earlier card has its symbol,
-/// `more` words follow its own, and `wrong` is a fault of its field that only the whole list shows.
+/// The least fault of a card with an operation, 0 where there is none.
 pub(crate) fn fault_known(
     op: Operation,
     text: &[u8],
     said: &Option<Said>,
-    known: bool,
-    place: u64,
-    more: usize,
-    wrong: bool,
+    around: Surroundings,
 ) -> u8
-    ensures { result ≡ fault_known op text.now said.now known place more wrong }
+    ensures { result ≡ fault_known op text.now said.now around.known around.place around.more around.wrong }
 {
     least(
         is_misshapen(op, text),
-        is_wrong(said) || wrong,
+        is_wrong(said) || around.wrong,
         !is_defined(said),
-        known,
-        is_far(place, count(op, said), more),
+        around.known,
+        is_far(around.place, count(op, said), around.more),
     )
 }
 
-/// The same, where the first `visible` symbols are those of earlier cards.
+/// The same by what is known before the card, where `more` words follow its own, and `wrong` is a fault of its field that only
+/// the whole list shows.
 pub(crate) fn fault(
     op: Operation,
     text: &[u8],
     said: &Option<Said>,
-    symbols: &Symbols,
-    visible: usize,
-    place: u64,
+    k: KnownAt<'_>,
     more: usize,
     wrong: bool,
 ) -> u8
-    ensures { result ≡ fault more wrong (known_at symbols.now visible place) op text.now said.now }
+    ensures { result ≡ fault more wrong (known_in k.entry) op text.now said.now }
 {
-    let known = is_known(text, symbols, visible, place);
-    fault_known(op, text, said, known, place, more, wrong)
+    let around = Surroundings {
+        known: is_known(text, k.symbols, k.visible, k.place),
+        place: k.place,
+        more,
+        wrong,
+    };
+    fault_known(op, text, said, around)
 }
 
 /// The fault of a card whose field uses earlier symbols alone.
@@ -190,7 +208,12 @@ fn early_fault(
     ensures { IfOk result (λ f. f ≡ early_fault (known_at symbols.now visible place) op text.now) }
 {
     let said = read(alloc, op, text, symbols, visible, place)?;
-    Ok(fault(op, text, &said, symbols, visible, place, 0, false))
+    let k = KnownAt {
+        symbols,
+        visible,
+        place,
+    };
+    Ok(fault(op, text, &said, k, 0, false))
 }
 
 /// The value that a field says.
@@ -237,17 +260,15 @@ fn said_or(
     alloc: Global,
     op: Operation,
     text: &[u8],
-    symbols: &Symbols,
-    visible: usize,
-    place: u64,
+    k: KnownAt<'_>,
     other: u64,
 ) -> Result<u64, NoMemory>
-    ensures value { IfOk result (λ n. n ≡ said_or op (known_at symbols.now visible place) text.now other) }
+    ensures value { IfOk result (λ n. n ≡ said_or op (known_in k.entry) text.now other) }
     ensures within { IfOk result (λ n. n ≤ max 65535 other) }
 {
-    let fault = early_fault(alloc, op, text, symbols, visible, place)?;
+    let fault = early_fault(alloc, op, text, k.symbols, k.visible, k.place)?;
     if fault == 0 {
-        let number = said_number(alloc, op, text, symbols, visible, place)?;
+        let number = said_number(alloc, op, text, k.symbols, k.visible, k.place)?;
         Ok(u64::from(number))
     } else {
         Ok(other)
@@ -268,7 +289,14 @@ fn next_place(
     ensures within { IfOk result (λ n. n ≤ max 65535 (place + 1)) }
 {
     match op {
-        Operation::Org => said_or(alloc, op, text, symbols, visible, place, place),
+        Operation::Org => {
+            let k = KnownAt {
+                symbols,
+                visible,
+                place,
+            };
+            said_or(alloc, op, text, k, place)
+        }
         _ => {
             let size = size_of(alloc, op, text, symbols, visible, place)?;
             Ok(place + size)

@@ -93,6 +93,29 @@ pub(crate) fn relocated_of(alloc: Global, read: &[Card]) -> Result<Relocated, No
 }
 
 impl Relocated {
+    /// Lets it go where memory ends, by one call: the proof of a function goes through all its parts wherever it is let go
+    /// without one.
+    pub(crate) fn spent(self) -> NoMemory {
+        drop(self);
+        NoMemory
+    }
+
+    /// The externs alone.
+    pub(crate) fn into_externs(self) -> Roster
+        ensures { result ≡ self.externs }
+    {
+        let Relocated {
+            whole,
+            weights,
+            equs,
+            externs,
+        } = self;
+        drop(whole);
+        drop(weights);
+        drop(equs);
+        externs
+    }
+
     /// How many words a card takes or reserves.
     pub(crate) fn size(
         &self,

@@ -120,38 +120,43 @@ fn add_given(
     }
 }
 
+/// What is read of a card: its operation, whether it has a flag, and what its field says.
+#[derive(Clone, Copy)]
+struct Reading<'a> {
+    op: Operation,
+    flag: bool,
+    said: &'a Option<Said>,
+}
+
 /// Adds the words of a card with an operation.
 fn add_said(
     segments: &mut Segments,
     alloc: Global,
     place: u64,
     whole: &Whole,
-    op: Operation,
-    flag: bool,
-    said: &Option<Said>,
+    r: Reading<'_>,
 ) -> Result<(), NoMemory>
-    requires right { is_wrong said.now ≡ false }
-    requires short { IfSome said.now HasShortValues }
-    requires room { place + length (words_said (whole_in whole.now) op flag said.now) < 2 ^ 34 }
+    requires right { is_wrong r.said.now ≡ false }
+    requires short { IfSome r.said.now HasShortValues }
+    requires room { place + length (words_said (whole_in whole.now) r.op r.flag r.said.now) < 2 ^ 34 }
     requires place { whole.now.end_place < 2 ^ 33 }
     requires few { length whole.now.literals < 2 ^ 33 }
     ensures { OnOk result (segments.new
-        ≡ words_in segments.old place (words_said (whole_in whole.now) op flag said.now)) }
+        ≡ words_in segments.old place (words_said (whole_in whole.now) r.entry.op r.entry.flag r.entry.said.now)) }
 {
-    match op {
+    match r.op {
         Operation::Machine(op) => {
-            segments.add(alloc, place, machine_word(whole, op, flag, said))
+            segments.add(alloc, place, machine_word(whole, op, r.flag, r.said))
         }
-        Operation::Pze => segments.add(alloc, place, plain_word(whole, said)),
+        Operation::Pze => segments.add(alloc, place, plain_word(whole, r.said)),
         Operation::Dec | Operation::Oct | Operation::Bci => {
-            add_given(segments, alloc, place, said)
+            add_given(segments, alloc, place, r.said)
         }
         Operation::Org | Operation::Bss | Operation::Equ | Operation::End => Ok(()),
     }
 }
 
 /// Adds the words of a card without a fault.
-
 fn add_card(
     segments: &mut Segments,
     alloc: Global,
@@ -173,7 +178,12 @@ fn add_card(
     };
     let symbols = &whole.symbols;
     let said = read(alloc, op, text, symbols, symbols.len(), place)?;
-    add_said(segments, alloc, place, whole, op, flag(text), &said)
+    let r = Reading {
+        op,
+        flag: flag(text),
+        said: &said,
+    };
+    add_said(segments, alloc, place, whole, r)
 }
 
 /// A deck's words, where its first word is given and no card is at fault.

@@ -8,3 +8,4 @@ pub mod Whole
 pub mod Operations
 pub mod Results
 pub mod Joined
+pub mod Replies

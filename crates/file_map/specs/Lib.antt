@@ -3,3 +3,4 @@ pub mod Known
 pub mod Directory
 pub mod Listing
 pub mod Table
+pub mod Applied

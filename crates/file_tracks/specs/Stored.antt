@@ -1,11 +1,12 @@
 -- proof: files whose words stand on tracks of a disk.
-use Rattle.std.specs.Prelude.{◌≡◌, ℕ, ◌+◌, ◌≤◌, Bool, List, [], ◌∷◌, map, length, take, Option}
+use Rattle.std.specs.Prelude.{◌≡◌, ℕ, ◌+◌, ◌≤◌, Bool, List, [], ◌∷◌, map, length, take, Option, Some, slice_index_or}
 use Rattle.std.specs.declared.result.Result.{Result}
 use Rattle.std.specs.List.{All, IsDistinct}
 use Rattle.faults.specs.Faults.{WhereTold}
 use Rattle.ctss_types.specs.declared.file.FileBody.{FileBody}
 use Rattle.ctss_types.specs.declared.file.Refusal.{Refusal}
-use Rattle.file_model.specs.Files.{same_name, tracks_of_words}
+use Rattle.ctss_types.specs.Names.{NamePair}
+use Rattle.file_model.specs.Files.{same_name, file_named, tracks_of_words}
 use Rattle.file_map.specs.declared.fault.PortFault.{PortFault}
 use Rattle.file_map.specs.declared.port.ListingRow.{ListingRow}
 use Rattle.file_map.specs.Answers.{Leaves}
@@ -23,6 +24,11 @@ body_on contents f = record { name = f.name; mode = f.mode; words = content cont
 
 abbrev pub files_on : List (List ℕ) → List Filed → List FileBody
 files_on contents fs = map (body_on contents) fs
+
+-- the file of a name is the one at this place, whatever the tracks hold
+abbrev pub IsAt : NamePair → ℕ → List Filed → Type 0
+IsAt name at fs =
+    (contents : List (List ℕ)) (d : Filed) → file_named name (files_on contents fs) ≡ Some (body_on contents (slice_index_or fs at d))
 
 -- what a listing shows of a file
 abbrev pub row_for : Filed → ListingRow

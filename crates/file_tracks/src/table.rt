@@ -1,8 +1,7 @@
 //! A directory whose files lie on tracks.
-ghost use Rattle.std.specs.Prelude.{◌≡◌, ◌<◌, ℕ, List, [], length, is_some, slice_index_or, Some, None, MatchOption};
+ghost use Rattle.std.specs.Prelude.{◌≡◌, ◌<◌, ℕ, List, [], length, is_some, None, MatchOption};
 ghost use Rattle.file_model.specs.Files.{file_named};
-ghost use Rattle.file_tracks.specs.Stored.{body_on, files_on};
-ghost use Rattle.file_tracks.specs.declared.table.Filed.{Filed};
+ghost use Rattle.file_tracks.specs.Stored.{IsAt, files_on};
 
 use ctss_types::FileName;
 use std::alloc::Global;
@@ -30,8 +29,7 @@ pub struct TrackTable {
 fn find(files: &[Filed], name: FileName) -> Option<usize>
     ensures { MatchOption result
         ((contents : List (List ℕ)) → file_named name (files_on contents files.now) ≡ None)
-        (λ i. (i < length files.now) × ((contents : List (List ℕ)) (d : Filed)
-        → file_named name (files_on contents files.now) ≡ Some (body_on contents (slice_index_or files.now i d)))) }
+        (λ i. (i < length files.now) × IsAt name i files.now) }
 {
     'finding: for at in 0..files.len() {
         if files[at].name == name {
@@ -59,9 +57,7 @@ impl TrackTable {
     pub(crate) fn place(&self, name: FileName) -> Option<usize>
         ensures { MatchOption result
             ((contents : List (List ℕ)) → file_named name (files_on contents self.now.files.items) ≡ None)
-            (λ i. (i < length self.now.files.items) × ((contents : List (List ℕ)) (d : Filed)
-            → file_named name (files_on contents self.now.files.items)
-            ≡ Some (body_on contents (slice_index_or self.now.files.items i d)))) }
+            (λ i. (i < length self.now.files.items) × IsAt name i self.now.files.items) }
     {
         find(&self.files, name)
     }

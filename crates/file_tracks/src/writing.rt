@@ -1,10 +1,9 @@
 //! Calls on a directory that write words.
-ghost use Rattle.std.specs.Prelude.{◌≡◌, ◌<◌, ◌++◌, ◌∷◌, [], ℕ, List, length, vec_len, vec_capacity, slice_index_or, Some, None, OnOk, IsErrOf};
+ghost use Rattle.std.specs.Prelude.{◌≡◌, ◌<◌, ◌++◌, ◌∷◌, [], ℕ, List, length, vec_len, vec_capacity, None, OnOk, IsErrOf};
 ghost use Rattle.ctss_types.specs.declared.file.Refusal.{Refusal};
 ghost use Rattle.file_model.specs.Files.{file_named, put, written, appended, if_they_fit, with_new};
-ghost use Rattle.file_tracks.specs.Stored.{body_on, files_on};
+ghost use Rattle.file_tracks.specs.Stored.{IsAt, files_on};
 ghost use Rattle.file_tracks.specs.Tracked.{tracked, IsReady, Writes};
-ghost use Rattle.file_tracks.specs.declared.table.Filed.{Filed};
 
 use crate::patches::{rewritten, written_over};
 use crate::table::{Filed, TrackTable};
@@ -16,26 +15,31 @@ use std::alloc::Global;
 use track_store::TrackStore;
 use word36::Word;
 
-/// Other words for the file at a place, in other tracks.
+/// A file of a table that was found: its name, and which one it is.
+#[derive(Clone, Copy)]
+struct Found {
+    name: FileName,
+    at: usize,
+}
+
+/// Other words for a file, in other tracks.
 fn replace_in<F: Medium>(
     alloc: Global,
     table: &mut TrackTable,
     store: &mut TrackStore<'_, F>,
-    name: FileName,
-    at: usize,
+    found: Found,
     words: &[Word],
 ) -> Result<(), PortFault>
     requires ready { IsReady (tracked F.Medium store.old) table.old }
-    requires at { at < length table.old.files.items }
-    requires found { (contents : List (List ℕ)) (d : Filed) → file_named name (files_on contents table.old.files.items)
-        ≡ Some (body_on contents (slice_index_or table.old.files.items at d)) }
-    ensures writes { Writes (put name words.now table.old.quota) result
+    requires at { found.at < length table.old.files.items }
+    requires found { IsAt found.name found.at table.old.files.items }
+    ensures writes { Writes (put found.name words.now table.old.quota) result
         (tracked F.Medium store.old) (tracked F.Medium store.new) table.old table.new }
     ensures refused { (r : Refusal) → IsErrOf result (PortFault.Refused r)
         → store.new.disk.now ≡ store.old.disk.now }
     ensures same { store.new.disk.ghost_name ≡ store.old.disk.ghost_name }
 {
-    let file = &table.files[at];
+    let file = &table.files[found.at];
     if file.mode >= 2 {
         return Err(PortFault::Refused(Refusal::ReadOnly));
     }
@@ -49,34 +53,32 @@ fn replace_in<F: Medium>(
         Err(StepFault::NoMemory) => return Err(PortFault::NoMemory),
         Err(StepFault::Disk) => return Err(PortFault::Disk),
     };
-    let file = &mut table.files[at];
+    let file = &mut table.files[found.at];
     file.words = words.len() as u64;
     file.tracks = tracks;
     table.used = used;
     Ok(())
 }
 
-/// Words written into the file at a place, from one of its words on, or behind its end.
+/// Words written into a file, from one of its words on, or behind its end.
 fn write_at<F: Medium>(
     alloc: Global,
     table: &mut TrackTable,
     store: &mut TrackStore<'_, F>,
-    name: FileName,
-    at: usize,
+    found: Found,
     place: u64,
     words: &[Word],
 ) -> Result<(), PortFault>
     requires ready { IsReady (tracked F.Medium store.old) table.old }
-    requires at { at < length table.old.files.items }
-    requires found { (contents : List (List ℕ)) (d : Filed) → file_named name (files_on contents table.old.files.items)
-        ≡ Some (body_on contents (slice_index_or table.old.files.items at d)) }
-    ensures writes { Writes (written name place words.now table.old.quota) result
+    requires at { found.at < length table.old.files.items }
+    requires found { IsAt found.name found.at table.old.files.items }
+    ensures writes { Writes (written found.name place words.now table.old.quota) result
         (tracked F.Medium store.old) (tracked F.Medium store.new) table.old table.new }
     ensures refused { (r : Refusal) → IsErrOf result (PortFault.Refused r)
         → store.new.disk.now ≡ store.old.disk.now }
     ensures same { store.new.disk.ghost_name ≡ store.old.disk.ghost_name }
 {
-    let file = &table.files[at];
+    let file = &table.files[found.at];
     if file.mode >= 2 {
         return Err(PortFault::Refused(Refusal::ReadOnly));
     }
@@ -94,7 +96,7 @@ fn write_at<F: Medium>(
         Err(StepFault::NoMemory) => return Err(PortFault::NoMemory),
         Err(StepFault::Disk) => return Err(PortFault::Disk),
     };
-    let file = &mut table.files[at];
+    let file = &mut table.files[found.at];
     file.words = len;
     file.tracks = tracks;
     table.used = used;
@@ -179,7 +181,7 @@ pub(crate) fn put_in<F: Medium>(
     let Some(at) = table.place(name) else {
         return make(alloc, table, store, name, words);
     };
-    replace_in(alloc, table, store, name, at, words)
+    replace_in(alloc, table, store, Found { name, at }, words)
 }
 
 /// Writes words from a place on. At place 0 an absent file is made.
@@ -204,7 +206,7 @@ pub(crate) fn write_in<F: Medium>(
         }
         return Err(PortFault::Refused(Refusal::NoFile));
     };
-    write_at(alloc, table, store, name, at, place, words)
+    write_at(alloc, table, store, Found { name, at }, place, words)
 }
 
 /// Writes words behind a file's end. An absent file is made.
@@ -226,5 +228,5 @@ pub(crate) fn append_in<F: Medium>(
         return make(alloc, table, store, name, words);
     };
     let end = table.files[at].words;
-    write_at(alloc, table, store, name, at, end, words)
+    write_at(alloc, table, store, Found { name, at }, end, words)
 }

@@ -3,3 +3,6 @@ pub mod Following
 pub mod Media
 pub mod Starts
 pub mod Finishes
+pub mod Parts
+pub mod Beginnings
+pub mod Texts

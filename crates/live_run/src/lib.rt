@@ -1,9 +1,11 @@
-//! A run of the supervisor with its users' cores, as a core that consoles are served from.
+//! A run of the supervisor with its users' cores, as a core that consoles are served from; and what it has in common
+//! with the run of a script (`laws`).
 //!
 //! The definitions stand in `specs/`: `Media`, `Starts`, `Calls` and `Finishes`.
 #![tactic(auto)]
 
 mod ending;
+pub mod laws;
 mod run;
 mod start;
 

@@ -11,7 +11,7 @@ use Rattle.user_cores.specs.Backing.{BackState}
 use Rattle.supervisor.specs.Whole.{Whole}
 use Rattle.supervisor.proofs.Counting.{counted_on}
 use Rattle.live_run.specs.Calls.{Follows}
-use Rattle.live_laws.specs.Parts.{all_events, calls_of}
+use Rattle.live_run.specs.Parts.{all_events, calls_of}
 use Rattle.console_server.specs.History.{heard_in, events_in}
 use Rattle.live_serve.specs.Live.{parts_from}
 

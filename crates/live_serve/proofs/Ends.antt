@@ -23,13 +23,13 @@ use Rattle.system_model.specs.Cases.{closed, end_notes, idle_notes}
 use Rattle.system_model.proofs.CaseLaws.{closes}
 use Rattle.system_model.proofs.RunLaws.{after_none}
 use Rattle.supervisor.specs.Whole.{Whole, Advances, run_of, run_apart}
-use Rattle.live_laws.specs.Beginnings.{IsBeginning}
+use Rattle.live_run.specs.Beginnings.{IsBeginning}
 use Rattle.live_run.specs.Calls.{Follows, run_over}
 use Rattle.live_run.specs.Starts.{Begins}
-use Rattle.live_laws.specs.Parts.{run_in, live_script, calls_of}
-use Rattle.live_laws.proofs.Calls.{calls_are_runs, calls_are_counted, all_taken}
-use Rattle.live_laws.proofs.InParts.{live_runs_are_replays}
-use Rattle.live_laws.proofs.Records.{counted_at_end, ends_joined}
+use Rattle.live_run.specs.Parts.{run_in, live_script, calls_of}
+use Rattle.live_run.proofs.Calls.{calls_are_runs, calls_are_counted, all_taken}
+use Rattle.live_run.proofs.InParts.{live_runs_are_replays}
+use Rattle.live_run.proofs.Records.{counted_at_end, ends_joined}
 use Rattle.console_server.specs.History.{heard_in, events_in}
 use Rattle.console_link.specs.Links.{LinkSeen}
 use Rattle.console_server.specs.Server.{CutAt}

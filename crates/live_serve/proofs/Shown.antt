@@ -11,11 +11,11 @@ use Rattle.live_core.specs.Core.{CoreSeen, CoreCall}
 use Rattle.live_run.specs.Calls.{Follows}
 use Rattle.live_run.specs.Media.{MediaSeen}
 use Rattle.live_run.specs.Starts.{Begins}
-use Rattle.live_laws.specs.Parts.{Part, AreInOrder, all_events, calls_of, live_script}
-use Rattle.live_laws.specs.Texts.{texts_in}
-use Rattle.live_laws.proofs.Calls.{calls_show_texts}
-use Rattle.live_laws.proofs.LiveTexts.{live_texts_are_replayed}
-use Rattle.live_laws.proofs.TextsInParts.{late_events_show_nothing}
+use Rattle.live_run.specs.Parts.{Part, AreInOrder, all_events, calls_of, live_script}
+use Rattle.live_run.specs.Texts.{texts_in}
+use Rattle.live_run.proofs.Calls.{calls_show_texts}
+use Rattle.live_run.proofs.LiveTexts.{live_texts_are_replayed}
+use Rattle.live_run.proofs.TextsInParts.{late_events_show_nothing}
 use Rattle.console_server.specs.Turns.{Desk, events_of_turn, desk_after}
 use Rattle.console_server.specs.History.{heard_in, events_in}
 use Rattle.console_server.specs.Conversation.{TurnSeen, HasShown, AreShown, events_of_turns, texts_behind}

@@ -8,7 +8,7 @@ use Rattle.console_wire.specs.Items.{items_from}
 use Rattle.console_server.specs.Readings.{Gave, bytes_of, timed, all_timed}
 use Rattle.console_server.specs.Turns.{Talk, Desk, HeardOf, TurnAnswers, if_over, events_heard, all_events_heard, dial, dials, free_from, seats_with, hangs, events_of_turn, seats_to_read, desk_after}
 use Rattle.console_server.specs.Conversation.{TurnSeen, events_of_turns}
-use Rattle.live_laws.specs.Parts.{AreInOrder}
+use Rattle.live_run.specs.Parts.{AreInOrder}
 use Rattle.live_serve.specs.Live.{parts_from}
 
 pub late_both : (limit : ℕ) (es fs : List Timed) → AreLate limit es → AreLate limit fs → AreLate limit (es ++ fs)

@@ -14,8 +14,8 @@ use Rattle.supervisor.specs.Seen.{record_so_far, without_files}
 use Rattle.supervisor.specs.Counts.{IsCounted, IsCountedToLoad, calls_to_load}
 use Rattle.supervisor.specs.Steps.{LoadIsNext}
 use Rattle.live_run.specs.Media.{MediaSeen}
-use Rattle.live_laws.specs.Parts.{Part, run_in, live_script}
-use Rattle.live_laws.specs.Beginnings.{IsBeginning}
+use Rattle.live_run.specs.Parts.{Part, run_in, live_script}
+use Rattle.live_run.specs.Beginnings.{IsBeginning}
 use Rattle.time_sharing.specs.System.{Entry}
 use Rattle.console_link.specs.Links.{LinkSeen, Done as DidCall}
 use Rattle.console_server.specs.Readings.{DidAll}

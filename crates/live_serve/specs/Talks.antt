@@ -6,7 +6,7 @@ use Rattle.ctss_types.specs.declared.script.Timed.{Timed}
 use Rattle.system_model.specs.Run.{Run}
 use Rattle.system_model.specs.Record.{start_of}
 use Rattle.console_texts.specs.Watching.{texts_to}
-use Rattle.live_laws.specs.Parts.{live_script}
+use Rattle.live_run.specs.Parts.{live_script}
 use Rattle.console_link.specs.Links.{LinkSeen, Done, DidOpen, DidClose}
 use Rattle.console_server.specs.declared.fault.ServeFault.{ServeFault}
 use Rattle.live_core.specs.Core.{CoreSeen, CoreCall, Took}

@@ -12,4 +12,4 @@ mod talking;
 
 pub use ending::Served;
 pub use fault::ServingFault;
-pub use serving::serve;
+pub use serving::{Listening, serve};

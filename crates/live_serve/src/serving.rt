@@ -27,6 +27,13 @@ use std::alloc::Global;
 use supervisor::Supervisor;
 use user_cores::Backing;
 
+/// Where people connect, and for how many turns.
+#[derive(Clone, Copy)]
+pub struct Listening {
+    pub port: u16,
+    pub turns: u32,
+}
+
 /// How a run ended whose turns ended so. A fault of the listener leaves none.
 fn run_ended(ended: Result<(), ServeFault>) -> Result<Result<(), RunFault>, ServingFault>
     ensures run { IfOk result (λ run. RunEnds ended run) }
@@ -96,11 +103,10 @@ fn host<C: Backing + Drop, L: Link>(
     run: LiveRun<C>,
     wrote: Result<(), StepFault>,
     tables: Tables,
-    port: u16,
-    turns: u32,
+    listening: Listening,
     link: &mut L,
 ) -> Hosted<C>
-    requires turns { turns ≤ 100000 }
+    requires turns { listening.turns ≤ 100000 }
     requires unused { AreUnused tables }
     requires open { OnOk wrote (run.supervisor.ended ≡ false) }
     requires usable { ¬ IsErrOf wrote StepFault.Disk → C.Usable run.cores }
@@ -108,7 +114,7 @@ fn host<C: Backing + Drop, L: Link>(
     ensures hosts { (base : Script) (was now : MediaSeen)
         → IsBegun base was wrote (whole_of run.supervisor (C.state run.cores))
         → IsBehind (C.Lies result.behind) (C.state result.behind) now
-        → Hosts base port turns was now (L.seen link.old) (L.seen link.new) result.served }
+        → Hosts base listening.port listening.turns was now (L.seen link.old) (L.seen link.new) result.served }
     ensures link { result.served ≡ Err ServingFault.Link → Rose (L.seen link.old).faults (L.seen link.new).faults }
     ensures keeps { C.Keeps run.cores result.behind }
 {
@@ -117,7 +123,7 @@ fn host<C: Backing + Drop, L: Link>(
         let served = end_unbegun(alloc, supervisor, fault);
         return Hosted { behind, served };
     }
-    if link.open(port).is_err() {
+    if link.open(listening.port).is_err() {
         let (_, behind) = run.into_parts();
         return Hosted {
             behind,
@@ -128,7 +134,7 @@ fn host<C: Backing + Drop, L: Link>(
         core,
         events,
         ended,
-    } = talk(tables, run, turns, link);
+    } = talk(tables, run, listening.turns, link);
     let (supervisor, mut behind) = core.into_parts();
     let served = end(alloc, supervisor, &mut behind, events, ended);
     Hosted { behind, served }
@@ -139,26 +145,27 @@ fn host<C: Backing + Drop, L: Link>(
 pub fn serve<D: Medium, F: Medium, L: Link>(
     alloc: Global,
     base: &Script,
-    port: u16,
-    turns: u32,
+    listening: Listening,
     drum: &mut D,
     disk: &mut F,
     link: &mut L,
 ) -> Result<Served, ServingFault>
     requires lawful { IsLawful base.now }
-    requires turns { turns ≤ 100000 }
+    requires turns { listening.turns ≤ 100000 }
     requires drum { Serves (D.contents drum.old) (D.record_count drum.old) (D.words_each drum.old) 3840 }
     requires disk { Holds (F.contents disk.old) (F.record_count disk.old) (F.words_each disk.old) 10000 }
-    ensures served { IfOk result (IsServed base.now port turns (media_seen D.Medium F.Medium drum.old disk.old)
-        (media_seen D.Medium F.Medium drum.new disk.new) (L.seen link.old) (L.seen link.new)) }
-    ensures spent { OnErr result (HasSpent base.now port turns (media_seen D.Medium F.Medium drum.old disk.old)
-        (media_seen D.Medium F.Medium drum.new disk.new) (L.seen link.old) (L.seen link.new)) }
+    ensures served { IfOk result (IsServed base.now listening.port listening.turns
+        (media_seen D.Medium F.Medium drum.old disk.old) (media_seen D.Medium F.Medium drum.new disk.new)
+        (L.seen link.old) (L.seen link.new)) }
+    ensures spent { OnErr result (HasSpent base.now listening.port listening.turns
+        (media_seen D.Medium F.Medium drum.old disk.old) (media_seen D.Medium F.Medium drum.new disk.new)
+        (L.seen link.old) (L.seen link.new)) }
     ensures link { result ≡ Err ServingFault.Link → Rose (L.seen link.old).faults (L.seen link.new).faults }
 {
     let new = NewRun::new(alloc, base)?;
     let tables = Tables::new(alloc)?;
     let Begun { run, wrote } = begin(new, base, drum, disk);
-    let Hosted { behind, served } = host(alloc, run, wrote, tables, port, turns, link);
+    let Hosted { behind, served } = host(alloc, run, wrote, tables, listening, link);
     let (cores, files) = behind.into_parts();
     let _ = cores.back();
     let _ = files.back();

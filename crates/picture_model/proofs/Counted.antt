@@ -9,8 +9,7 @@ use Rattle.time_sharing.specs.System.{SystemState, World, Timed, Service, Consol
 use Rattle.user_model.specs.Session.{user_rows}
 use Rattle.user_model.specs.User.{User}
 use Rattle.plan_model.specs.Plan.{Plan}
-use Rattle.system_model.specs.Round.{round}
-use Rattle.system_model.specs.Run.{Run, State, next, run_to, ended, measure}
+use Rattle.system_model.specs.Run.{world, Run, State, next, run_to, ended, measure}
 use Rattle.system_model.specs.Record.{start_of, record_of}
 use Rattle.system_model.proofs.RunLaws.{measure_next, run_to_next, run_to_done}
 use Rattle.picture_model.specs.Cores.{load_tick, load_ticks, owners_shown, owners_of}
@@ -54,7 +53,7 @@ module _ (r : Run) where
   M = machine user_rows
 
   abbrev W : World User Plan (List FileBody)
-  W = round r.swap r.common r.accounts
+  W = world r
 
   stopped_adds : (v : Option Service) (u : ℕ) (s : State) → Adds s (theory.stop_served_of M W v u s)
   stopped_adds None u s = record { more = []; entries = sym (append-nil s.entries) }
@@ -174,14 +173,14 @@ end_loads : (r : Run) → loads (ended r).system.entries ≡ loads r.system.entr
 unfolding ended
 end_loads r = by_service r.system.service
   where
-    by_idling : (s : State) (i : Option ℕ) → loads (theory.end_idling_of (machine user_rows) (round r.swap r.common r.accounts) i s).entries ≡ loads s.entries
+    by_idling : (s : State) (i : Option ℕ) → loads (theory.end_idling_of (machine user_rows) (world r) i s).entries ≡ loads s.entries
     by_idling s None = refl
     by_idling s (Some from) = loads-one s.entries (Idle from s.clock) refl
 
-    by_service : (v : Option Service) → loads (let t = theory.end_open (machine user_rows) (round r.swap r.common r.accounts) v r.system in theory.end_idling_of (machine user_rows) (round r.swap r.common r.accounts) t.idling t).entries ≡ loads r.system.entries
+    by_service : (v : Option Service) → loads (let t = theory.end_open (machine user_rows) (world r) v r.system in theory.end_idling_of (machine user_rows) (world r) t.idling t).entries ≡ loads r.system.entries
     by_service None = by_idling r.system r.system.idling
     by_service (Some v) =
-        let t : State = theory.end_service (machine user_rows) (round r.swap r.common r.accounts) theory.AtEnd v r.system in
+        let t : State = theory.end_service (machine user_rows) (world r) theory.AtEnd v r.system in
         by_idling t t.idling ∙ loads-one r.system.entries (Serve v.tick v.user v.level v.ran theory.AtEnd) refl
 
 pub as_many_as_loads : AsManyAsLoads

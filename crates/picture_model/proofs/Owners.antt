@@ -10,8 +10,7 @@ use Rattle.user_model.specs.Session.{user_rows}
 use Rattle.user_model.specs.User.{User}
 use Rattle.plan_model.specs.Loads.{Places}
 use Rattle.plan_model.specs.Plan.{Plan, places_after}
-use Rattle.system_model.specs.Round.{round}
-use Rattle.system_model.specs.Run.{Run, State, next, measure, due_of}
+use Rattle.system_model.specs.Run.{world, Run, State, next, measure, due_of}
 use Rattle.system_model.specs.Runs.{Passes}
 use Rattle.system_model.proofs.PassLaws.{passes_keep}
 use Rattle.system_model.proofs.RunLaws.{measure_next}
@@ -100,7 +99,7 @@ module _ (limit : ℕ) (r : Run) where
   M = machine user_rows
 
   abbrev W : theory.World User Plan (List Rattle.ctss_types.specs.declared.file.FileBody.FileBody)
-  W = round r.swap r.common r.accounts
+  W = world r
 
   -- whatever the queues become
   plan_keeps : (q : Plan) (u : ℕ) (cause : Option Cause) (p : User) (now : ℕ) → (theory.plan_after M W q u cause p now).places ≡ q.places

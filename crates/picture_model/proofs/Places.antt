@@ -1,7 +1,7 @@
 -- Places join as ticks do.
 use Rattle.std.proofs.Common.{◌≡◌, ℕ, ◌+◌, ◌-◌, ◌*◌, ◌≤◌, List, [], ◌∷◌, refl, ap, ◌∙◌, subst, arith}
 use Rattle.ctss_types.specs.declared.history.Entry.{Entry}
-use Rattle.ctss_types.specs.declared.history.Entry.TheVariants.{Taken, Login, Refused, Idle, Swap, Rise, Serve, Clock, Common}
+use Rattle.ctss_types.specs.declared.history.Entry.TheVariants.{Taken, Idle, Swap, Serve, Common}
 use Rattle.system_model.specs.Record.{record_of}
 use Rattle.record_laws.specs.Spans.{Span, spans, JoinFrom}
 use Rattle.record_laws.proofs.Loaded.{ticks_join}
@@ -51,11 +51,8 @@ joined swap (Idle from until ∷ es) now last cut within h =
           (joined swap es until last (cut + (until - from - 52)) (omega (arith, within, here, forward)) h.1),
     )
 joined swap (Taken tick console kind user own ∷ es) now last cut within h = passed swap es now last cut (joined swap es now last cut within h)
-joined swap (Login tick console user ∷ es) now last cut within h = passed swap es now last cut (joined swap es now last cut within h)
-joined swap (Refused tick console cause ∷ es) now last cut within h = passed swap es now last cut (joined swap es now last cut within h)
-joined swap (Rise tick user level ∷ es) now last cut within h = passed swap es now last cut (joined swap es now last cut within h)
-joined swap (Clock answer user ∷ es) now last cut within h = passed swap es now last cut (joined swap es now last cut within h)
 joined swap (Common user op reply ∷ es) now last cut within h = passed swap es now last cut (joined swap es now last cut within h)
+joined swap (_ ∷ es) now last cut within h = passed swap es now last cut (joined swap es now last cut within h)
 
 pub places_join : PlacesJoin
 places_join script =

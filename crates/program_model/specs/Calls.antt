@@ -1,5 +1,5 @@
 -- claim: supervisor entries: how the arguments of a call are read, and what an answer leaves in the registers.
-use Rattle.std.specs.Prelude.{ℕ, ◌+◌, ◌-◌, ◌%◌, ◌^◌, Bool, false, ◌&&◌, nat_eq, nat_lt, nat_le, if◌then◌else◌, List, length, slice_index, codes, Option, Some, None, Ok, Err}
+use Rattle.std.specs.Prelude.{ℕ, ◌+◌, ◌-◌, ◌%◌, ◌^◌, Bool, false, ◌&&◌, nat_eq, nat_lt, nat_le, if◌then◌else◌, List, [], ◌∷◌, length, slice_index, codes, Option, Some, None, Ok, Err}
 use Rattle.std.specs.declared.result.Result.{Result}
 use Rattle.word36.specs.Bits.{address_of, decrement_of, magnitude_of}
 use Rattle.ctss_types.specs.Names.{NamePair}
@@ -7,7 +7,8 @@ use Rattle.ctss_types.specs.Words.{name_of}
 use Rattle.cpu_regs.specs.declared.regs.Regs.{Regs}
 use Rattle.cpu_regs.specs.Registers.{xr}
 use Rattle.program_model.specs.declared.Call.{Call}
-use Rattle.program_model.specs.declared.Call.TheVariants.{ReadLine, WriteLine, GetTime, GetMemory, SetMemory, FileStat, ReadFile, WriteFile, DeleteFile, RenameFile, ChangeMode, CommonStat, CommonRead, CommonWrite, CommonDelete, Dead, Dormant}
+use Rattle.program_model.specs.declared.Call.TheVariants.{ReadLine, WriteLine, GetTime, GetMemory, SetMemory, FileStat, ReadFile, WriteFile, DeleteFile, RenameFile, ChangeMode, Common, Dead, Dormant}
+use Rattle.program_model.specs.declared.CommonCall.TheVariants as common
 use Rattle.program_model.specs.declared.EntryFault.{EntryFault}
 use Rattle.program_model.specs.declared.EntryFault.TheVariants.{NoSuchEntry, Outside}
 
@@ -69,39 +70,55 @@ mode_call r core =
     with_word core (behind_call r 1) (λ n. with_word core (behind_call r 2) (λ m.
     with_file core (address_of n) (λ name. Ok (ChangeMode name (address_of m)))))
 
+-- an entry by its name as a word, and its call of a program with these registers and this core
+abbrev pub Entry : Type 0
+Entry = ℕ × (Regs → List ℕ → Result Call EntryFault)
+
 -- the entries that ask for something of a common file
-abbrev pub call_of_common : Regs → List ℕ → ℕ → Result Call EntryFault
-call_of_common r core name =
-    if nat_eq name (name_of (codes "CFSTAT")) then file_call r core (λ file. CommonStat file)
-    else (if nat_eq name (name_of (codes "CRDFIL")) then transfer_call r core (λ file at count place. CommonRead file at count place)
-    else (if nat_eq name (name_of (codes "CWRFIL")) then transfer_call r core (λ file at count place. CommonWrite file at count place)
-    else (if nat_eq name (name_of (codes "CDELET")) then file_call r core (λ file. CommonDelete file) else Err NoSuchEntry)))
+abbrev pub common_entries : List Entry
+common_entries =
+    (name_of (codes "CFSTAT"), λ r core. file_call r core (λ file. Common (common.Stat file)))
+    ∷ (name_of (codes "CRDFIL"), λ r core. transfer_call r core (λ file at count place. Common (common.Read file at count place)))
+    ∷ (name_of (codes "CWRFIL"), λ r core. transfer_call r core (λ file at count place. Common (common.Write file at count place)))
+    ∷ (name_of (codes "CDELET"), λ r core. file_call r core (λ file. Common (common.Delete file)))
+    ∷ []
 
--- the entries that ask for something of a file
-abbrev pub call_of_file : Regs → List ℕ → ℕ → Result Call EntryFault
-call_of_file r core name =
-    if nat_eq name (name_of (codes "FSTAT")) then file_call r core (λ file. FileStat file)
-    else (if nat_eq name (name_of (codes "RDFILE")) then transfer_call r core (λ file at count place. ReadFile file at count place)
-    else (if nat_eq name (name_of (codes "WRFILE")) then transfer_call r core (λ file at count place. WriteFile file at count place)
-    else (if nat_eq name (name_of (codes "DELETE")) then file_call r core (λ file. DeleteFile file)
-    else (if nat_eq name (name_of (codes "RENAME")) then rename_call r core
-    else (if nat_eq name (name_of (codes "CHMODE")) then mode_call r core else call_of_common r core name)))))
+-- those, and before them the entries that ask for something of a file
+abbrev pub file_entries : List Entry
+file_entries =
+    (name_of (codes "FSTAT"), λ r core. file_call r core (λ file. FileStat file))
+    ∷ (name_of (codes "RDFILE"), λ r core. transfer_call r core (λ file at count place. ReadFile file at count place))
+    ∷ (name_of (codes "WRFILE"), λ r core. transfer_call r core (λ file at count place. WriteFile file at count place))
+    ∷ (name_of (codes "DELETE"), λ r core. file_call r core (λ file. DeleteFile file))
+    ∷ (name_of (codes "RENAME"), λ r core. rename_call r core)
+    ∷ (name_of (codes "CHMODE"), λ r core. mode_call r core)
+    ∷ common_entries
 
--- the entries without arguments
-abbrev pub simple_call : Regs → List ℕ → ℕ → Result Call EntryFault
-simple_call r core name =
-    if nat_eq name (name_of (codes "GETTM")) then Ok GetTime
-    else (if nat_eq name (name_of (codes "GETMEM")) then Ok GetMemory
-    else (if nat_eq name (name_of (codes "DEAD")) then Ok Dead
-    else (if nat_eq name (name_of (codes "DORMNT")) then Ok Dormant else call_of_file r core name)))
+-- those, and before them the entries without arguments
+abbrev pub simple_entries : List Entry
+simple_entries =
+    (name_of (codes "GETTM"), λ r core. Ok GetTime)
+    ∷ (name_of (codes "GETMEM"), λ r core. Ok GetMemory)
+    ∷ (name_of (codes "DEAD"), λ r core. Ok Dead)
+    ∷ (name_of (codes "DORMNT"), λ r core. Ok Dormant)
+    ∷ file_entries
+
+-- all entries
+abbrev pub entries : List Entry
+entries =
+    (name_of (codes "RDFLX"), λ r core. line_call r core (λ at count. ReadLine at count))
+    ∷ (name_of (codes "WRFLX"), λ r core. line_call r core (λ at count. WriteLine at count))
+    ∷ (name_of (codes "SETMEM"), λ r core. with_word core (behind_call r 1) (λ w. Ok (SetMemory (address_of w))))
+    ∷ simple_entries
+
+-- the call of the entry of a name, among those of a list
+abbrev pub call_among : List Entry → Regs → List ℕ → ℕ → Result Call EntryFault
+call_among [] r core name = Err NoSuchEntry
+call_among ((entry, call) ∷ rest) r core name = if nat_eq name entry then call r core else call_among rest r core name
 
 -- the call of an entry by name
 abbrev pub call_of : Regs → List ℕ → ℕ → Result Call EntryFault
-call_of r core name =
-    if nat_eq name (name_of (codes "RDFLX")) then line_call r core (λ at count. ReadLine at count)
-    else (if nat_eq name (name_of (codes "WRFLX")) then line_call r core (λ at count. WriteLine at count)
-    else (if nat_eq name (name_of (codes "SETMEM")) then with_word core (behind_call r 1) (λ w. Ok (SetMemory (address_of w)))
-    else simple_call r core name))
+call_of r core name = call_among entries r core name
 
 -- a value goes to the multiplier-quotient, which else stays
 abbrev pub value_or : Option ℕ → ℕ → ℕ

@@ -5,7 +5,8 @@ use Rattle.ctss_types.specs.Words.{name_of}
 use Rattle.cpu_regs.specs.declared.regs.Regs.{Regs}
 use Rattle.cpu_regs.specs.Registers.{no_registers, set_xr}
 use Rattle.program_model.specs.declared.Deck.{Deck}
-use Rattle.program_model.specs.declared.Call.TheVariants.{ReadLine, WriteLine, GetTime, SetMemory, FileStat, ReadFile, WriteFile, DeleteFile, RenameFile, ChangeMode, CommonStat, CommonRead, CommonWrite, CommonDelete, Dead}
+use Rattle.program_model.specs.declared.Call.TheVariants.{ReadLine, WriteLine, GetTime, SetMemory, FileStat, ReadFile, WriteFile, DeleteFile, RenameFile, ChangeMode, Common, Dead}
+use Rattle.program_model.specs.declared.CommonCall.TheVariants as common
 use Rattle.program_model.specs.declared.EntryFault.TheVariants.{NoSuchEntry, Outside}
 use Rattle.program_model.specs.declared.LoadFault.TheVariants.{NoFile, BadDeck, TooLarge}
 use Rattle.ctss_types.specs.declared.file.Refusal.TheVariants as refusal
@@ -72,10 +73,10 @@ pub record RowOfFileCalls : Type 0 where
   pub second : call_of (called_from 2) (file_core 6 12 0 5) (name_of (codes "RENAME")) ≡ Err (Outside 12)
 
 pub record RowOfCommonCalls : Type 0 where
-  pub stat : call_of (called_from 2) (file_core 6 0 0 5) (name_of (codes "CFSTAT")) ≡ Ok (CommonStat (pair 21 22))
-  pub delete : call_of (called_from 2) (file_core 7 0 0 5) (name_of (codes "CDELET")) ≡ Ok (CommonDelete (pair 22 5))
-  pub read : call_of (called_from 2) (file_core 6 (counted 2 8) 8 5) (name_of (codes "CRDFIL")) ≡ Ok (CommonRead (pair 21 22) 8 2 5)
-  pub written : call_of (called_from 2) (file_core 6 (counted 10 0) 8 0) (name_of (codes "CWRFIL")) ≡ Ok (CommonWrite (pair 21 22) 0 10 0)
+  pub stat : call_of (called_from 2) (file_core 6 0 0 5) (name_of (codes "CFSTAT")) ≡ Ok (Common (common.Stat (pair 21 22)))
+  pub delete : call_of (called_from 2) (file_core 7 0 0 5) (name_of (codes "CDELET")) ≡ Ok (Common (common.Delete (pair 22 5)))
+  pub read : call_of (called_from 2) (file_core 6 (counted 2 8) 8 5) (name_of (codes "CRDFIL")) ≡ Ok (Common (common.Read (pair 21 22) 8 2 5))
+  pub written : call_of (called_from 2) (file_core 6 (counted 10 0) 8 0) (name_of (codes "CWRFIL")) ≡ Ok (Common (common.Write (pair 21 22) 0 10 0))
   -- an address outside comes before the number of words
   pub buffer : call_of (called_from 2) (file_core 6 (counted 433 0) 8 5) (name_of (codes "CRDFIL")) ≡ Err (Outside 0)
   pub unknown : call_of (called_from 2) (file_core 6 0 0 5) (name_of (codes "CRENAM")) ≡ Err NoSuchEntry

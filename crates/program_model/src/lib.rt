@@ -64,32 +64,39 @@ pub enum Call {
         name: FileName,
         mode: u16,
     },
-    /// CFSTAT: the size and the mode of a common file.
-    CommonStat {
-        name: FileName,
-    },
-    /// CRDFIL: so many words of a common file, from a place on, to a buffer.
-    CommonRead {
-        name: FileName,
-        at: u16,
-        count: u16,
-        place: u64,
-    },
-    /// CWRFIL: a buffer to a common file, from a place on.
-    CommonWrite {
-        name: FileName,
-        at: u16,
-        count: u16,
-        place: u64,
-    },
-    /// CDELET: a common file goes.
-    CommonDelete {
-        name: FileName,
-    },
+    /// A call on the common files.
+    Common(CommonCall),
     /// DEAD: the program is over and goes.
     Dead,
     /// DORMNT: the program is over and stays.
     Dormant,
+}
+
+/// What a call asks for of a common file.
+#[derive(Clone, Copy, Debug, PartialEq, Eq)]
+pub enum CommonCall {
+    /// CFSTAT: the size and the mode of a file.
+    Stat {
+        name: FileName,
+    },
+    /// CRDFIL: so many words of a file, from a place on, to a buffer.
+    Read {
+        name: FileName,
+        at: u16,
+        count: u16,
+        place: u64,
+    },
+    /// CWRFIL: a buffer to a file, from a place on.
+    Write {
+        name: FileName,
+        at: u16,
+        count: u16,
+        place: u64,
+    },
+    /// CDELET: a file goes.
+    Delete {
+        name: FileName,
+    },
 }
 
 /// Why a call isn't done. It changes nothing.

@@ -7,7 +7,7 @@ use Rattle.file_map.specs.Known.{known, known_of, whole_is_known}
 use Rattle.ctss_types.specs.declared.file.CommonOp.{CommonOp}
 use Rattle.ctss_types.specs.declared.file.Reply.{Reply}
 use Rattle.file_model.specs.Commons.{left_by, reply_to, files_after}
-use Rattle.common_file.specs.Applied.{IsApplied}
+use Rattle.file_map.specs.Applied.{IsApplied}
 
 files_in : Result (List FileBody) Refusal → List FileBody
 files_in (Ok files) = files

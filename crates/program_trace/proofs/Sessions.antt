@@ -10,8 +10,9 @@ use Rattle.time_sharing.specs.Rows.{some_line}
 use Rattle.program_model.specs.Lines.{with_words}
 use Rattle.program_model.specs.declared.ProgramState.TheVariants.{Dead}
 use Rattle.user_model.specs.Inner.{Inner, Stored, recut}
-use Rattle.user_model.specs.Session.{first_state}
+use Rattle.user_model.specs.Session.{first_state, works_in}
 use Rattle.user_model.specs.User.{User, typed, opened, can_step, step, core_after, in_store}
+use Rattle.user_model.proofs.StepLaws.{command_can}
 use Rattle.program_trace.specs.Lone.{TracedUser, tracer, deck_files, begun, stepped}
 
 -- words behind the end are passed over
@@ -79,8 +80,7 @@ listens deck lines =
     (typed_listens p (codes "LOADGO PROGRM") (opened_on (first_state tracer (deck_files deck))) (opened_dead (first_state tracer (deck_files deck)) refl))
 
 can_listen : (p : User) → IsListening p → can_step p ≡ true
-unfolding can_step
-can_listen p h = rw (h.on, h.dead, h.some) refl
+can_listen p h = command_can p (ap works_in h.dead) ∙ rw (h.on, h.some) refl
 
 pub begun_can : (deck : List ℕ) (lines : List Line) → can_step (begun deck lines).user ≡ true
 begun_can deck lines = can_listen (begun deck lines).user (listens deck lines)
@@ -128,10 +128,6 @@ pub all_inner : (p : User) (ls : List Line) → (all_typed p ls).inner ≡ p.inn
 unfolding all_typed
 all_inner p [] = refl
 all_inner p (l ∷ ls) = all_inner (typed l p) ls ∙ typed_inner p l
-
-pub none_typed : (p : User) (ls : List Line) → p ≡ all_typed p (take 0 ls)
-unfolding all_typed
-none_typed p ls = refl
 
 pub one_typed : (p : User) (ls : List Line) (i : ℕ) (l : Line) → i < length ls → l ≡ get_or ls i l → typed l (all_typed p (take i ls)) ≡ all_typed p (take (i + 1) ls)
 unfolding all_typed
@@ -197,9 +193,13 @@ is_begun deck lines =
     ap (λ (p : User). record { user = p; common = [] })
     (stored_all (record { core = []; files = deck_files deck }) asked lines ∙ ap (λ (q : User). all_typed q lines) (stored_asked (deck_files deck)))
 
-pub asked_is : (s t u : User) (l : Line) → s ≡ first_state tracer [] → t ≡ opened s → l ≡ codes "LOADGO PROGRM" → u ≡ typed l t → u ≡ all_typed asked []
-unfolding asked all_typed
+pub asked_is : (s t u : User) (l : Line) → s ≡ first_state tracer [] → t ≡ opened s → l ≡ codes "LOADGO PROGRM" → u ≡ typed l t
+    → u ≡ typed (codes "LOADGO PROGRM") (opened (first_state tracer []))
 asked_is s t u l first on is then = then ∙ (λ j. typed (is j) ((on ∙ ap opened first) j))
+
+pub none_typed : (s : User) (lines : List Line) → s ≡ typed (codes "LOADGO PROGRM") (opened (first_state tracer [])) → s ≡ all_typed asked (take 0 lines)
+unfolding asked all_typed
+none_typed s lines is = is
 
 pub no_blocks : (s : User) (ls : List Line) → s ≡ all_typed asked ls → (s.inner.blocks ≡ 0) × (s.inner.account ≡ tracer)
 no_blocks s ls is =

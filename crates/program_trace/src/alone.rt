@@ -13,10 +13,10 @@ ghost use Rattle.program_trace.specs.Lone.{begun, deck_files, tracer, track_quot
 ghost use Rattle.program_trace.specs.Traces.{regs_left};
 ghost use Rattle.program_trace.specs.Steps.{IsTurnBeside};
 
-use common_file::apply;
 use cpu_regs::plain::PlainCore;
 use cpu_regs::{MemoryPort, Regs};
 use ctss_types::{Account, CommonOp, Ending, FileName, Item, LineText, NoMemory, Reply, name_word};
+use file_map::common::apply;
 use file_map::{FilePort, Files, PortFault};
 use std::alloc::Global;
 use std::marker::Model;
@@ -28,7 +28,8 @@ use word36::Word;
 const TRACK_QUOTA: u16 = 1000;
 
 /// A user whose program is run alone: the session, the words of the program, the user's files, and common files that
-/// nobody else has.
+/// nobody else has. It is let go by calls of `drop`: the proof of a function goes through all its parts wherever it is let
+/// go without a call.
 #[derive(Drop)]
 pub(crate) struct ProgramAlone {
     pub(crate) session: Session,
@@ -162,6 +163,19 @@ fn type_line(session: &mut Session, line: LineText)
     }
 }
 
+/// A session in which LOADGO was typed.
+fn asked_session(alloc: Global) -> Result<Session, NoMemory>
+    ensures { IfOk result (λ s. s ≡ typed (codes "LOADGO PROGRM") (opened (first_state tracer []))) }
+{
+    let mut session = Session::new(alloc, &tracer())?;
+    let Ok(()) = session.login() else {
+        drop(session);
+        return Err(NoMemory);
+    };
+    type_line(&mut session, LineText::of(b"LOADGO PROGRM"));
+    Ok(session)
+}
+
 impl ProgramAlone {
     /// A session in which LOADGO was typed, and these lines behind it.
     pub(crate) fn begin(
@@ -172,16 +186,19 @@ impl ProgramAlone {
         requires { length lines.now ≤ 2047 }
         ensures { IfOk result (λ a. a ≡ begun deck.now lines.now) }
     {
-        let mut session = Session::new(alloc, &tracer())?;
-        session.login()?;
-        type_line(&mut session, LineText::of(b"LOADGO PROGRM"));
+        let core = PlainCore::new(alloc, 0)?;
+        let files = deck_files(alloc, deck)?;
+        let Ok(mut session) = asked_session(alloc) else {
+            drop(files);
+            return Err(NoMemory);
+        };
         for line in lines {
             type_line(&mut session, *line);
         }
         Ok(ProgramAlone {
             session,
-            core: PlainCore::new(alloc, 0)?,
-            files: deck_files(alloc, deck)?,
+            core,
+            files,
             common: Files::new(alloc, TRACK_QUOTA),
         })
     }

@@ -1,5 +1,5 @@
 //! What a program does that is run alone.
-ghost use Rattle.std.specs.Prelude.{◌≡◌, ◌≤◌, ◌<◌, ◌^◌, ◌++◌, IfOk, drop, length};
+ghost use Rattle.std.specs.Prelude.{◌≡◌, ◌≤◌, ◌<◌, ◌^◌, ◌++◌, ◌∷◌, [], IfOk, drop, length};
 ghost use Rattle.program_trace.specs.Lone.{TracedUser, gone, loaded};
 ghost use Rattle.program_trace.specs.Traces.{end_of, step_between, steps_from, traced};
 ghost use Rattle.program_trace.specs.Steppings.{found_in};
@@ -55,6 +55,20 @@ fn step_between(alloc: Global, found: &Found, alone: &ProgramAlone) -> Result<Tr
     })
 }
 
+/// Notes the step from what was found to the user behind it.
+fn note_step(
+    alloc: Global,
+    found: &Found,
+    alone: &ProgramAlone,
+    steps: &mut Sequence<TracedStep>,
+) -> Result<(), NoMemory>
+    ensures { (old : TracedUser) → found.now ≡ found_in old
+        → IfOk result (λ _. steps.new ≡ steps.old ++ step_between old alone.now ∷ []) }
+{
+    let step = step_between(alloc, found, alone)?;
+    Ok(steps.push(step)?)
+}
+
 /// Does at most so many steps, and notes them.
 fn go(
     alloc: Global,
@@ -77,7 +91,10 @@ fn go(
             Stepping::Waits(same) => return Ok(same),
             Stepping::Went(next) => next,
         };
-        steps.push(step_between(alloc, &found, &alone)?)?;
+        let Ok(()) = note_step(alloc, &found, &alone, steps) else {
+            drop(alone);
+            return Err(NoMemory);
+        };
         left -= 1;
     }
     Ok(alone)
@@ -90,11 +107,13 @@ fn loaded(alloc: Global, deck: &[Word], lines: &[LineText]) -> Result<ProgramAlo
     ensures early { IfOk result (λ a. a.user.own ≤ 2) }
 {
     let begun = ProgramAlone::begin(alloc, deck, lines)?;
-    let Stepping::Went(asked) = begun.step(alloc)? else {
-        unreachable!()
-    };
-    let mut steps = Sequence::new(alloc);
-    go(alloc, asked, 1, &mut steps)
+    match begun.step(alloc)? {
+        Stepping::Waits(_) => unreachable!(),
+        Stepping::Went(asked) => {
+            let mut steps = Sequence::new(alloc);
+            go(alloc, asked, 1, &mut steps)
+        }
+    }
 }
 
 /// How a program is left.
@@ -103,11 +122,18 @@ fn end_of(alloc: Global, alone: ProgramAlone) -> Result<TraceEnd, NoMemory>
     ensures { IfOk result (λ end. end ≡ end_of alone) }
 {
     if !alone.works() {
+        drop(alone);
         return Ok(TraceEnd::Stopped);
     }
     match alone.step(alloc)? {
-        Stepping::Waits(_) => Ok(TraceEnd::Waits),
-        Stepping::Went(_) => Ok(TraceEnd::Unfinished),
+        Stepping::Waits(same) => {
+            drop(same);
+            Ok(TraceEnd::Waits)
+        }
+        Stepping::Went(next) => {
+            drop(next);
+            Ok(TraceEnd::Unfinished)
+        }
     }
 }
 

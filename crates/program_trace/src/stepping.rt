@@ -4,13 +4,22 @@ ghost use Rattle.program_trace.specs.Steppings.{IsStepping};
 
 use crate::alone::{ProgramAlone, settled, step_beside};
 use ctss_types::NoMemory;
+use file_map::Files;
 use std::alloc::Global;
+use user_session::Session;
 
 /// A step was done, or none can be.
 #[derive(Drop)]
 pub(crate) enum Stepping {
     Waits(ProgramAlone),
     Went(ProgramAlone),
+}
+
+/// Lets go what a user is made of.
+fn let_go(session: Session, files: Files, common: Files) {
+    drop(session);
+    drop(files);
+    drop(common);
 }
 
 impl ProgramAlone {
@@ -26,7 +35,11 @@ impl ProgramAlone {
             mut common,
         } = self;
         let now = session.own();
-        let Some(step) = step_beside(&mut session, &mut core, &mut files, &mut common, now)? else {
+        let Ok(told) = step_beside(&mut session, &mut core, &mut files, &mut common, now) else {
+            let_go(session, files, common);
+            return Err(NoMemory);
+        };
+        let Some(step) = told else {
             return Ok(Stepping::Waits(ProgramAlone {
                 session,
                 core,
@@ -34,7 +47,10 @@ impl ProgramAlone {
                 common,
             }));
         };
-        let core = settled(alloc, core, step.ending, session.blocks())?;
+        let Ok(core) = settled(alloc, core, step.ending, session.blocks()) else {
+            let_go(session, files, common);
+            return Err(NoMemory);
+        };
         Ok(Stepping::Went(ProgramAlone {
             session,
             core,

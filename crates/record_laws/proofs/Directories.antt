@@ -17,9 +17,9 @@ use Rattle.file_model.specs.Commons.{left_by, files_after}
 use Rattle.file_model.specs.Owned.{files_of}
 use Rattle.text_model.specs.Drafts.{quota_of}
 use Rattle.text_model.specs.Reading.{IsInRange}
-use Rattle.user_model.specs.Session.{user_rows, asks_common_in, no_account}
+use Rattle.user_model.specs.Session.{user_rows, next_of, asks_common_at, no_account}
 use Rattle.user_model.specs.User.{User}
-use Rattle.system_model.specs.Round.{round}
+use Rattle.system_model.specs.World.{world_with}
 use Rattle.system_model.specs.Record.{record_of, first_of_user}
 use Rattle.system_model.proofs.AloneLaws.{users_are_alone, commons_are_one}
 use Rattle.record_laws.specs.Rules.{KeepsRules}
@@ -48,7 +48,7 @@ each_keeps account =
     record {
       step = λ p t r h.
           still_ruled account p ((machine user_rows).step p t r)
-          (any_step_keeps (asks_common_in p.inner.state p.inner (line_of user_rows p)) p.inner (line_of user_rows p)
+          (any_step_keeps (asks_common_at (next_of p.inner) p.inner (line_of user_rows p)) (next_of p.inner) p.inner (line_of user_rows p)
           (suc p.own - own_at_command_of user_rows p) (one_less (line_of user_rows p) p.fed) t r) h;
       typed = λ p l h. h;
       opened = λ p h. h;
@@ -109,7 +109,7 @@ operation_keeps quota files operation h = by_operation operation
 
 -- any operations one after another
 operations_keep : (swap common : ℕ) (accounts : List Account) (operations : List CommonOp) (files : List FileBody)
-    → KeepsRules common files → KeepsRules common (files_left (round swap common accounts) files operations)
+    → KeepsRules common files → KeepsRules common (files_left (world_with swap common accounts) files operations)
 operations_keep swap common accounts [] files h = h
 operations_keep swap common accounts (o ∷ os) files h =
     operations_keep swap common accounts os (files_after common files o) (operation_keeps common files o h)

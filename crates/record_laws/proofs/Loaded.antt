@@ -13,7 +13,7 @@ use Rattle.user_model.proofs.WentLaws.{went_stays}
 use Rattle.plan_model.specs.Plan.{Plan, first_plan, must_load, places_cut}
 use Rattle.plan_model.specs.Loads.{Places, count_below, is_in, is_loaded, given_up}
 use Rattle.plan_model.specs.Levels.{Levels, dropped}
-use Rattle.system_model.specs.Round.{round}
+use Rattle.system_model.specs.World.{world_with}
 use Rattle.system_model.specs.Run.{run_to, ended, measure}
 use Rattle.system_model.specs.Record.{users_from, start_of, record_of, consoles}
 use Rattle.record_laws.specs.Worlds.{StaysLoaded, Costs}
@@ -66,7 +66,7 @@ cut_stays levels p u v n Spent other h = still_loaded p u v n other h
 cut_stays levels p u v n End other h = h
 
 module _ (swap common : ℕ) (accounts : List Account) where
-  stays_loaded : StaysLoaded (machine user_rows) (round swap common accounts)
+  stays_loaded : StaysLoaded (machine user_rows) (world_with swap common accounts)
   unfolding step ending
   stays_loaded =
       record {
@@ -80,7 +80,7 @@ module _ (swap common : ℕ) (accounts : List Account) where
             cut_stays (dropped v plan.levels) plan.places u v (blocks_of q.inner) kind other h;
       }
 
-  costs : Costs swap (round swap common accounts)
+  costs : Costs swap (world_with swap common accounts)
   costs plan u p = refl
 
 pub ticks_join : TicksJoin
@@ -88,7 +88,7 @@ unfolding record_of start_of run_to ended measure
 ticks_join script =
     let p = script.params in
     let accounts = script.accounts in
-    cover.all_ticks_join User Plan (List FileBody) (machine user_rows) (round p.swap p.common accounts) p.swap
+    cover.all_ticks_join User Plan (List FileBody) (machine user_rows) (world_with p.swap p.common accounts) p.swap
     (stays_loaded p.swap p.common accounts) (costs p.swap p.common accounts)
     (users_from 1 accounts script.files) [] (first_plan p.wq p.quantum p.age) consoles script.end
     (measure script.end (start_of script)) script.events

@@ -12,18 +12,14 @@ use Rattle.ctss_types.specs.Words.{words_of}
 use Rattle.file_model.specs.declared.Stat.{Stat}
 use Rattle.file_model.specs.Files.{file_named, stat, read, got, written, put, appended, renamed, deleted, moded}
 use Rattle.machine_model.specs.Step.{Step, went, halt, entry, illegal, outside}
-use Rattle.machine_model.specs.Machine.{step_of}
 use Rattle.program_model.specs.declared.Call.{Call}
-use Rattle.program_model.specs.declared.Call.TheVariants.{ReadLine, WriteLine, GetTime, GetMemory, SetMemory, FileStat, ReadFile, WriteFile, DeleteFile, RenameFile, ChangeMode as ChangesMode, CommonStat, CommonRead, CommonWrite, CommonDelete, Dead as EndsDead, Dormant as EndsDormant}
+use Rattle.program_model.specs.declared.Call.TheVariants.{ReadLine, WriteLine, SetMemory, FileStat, ReadFile, WriteFile, DeleteFile, RenameFile, ChangeMode as ChangesMode, Common}
 use Rattle.program_model.specs.declared.EntryFault.{EntryFault}
 use Rattle.program_model.specs.declared.EntryFault.TheVariants.{NoSuchEntry, Outside}
 use Rattle.program_model.specs.declared.LoadFault.{LoadFault}
 use Rattle.program_model.specs.declared.Deck.{Deck}
-use Rattle.program_model.specs.declared.Fill.{Fill}
-use Rattle.program_model.specs.declared.ProgramState.{ProgramState}
-use Rattle.program_model.specs.declared.ProgramState.TheVariants.{Dead, Dormant, Working}
 use Rattle.program_model.specs.declared.DebugLine.{DebugLine}
-use Rattle.program_model.specs.declared.DebugLine.TheVariants.{Break, Clear, Go, Look, Regs, Set, End as Ends, Bad}
+use Rattle.program_model.specs.declared.DebugLine.TheVariants.{Break, Clear, Set}
 use Rattle.program_model.specs.declared.ComRefusal.{ComRefusal}
 use Rattle.program_model.specs.Calls.{call_of, is_line_count}
 use Rattle.program_model.specs.CommandLines.{command_lines}
@@ -41,12 +37,12 @@ use Rattle.link_model.specs.ModuleCards as modules
 use Rattle.link_model.specs.ModuleCards.{ModuleMade, module_made, is_relocatable}
 use Rattle.user_model.specs.Inner.{Inner}
 use Rattle.user_model.specs.declared.Command.{Command}
-use Rattle.user_model.specs.declared.Command.TheVariants.{Empty, Logout, LoadGo, List as Lists, Print, Rename, Delete, ChangeMode, Input, CopyTo, CopyFrom, Assemble, Link, Start, Save, Resume, Registers, WordAt, Debug, RunFile, BadArguments, Unknown}
+use Rattle.user_model.specs.declared.Command.TheVariants.{Logout, LoadGo, Rename, Delete, ChangeMode, Input, Assemble, Link, Start, Save, Resume, Registers, WordAt, Debug, RunFile}
 use Rattle.user_model.specs.Requests.{command_of}
 use Rattle.user_model.specs.Debugger.{debug_row, if_inside, with_breaks}
 use Rattle.user_model.specs.Commands.{CommandLine, command_file, lines_added, file_run, command_row, command_replied, copy_target, words_copied, prepared, resumed, is_dormant, if_dormant, cards_name, assembly_put, module_put, cards_assembled, modules_in, linked_put, changed, input_made, input_begun, input_row, line_entered}
-use Rattle.user_model.specs.Programs.{at_break, run_row, step_row, step_replied, entry_row, entry_replied, call_row, call_replied, reply_taken, file_told, file_read, files_changed, program_row, program_replied}
-use Rattle.user_model.specs.Session.{act_in, act_by, replied_in, line_replied, line_row, inner_cut}
+use Rattle.user_model.specs.Programs.{step_row, step_replied, entry_row, entry_replied, call_row, call_replied, common_arguments, common_buffer, reply_taken, file_told, file_read, files_changed}
+use Rattle.user_model.specs.Session.{Next, AtDebugger, AtInput, AtCommand, AtInstruction, by_line, act_at, replied_at, act_by, inner_cut}
 use Rattle.record_laws.specs.Rules.{KeepsRules}
 use Rattle.record_laws.proofs.Changes.{Gives, lasting_keep, written_keeps, appended_keeps, put_keeps, renamed_keeps, deleted_keeps, moded_keeps}
 
@@ -90,8 +86,6 @@ call_keeps : (c : Call) (i : Inner) (l : Option Line) (n t : ℕ) → Keeps i (c
 call_keeps (ReadLine at count) i None n t = either_way (is_line_count count) i _ _ (refl, λ h. h) (refl, λ h. h)
 call_keeps (ReadLine at count) i (Some l) n t = either_way (is_line_count count) i _ _ (refl, λ h. h) (refl, λ h. h)
 call_keeps (WriteLine at count) i l n t = either_way (is_line_count count) i _ _ (refl, λ h. h) (refl, λ h. h)
-call_keeps GetTime i l n t = (refl, λ h. h)
-call_keeps GetMemory i l n t = (refl, λ h. h)
 call_keeps (SetMemory blocks) i l n t =
     either_way (nat_eq blocks 0 || nat_lt i.account.blocks blocks) i _ _ (refl, λ h. h)
     (either_way (nat_eq blocks i.blocks) i _ _ (refl, λ h. h) (refl, λ h. h))
@@ -106,12 +100,7 @@ call_keeps (RenameFile name to) i l n t =
     files_keep i 2 (renamed name to i.files) (renamed_keeps name to i.account.tracks i.files)
 call_keeps (ChangesMode name mode) i l n t =
     files_keep i 2 (moded name mode i.files) (moded_keeps name mode i.account.tracks i.files)
-call_keeps (CommonStat name) i l n t = (refl, λ h. h)
-call_keeps (CommonRead name at count place) i l n t = (refl, λ h. h)
-call_keeps (CommonWrite name at count place) i l n t = (refl, λ h. h)
-call_keeps (CommonDelete name) i l n t = (refl, λ h. h)
-call_keeps EndsDead i l n t = (refl, λ h. h)
-call_keeps EndsDormant i l n t = (refl, λ h. h)
+call_keeps _ i l n t = (refl, λ h. h)
 
 -- an entry of the supervisor
 entry_keeps : (call : Result Call EntryFault) (i : Inner) (l : Option Line) (n t : ℕ) → Keeps i (entry_row call i l n t)
@@ -126,16 +115,6 @@ step_keeps (halt r core) i l n t = (refl, λ h. h)
 step_keeps (entry w) i l n t = entry_keeps (call_of i.regs i.core w) i l n t
 step_keeps illegal i l n t = (refl, λ h. h)
 step_keeps (outside a) i l n t = (refl, λ h. h)
-
--- a break, or a step of the machine
-run_keeps : (b : Bool) (s : Step) (i : Inner) (l : Option Line) (n t : ℕ) → Keeps i (run_row b s i l n t)
-run_keeps true s i l n t = (refl, λ h. h)
-run_keeps false s i l n t = step_keeps s i l n t
-
--- a step of a program that works
-program_keeps : (f : Option Fill) (i : Inner) (l : Option Line) (n t : ℕ) → Keeps i (program_row f i l n t)
-program_keeps (Some f) i l n t = (refl, λ h. h)
-program_keeps None i l n t = run_keeps (at_break i) (step_of i.regs i.core) i l n t
 
 -- commands, and lines of INPUT
 
@@ -228,11 +207,8 @@ run_file_keeps (Err r) i x n t = (refl, λ h. h)
 
 -- a command that makes no common operation
 command_keeps : (c : Command) (i : Inner) (x : CommandLine) (n t : ℕ) → Keeps i (command_row c i x n t)
-command_keeps Empty i x n t = (refl, λ h. h)
 command_keeps Logout i x n t = (refl, lasting_keep i.account.tracks i.files)
 command_keeps (LoadGo name) i x n t = load_keeps name (deck_of i.account.blocks (got (deck_name name) i.files)) i n t
-command_keeps Lists i x n t = (refl, λ h. h)
-command_keeps (Print name) i x n t = (refl, λ h. h)
 command_keeps (Rename name to) i x n t =
     change_keeps (renamed name to i.files) i n t (renamed_keeps name to i.account.tracks i.files)
 command_keeps (Delete name) i x n t =
@@ -240,8 +216,6 @@ command_keeps (Delete name) i x n t =
 command_keeps (ChangeMode name mode) i x n t =
     change_keeps (moded name mode i.files) i n t (moded_keeps name mode i.account.tracks i.files)
 command_keeps (Input name) i x n t = begun_keeps name (file_named name i.files) i n t
-command_keeps (CopyTo name) i x n t = (refl, λ h. h)
-command_keeps (CopyFrom name) i x n t = (refl, λ h. h)
 command_keeps (Assemble name) i x n t = cards_keep name (got (cards_name name) i.files) i n t
 command_keeps (Link name) i x n t = linked_keeps name (files_linked (modules_in x.line) i.files) i n t
 command_keeps Start i x n t = dormant_keeps _ i n t (refl, λ h. h)
@@ -253,8 +227,7 @@ command_keeps Registers i x n t = dormant_keeps _ i n t (refl, λ h. h)
 command_keeps (WordAt place) i x n t = dormant_keeps _ i n t (refl, λ h. h)
 command_keeps Debug i x n t = dormant_keeps _ i n t (refl, λ h. h)
 command_keeps (RunFile name) i x n t = run_file_keeps (got (command_file name) i.files) i x n t
-command_keeps BadArguments i x n t = (refl, λ h. h)
-command_keeps Unknown i x n t = (refl, λ h. h)
+command_keeps _ i x n t = (refl, λ h. h)
 
 -- lines of the debugger
 
@@ -268,29 +241,25 @@ debug_keeps s (Break a) i n =
     either_way (is_full s.breaks a) i _ _ (refl, λ h. h)
     (inside_keeps a (with_breaks s (with_break s.breaks a) i) i (refl, λ h. h))
 debug_keeps s (Clear a) i n = inside_keeps a (with_breaks s (without_break s.breaks a) i) i (refl, λ h. h)
-debug_keeps s Go i n = (refl, λ h. h)
-debug_keeps s (Look a) i n = (refl, λ h. h)
-debug_keeps s Regs i n = (refl, λ h. h)
 debug_keeps s (Set a v) i n = inside_keeps a (record i { core = with_words i.core a (v ∷ []) }) i (refl, λ h. h)
-debug_keeps s Ends i n = (refl, λ h. h)
-debug_keeps s Bad i n = (refl, λ h. h)
+debug_keeps s _ i n = (refl, λ h. h)
 
 -- any step that makes no common operation
 
--- a line that no program takes
-line_keeps : (debugger : Option Stops) (input : Option NamePair) (l : Line) (i : Inner) (n k t : ℕ)
-    → Keeps i (line_row debugger input l i n k t)
-line_keeps (Some s) input l i n k t = debug_keeps s (debug_of l) i n
-line_keeps None None l i n k t = command_keeps (command_of l) i (record { line = l; fed = k }) n t
-line_keeps None (Some name) l i n k t = input_keeps name l i n
+-- a step that takes a line, where there is one
+line_keeps : (row : Line → Outcome Inner) (i : Inner) (line : Option Line) → ((l : Line) → Keeps i (row l))
+    → Keeps i (by_line row i line)
+line_keeps row i None h = (refl, λ k. k)
+line_keeps row i (Some l) h = h l
 
--- a step, whatever takes it
-act_keeps : (s : ProgramState) (i : Inner) (l : Option Line) (n k t : ℕ) → Keeps i (act_in s i l n k t)
-act_keeps Dead i None n k t = (refl, λ h. h)
-act_keeps Dead i (Some l) n k t = line_keeps i.debugger i.input l i n k t
-act_keeps Dormant i None n k t = (refl, λ h. h)
-act_keeps Dormant i (Some l) n k t = line_keeps i.debugger i.input l i n k t
-act_keeps Working i l n k t = program_keeps i.fill i l n t
+-- a step, by what comes next
+act_keeps : (x : Next) (i : Inner) (line : Option Line) (n k t : ℕ) → Keeps i (act_at x i line n k t)
+act_keeps (AtDebugger s) i line n k t = line_keeps _ i line (λ l. debug_keeps s (debug_of l) i n)
+act_keeps (AtInput name) i line n k t = line_keeps _ i line (λ l. input_keeps name l i n)
+act_keeps AtCommand i line n k t =
+    line_keeps _ i line (λ l. command_keeps (command_of l) i (record { line = l; fed = k }) n t)
+act_keeps (AtInstruction s) i line n k t = step_keeps s i line n t
+act_keeps _ i line n k t = (refl, λ h. h)
 
 -- steps with a reply
 
@@ -303,10 +272,7 @@ reply_keeps i arguments at (reply.Refused r) = (refl, λ h. h)
 
 -- a call that made a common operation
 call_replied_keeps : (c : Call) (i : Inner) (r : Reply) → Keeps i (call_replied c i r)
-call_replied_keeps (CommonStat name) i r = reply_keeps i 1 0 r
-call_replied_keeps (CommonRead name at count place) i r = reply_keeps i 3 at r
-call_replied_keeps (CommonWrite name at count place) i r = reply_keeps i 3 at r
-call_replied_keeps (CommonDelete name) i r = reply_keeps i 1 0 r
+call_replied_keeps (Common call) i r = reply_keeps i (common_arguments call) (common_buffer call) r
 call_replied_keeps _ i r = (refl, λ h. h)
 
 -- an entry that made one
@@ -322,11 +288,6 @@ step_replied_keeps (entry w) i r = entry_replied_keeps (call_of i.regs i.core w)
 step_replied_keeps illegal i r = (refl, λ h. h)
 step_replied_keeps (outside a) i r = (refl, λ h. h)
 
--- a step of a program that made one
-program_replied_keeps : (f : Option Fill) (i : Inner) (r : Reply) → Keeps i (program_replied f i r)
-program_replied_keeps (Some f) i r = (refl, λ h. h)
-program_replied_keeps None i r = step_replied_keeps (step_of i.regs i.core) i r
-
 -- words of a common file are put
 copied_keeps : (name : Option NamePair) (words : List ℕ) (i : Inner) (n t : ℕ) → Keeps i (words_copied name words i n t)
 copied_keeps (Some name) words i n t = put_row_keeps name words i n t
@@ -339,25 +300,19 @@ command_replied_keeps c i n t (reply.Size k) = (refl, λ h. h)
 command_replied_keeps c i n t (reply.Words words) = copied_keeps (copy_target c) words i n t
 command_replied_keeps c i n t (reply.Refused r) = (refl, λ h. h)
 
--- a line that made one
-line_replied_keeps : (i : Inner) (l : Option Line) (n t : ℕ) (r : Reply) → Keeps i (line_replied i l n t r)
-line_replied_keeps i None n t r = (refl, λ h. h)
-line_replied_keeps i (Some l) n t r = command_replied_keeps (command_of l) i n t r
-
--- any step that made one
-replied_keeps : (s : ProgramState) (i : Inner) (l : Option Line) (n t : ℕ) (r : Reply)
-    → Keeps i (replied_in s i l n t r)
-replied_keeps Dead i l n t r = line_replied_keeps i l n t r
-replied_keeps Dormant i l n t r = line_replied_keeps i l n t r
-replied_keeps Working i l n t r = program_replied_keeps i.fill i r
+-- a step that made one, by what comes next
+replied_keeps : (x : Next) (i : Inner) (line : Option Line) (n t : ℕ) (r : Reply) → Keeps i (replied_at x i line n t r)
+replied_keeps AtCommand i line n t r = line_keeps _ i line (λ l. command_replied_keeps (command_of l) i n t r)
+replied_keeps (AtInstruction s) i line n t r = step_replied_keeps s i r
+replied_keeps _ i line n t r = (refl, λ h. h)
 
 -- any step, and any cut
 
 -- any step
-pub any_step_keeps : (made : Option CommonOp) (i : Inner) (l : Option Line) (n k t : ℕ) (r : Reply)
-    → Keeps i (act_by made i l n k t r)
-any_step_keeps None i l n k t r = act_keeps i.state i l n k t
-any_step_keeps (Some op) i l n k t r = replied_keeps i.state i l n t r
+pub any_step_keeps : (made : Option CommonOp) (x : Next) (i : Inner) (line : Option Line) (n k t : ℕ) (r : Reply)
+    → Keeps i (act_by made x i line n k t r)
+any_step_keeps None x i line n k t r = act_keeps x i line n k t
+any_step_keeps (Some op) x i line n k t r = replied_keeps x i line n t r
 
 -- any cut
 pub cut_keeps : (kind : CutKind) (i : Inner) → KeepsFiles i (inner_cut kind i)

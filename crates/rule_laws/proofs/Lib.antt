@@ -14,3 +14,24 @@ pub mod AssemblyLaws
 pub mod SavedLaws
 pub mod RowsComputed
 mod Operations
+pub mod Spreads
+pub mod Cores
+pub mod Sums
+pub mod Tables
+pub mod Values
+pub mod Shorts
+pub mod Raises
+pub mod Fields
+pub mod Tests
+pub mod Cards
+pub mod Places
+pub mod Steps
+pub mod Cases
+pub mod Moves
+pub mod CardWords
+pub mod Wholes
+pub mod Laid
+pub mod Made
+pub mod Starts
+pub mod Law
+pub mod Fits

@@ -6,3 +6,5 @@ pub mod Assembly
 pub mod SavedPrograms
 pub mod Rows
 pub mod Operations
+pub mod Linked
+pub mod Fitting

@@ -1,4 +1,5 @@
-//! Laws of definitions: beside rules that are written as a walk, what their answers are, in plain words.
+//! Laws of definitions: beside rules that are written as a walk, what their answers are, in plain words; and laws of
+//! modules that are linked (`links`).
 //!
 //! The words of these laws stand in `specs/`: `Levels` (the level that fits), `Words` (the words of instructions),
 //! `Decks` (segments laid end to end, and what they leave in a core), `Cards` (places and symbols), `Assembly` (the
@@ -6,6 +7,7 @@
 //! operations, without the decoder), `Rows` (worked rows). The functions here do nothing: each carries a law or a row.
 #![tactic(auto)]
 
+pub mod links;
 pub mod machine;
 
 ghost use Rattle.rule_laws.specs.Levels.{LevelFits};

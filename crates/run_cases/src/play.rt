@@ -137,23 +137,34 @@ fn fails_of(
     Ok(all)
 }
 
-/// So many records of so many words in memory, of which this is wrong, and of which a call may fail beside, with room for so many calls.
+/// How large a medium is: so many records of so many words, with room for so many calls in its log.
+#[derive(Clone, Copy)]
+struct Extent {
+    records: u16,
+    words: u16,
+    room: u64,
+}
+
+/// A medium in memory, of which this is wrong, and of which a call may fail beside.
 #[tactic(auto, using(crate::proofs::Shapes::told_shape))]
 fn medium_of(
     alloc: Global,
     device: Device,
     faults: &Faults,
     beside: Option<FailingCall>,
-    records: u16,
-    words: u16,
-    room: u64,
+    extent: Extent,
 ) -> Result<MemoryMedium>
     ensures shape { IfOk result (λ m. HasShape (told_rows m.damages m.contents) (length m.contents)) }
-    ensures count { IfOk result (λ m. length m.contents ≡ records) }
-    ensures words { IfOk result (λ m. m.words_each ≡ words) }
+    ensures count { IfOk result (λ m. length m.contents ≡ extent.records) }
+    ensures words { IfOk result (λ m. m.words_each ≡ extent.words) }
 {
-    let damages = damages_of(alloc, faults.damage, words)?;
+    let damages = damages_of(alloc, faults.damage, extent.words)?;
     let fails = fails_of(alloc, device, &faults.fails, beside)?;
+    let Extent {
+        records,
+        words,
+        room,
+    } = extent;
     Ok(MemoryMedium::new(alloc, records, words, &fails, &damages, room)?)
 }
 
@@ -196,9 +207,19 @@ fn media_of(alloc: Global, case: &Case, beside: Option<FailingCall>) -> Result<M
     ensures { IfOk result AreWhole }
 {
     let room = case.drum_calls.unwrap_or(0);
-    let records = medium_of(alloc, Device::Drum, &case.drum, beside, 3840, 256, room)?;
+    let drum_extent = Extent {
+        records: 3840,
+        words: 256,
+        room,
+    };
+    let disk_extent = Extent {
+        records: 10000,
+        words: 432,
+        room: 0,
+    };
+    let records = medium_of(alloc, Device::Drum, &case.drum, beside, drum_extent)?;
     let drum = TellingDrum::new(alloc, records, room)?;
-    let disk = medium_of(alloc, Device::Disk, &case.disk, beside, 10000, 432, 0)?;
+    let disk = medium_of(alloc, Device::Disk, &case.disk, beside, disk_extent)?;
     Ok(Media { drum, disk })
 }
 

@@ -2,8 +2,8 @@
 ghost use Rattle.std.specs.Prelude.{◌≡◌};
 ghost use Rattle.run_listing.specs.Answer.{asked, trace_asked};
 
-use card_fields::number;
 use script_show::ArgList;
+use text_model::fields::number;
 
 /// The most steps of a trace.
 const MOST_STEPS: u32 = 100_000;

@@ -1,10 +1,10 @@
 -- What is drawn of core, a place after another and a load after another.
 use Rattle.std.proofs.Common.{◌≡◌, ◌≢◌, ℕ, suc, ◌+◌, ◌-◌, ◌<◌, ◌≤◌, List, [], ◌∷◌, ◌++◌, length, refl, sym, ap, ◌∙◌, arith}
 use Rattle.ctss_types.specs.declared.history.Entry.{Entry}
-use Rattle.ctss_types.specs.declared.history.Entry.TheVariants.{Taken, Login, Refused, Idle, Swap, Rise, Serve, Clock, Common}
+use Rattle.ctss_types.specs.declared.history.Entry.TheVariants.{Swap, Common}
 use Rattle.picture_model.specs.Folds.{cut_of}
 use Rattle.picture_model.specs.CorePanel.{place_drawn, places_drawn, core_drawn, cores_drawn, next_load, first_owners, owners_after, load_shown, owner_bar, owner_label}
-use Rattle.schedule_chart.proofs.Texts.{one_more, none_left}
+use Rattle.schedule_figures.proofs.Texts.{one_more, none_left}
 
 -- the places from one on
 
@@ -71,11 +71,5 @@ load_is scale zoom users cut last from until owner later e tick user dumped read
 pub no_load : (scale zoom users cut until : ℕ) (owner : ℕ → ℕ) (e : Entry) → ((tick user dumped read fresh : ℕ) → e ≢ Swap tick user dumped read fresh)
     → [] ≡ core_drawn scale zoom users cut until owner e
 no_load scale zoom users cut until owner (Swap tick user dumped read fresh) other = absurd (other tick user dumped read fresh refl)
-no_load scale zoom users cut until owner (Serve tick user level ran cause) other = refl
-no_load scale zoom users cut until owner (Idle from to) other = refl
-no_load scale zoom users cut until owner (Taken tick console kind user own) other = refl
-no_load scale zoom users cut until owner (Login tick console user) other = refl
-no_load scale zoom users cut until owner (Refused tick console cause) other = refl
-no_load scale zoom users cut until owner (Rise tick user level) other = refl
-no_load scale zoom users cut until owner (Clock answer user) other = refl
 no_load scale zoom users cut until owner (Common user op reply) other = refl
+no_load scale zoom users cut until owner _ other = refl

@@ -4,7 +4,7 @@ ghost use Rattle.std.specs.List.{flat_map};
 ghost use Rattle.picture_model.specs.Folds.{cut_of};
 ghost use Rattle.picture_model.specs.Cores.{owner_in};
 ghost use Rattle.picture_model.specs.CorePanel.{core_drawn, core_names, core_panel, cores_drawn, first_owners, load_shown, moved_label, moved_name, next_load, place_name};
-ghost use Rattle.schedule_chart.specs.Maps.{users_of};
+ghost use Rattle.schedule_figures.specs.Maps.{users_of};
 ghost use Rattle.text_writer.specs.Writing.{Adds};
 
 use crate::shape::{Point, add_number_at, add_words, begin_text};
@@ -12,7 +12,7 @@ use crate::sheet::Sheet;
 use crate::stretch::{Span, add_places};
 use ctss_io::Sink;
 use ctss_types::Entry;
-use schedule_chart::{CoreMaps, CorePart, cut_of, place_of};
+use schedule_figures::chart::{CoreMaps, CorePart, cut_of, place_of};
 use text_writer::TextWriter;
 use text_writer::columns::add_number;
 
@@ -24,11 +24,13 @@ struct Moved {
     fresh: u8,
 }
 
-/// How an entry stands in the picture: so many ticks are cut out before it, and the picture has so many places.
+/// How an entry stands in the picture: so many ticks are cut out before it, the picture has so many places, and this load
+/// comes next.
 #[derive(Clone, Copy)]
 struct Standing {
     cut: u128,
     last: u64,
+    next: usize,
 }
 
 /// Adds a number below core, where there is room before the next load.
@@ -78,21 +80,19 @@ fn next_load(last: u64, cut: u128, entries: &[Entry]) -> u64
     last
 }
 
-/// Adds what an entry shows in the rows of core, where this load comes next: it lasts until the next of the entries that come
-/// later.
+/// Adds what an entry shows in the rows of core: a load lasts until the next of the entries that come later.
 fn add_core<K: Sink>(
     out: &mut TextWriter<'_, K>,
     sheet: Sheet,
     standing: Standing,
     maps: &CoreMaps,
-    next: usize,
     entry: &Entry,
     later: &[Entry],
 )
     requires { standing.cut + 2 ^ 64 * length later.now < 2 ^ 128 }
     ensures { Adds K.Sink (core_drawn sheet.scale sheet.zoom sheet.users standing.cut
         (next_load standing.last (standing.cut + cut_of entry.now) later.now)
-        (first_owners (map owner_in (drop next maps.now))) entry.now) out.old out.new }
+        (first_owners (map owner_in (drop standing.next maps.now))) entry.now) out.old out.new }
 {
     if let Entry::Swap {
         tick,
@@ -111,7 +111,7 @@ fn add_core<K: Sink>(
             read: *read,
             fresh: *fresh,
         };
-        add_load(out, sheet, span, moved, maps.behind(next), entry);
+        add_load(out, sheet, span, moved, maps.behind(standing.next), entry);
     }
 }
 
@@ -130,7 +130,7 @@ fn add_loads<K: Sink>(
     let mut next = 0;
     let mut entries = entries;
     'loads: while let Some((entry, later)) = entries.split_first() {
-        add_core(out, sheet, Standing { cut, last }, maps, next, entry, later);
+        add_core(out, sheet, Standing { cut, last, next }, maps, entry, later);
         cut += u128::from(cut_of(entry));
         next = maps.after(entry, next);
         entries = later;

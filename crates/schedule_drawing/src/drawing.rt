@@ -16,7 +16,7 @@ use crate::user::UserRows;
 use crate::wait::add_users;
 use ctss_io::Sink;
 use ctss_types::{Account, Entry, Record, Script};
-use schedule_chart::{CoreMaps, places_in};
+use schedule_figures::chart::{CoreMaps, places_in};
 use schedule_figures::{add_figures, add_time_line};
 use text_writer::TextWriter;
 use text_writer::columns::add_number;

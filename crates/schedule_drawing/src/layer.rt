@@ -6,7 +6,7 @@ ghost use Rattle.text_writer.specs.Writing.{Adds};
 
 use ctss_io::Sink;
 use ctss_types::Entry;
-use schedule_chart::cut_of;
+use schedule_figures::chart::cut_of;
 use text_writer::TextWriter;
 
 /// What is drawn of each entry.

@@ -10,7 +10,7 @@ use crate::shape::{Area, Point, add_bar, add_number_at};
 use crate::sheet::Sheet;
 use ctss_io::Sink;
 use ctss_types::Entry;
-use schedule_chart::{cut_of, place_of};
+use schedule_figures::chart::{cut_of, place_of};
 use text_writer::TextWriter;
 
 /// A service in the row of its level.

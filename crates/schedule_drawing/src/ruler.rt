@@ -8,7 +8,7 @@ use crate::shape::{Area, Point, add_box, add_number_at, begin_text};
 use crate::sheet::Sheet;
 use ctss_io::Sink;
 use ctss_types::Entry;
-use schedule_chart::tick_at;
+use schedule_figures::chart::tick_at;
 use text_writer::TextWriter;
 use text_writer::columns::add_number;
 

@@ -6,9 +6,9 @@ use crate::sheet::Sheet;
 use ctss_io::Sink;
 use ctss_types::Entry;
 use itoa::Integer;
-use report_text::add_entry;
 use text_writer::TextWriter;
 use text_writer::columns::add_number;
+use text_writer::report::add_entry;
 
 /// Where a rectangle lies: its upper left corner, and how wide and how high it is.
 #[derive(Clone, Copy)]

@@ -2,7 +2,7 @@
 ghost use Rattle.std.specs.Prelude.{◌≡◌, ◌≤◌, ◌<◌, ◌+◌, ◌-◌, ◌*◌, ◌^◌};
 ghost use Rattle.picture_model.specs.Cores.{owner_in};
 ghost use Rattle.picture_model.specs.CorePanel.{owner_bar, owner_label, place_drawn, places_drawn, stretch_drawn};
-ghost use Rattle.schedule_chart.specs.Maps.{users_of};
+ghost use Rattle.schedule_figures.specs.Maps.{users_of};
 ghost use Rattle.text_writer.specs.Writing.{Adds};
 
 use crate::label::add_level_label;
@@ -10,7 +10,7 @@ use crate::shape::{Area, Point, add_bar};
 use crate::sheet::Sheet;
 use ctss_io::Sink;
 use ctss_types::Entry;
-use schedule_chart::{CorePart, begins_at, owner_at, stretch_from};
+use schedule_figures::chart::{CorePart, begins_at, owner_at, stretch_from};
 use text_writer::TextWriter;
 
 /// From one place of the picture to another: a load shows core until the next load.

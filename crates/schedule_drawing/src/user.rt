@@ -9,7 +9,7 @@ use crate::shape::{Area, Point, Sign, add_bar, add_sign, add_words};
 use crate::sheet::Sheet;
 use ctss_io::Sink;
 use ctss_types::{Cause, Entry, EventKind};
-use schedule_chart::place_of;
+use schedule_figures::chart::place_of;
 use text_writer::TextWriter;
 
 /// A line that came: its tip is below.

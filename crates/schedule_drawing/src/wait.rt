@@ -11,7 +11,7 @@ use crate::sheet::Sheet;
 use ctss_io::Sink;
 use ctss_types::{Account, Entry};
 use picture_model::Track;
-use schedule_chart::{cut_of, place_of};
+use schedule_figures::chart::{cut_of, place_of};
 use text_writer::TextWriter;
 use text_writer::columns::{add_characters, add_number};
 

@@ -4,3 +4,11 @@ pub mod Visits
 pub mod Worked
 pub mod UserLines
 pub mod Times
+pub mod Kept
+pub mod Left
+pub mod Loads
+pub mod Numbered
+pub mod Painted
+pub mod Places
+pub mod Stretches
+pub mod Texts

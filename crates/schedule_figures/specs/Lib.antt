@@ -4,3 +4,5 @@ pub mod Work
 pub mod Lines
 pub mod Levels
 pub mod Time
+pub mod Maps
+pub mod Painted

@@ -1,9 +1,11 @@
-//! The figures of a schedule, by user, by level and as a whole, and its spans as comma-separated values.
+//! The figures of a schedule, by user, by level and as a whole, its spans as comma-separated values, and its picture in
+//! characters (`chart`).
 #![tactic(auto)]
 
 ghost use Rattle.picture_model.specs.FigureLines.{between, figures_in};
 ghost use Rattle.text_writer.specs.Writing.{Adds};
 
+pub mod chart;
 mod column;
 mod csv;
 mod levels;

@@ -2,9 +2,9 @@ ghost use Rattle.std.specs.Prelude.{◌≡◌};
 ghost use Rattle.std.specs.Option.{option_map};
 ghost use Rattle.text_model.specs.Fields.{text_in, first_number, first_name, is_over, text_behind};
 
-use card_fields::{are_characters, name, number};
 use ctss_types::{LineText, first_word};
 use text_model::CardText;
+use text_model::fields::{are_characters, name, number};
 use word36::Word;
 
 /// A text of characters, without the blanks behind it.

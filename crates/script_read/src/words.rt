@@ -6,9 +6,9 @@ ghost use Rattle.script_read.specs.Drafts.{Enters};
 
 use crate::draft::CardFault;
 use crate::field::is_over;
-use card_fields::octal;
 use ctss_types::{LineText, NoMemory, WordList, first_word, name_word};
 use text_model::ScriptCause;
+use text_model::fields::octal;
 
 /// The most words of an O card.
 const MOST_WORDS: u8 = 5;

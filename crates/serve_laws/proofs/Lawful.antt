@@ -9,7 +9,7 @@ use Rattle.text_model.specs.Lawful.{IsLawful, IsLawfulEvent}
 use Rattle.text_model.proofs.LawfulLaws.{scripts_are_lawful}
 use Rattle.script_read.proofs.Bases.{bases_are_scripts}
 use Rattle.script_laws.proofs.RoundTrip.{canonical_texts_are_read}
-use Rattle.live_laws.specs.Parts.{live_script}
+use Rattle.live_run.specs.Parts.{live_script}
 use Rattle.live_serve.specs.Talks.{empty_desk}
 use Rattle.serve_laws.specs.Laws.{LiveScriptsAreRead}
 use Rattle.serve_laws.proofs.Fine.{IsWhole}

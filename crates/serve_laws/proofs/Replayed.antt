@@ -8,7 +8,7 @@ use Rattle.text_model.specs.Canonical.{script_text_of}
 use Rattle.text_model.specs.Reading.{script_of, max_bytes}
 use Rattle.text_model.specs.Report.{report_of}
 use Rattle.system_model.specs.Record.{record_of}
-use Rattle.live_laws.specs.Parts.{live_script}
+use Rattle.live_run.specs.Parts.{live_script}
 use Rattle.ctss_modes.specs.declared.outcome.Outcome.{Outcome}
 use Rattle.ctss_modes.specs.Devices.{DevicesSeen}
 use Rattle.ctss_modes.specs.Modes.{IsSpelled}

@@ -9,7 +9,7 @@ use Rattle.ctss_io.specs.Outside.{after}
 use Rattle.text_model.specs.declared.mode.Mode.TheVariants.{Replay, Serve}
 use Rattle.console_link.specs.declared.link.CallMade.{CallMade}
 use Rattle.console_link.specs.Links.{LinkSeen, CallList}
-use Rattle.live_laws.specs.Parts.{live_script}
+use Rattle.live_run.specs.Parts.{live_script}
 use Rattle.console_server.specs.Server.{CutAt}
 use Rattle.live_serve.specs.Talks.{IsTalk, IsCutTalk}
 use Rattle.ctss_modes.specs.declared.outcome.Outcome.{Outcome}

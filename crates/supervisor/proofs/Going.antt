@@ -1,5 +1,5 @@
 -- What a step leaves of a run, in parts.
-use Rattle.std.proofs.Common.{◌≡◌, ℕ, List, Ok, Err, refl, sym, ap, subst, ◌∙◌, arith}
+use Rattle.std.proofs.Common.{◌≡◌, List, Err, refl, sym, ap, subst, ◌∙◌}
 use Rattle.std.specs.declared.result.Result.{Result}
 use Rattle.ctss_types.specs.declared.fault.RunFault.{RunFault}
 use Rattle.ctss_types.specs.declared.fault.RunFault.TheVariants.{Drum, Disk, NoMemory}
@@ -12,17 +12,17 @@ use Rattle.system_model.proofs.SwapLaws.{Moves}
 use Rattle.user_cores.specs.Backing.{Held}
 use Rattle.user_cores.specs.declared.backing.Backing.{Ghosts}
 use Rattle.supervisor.specs.Counts.{IsCounted}
-use Rattle.supervisor.specs.Goes.{IsGoing, Leaves, LeavesDevices, WorksOn}
+use Rattle.supervisor.specs.Goes.{IsGoing, LeavesDevices}
 use Rattle.supervisor.specs.Seen.{seen}
 use Rattle.supervisor.specs.Steps.{IsTied, IsHeld, Stays, Ends, Fails, Lasts}
 use Rattle.supervisor.specs.declared.state.State.{State}
 use Rattle.supervisor.proofs.Counting.{counted_same, counted_none}
-use Rattle.supervisor.proofs.Passing.{stands_still}
 use Rattle.supervisor.proofs.Running.{sound_still}
 use Rattle.supervisor.proofs.Serving.{ends_map}
 
 -- the drum's calls, counted from where neither schedule nor calls had changed
-pub counted_from : (r : Result Unit RunFault) (es fs gs : List Entry) (a b c : Option CallList) → fs ≡ es → b ≡ a → Ends r (IsCounted fs gs b c) (IsCounted fs gs b c) ⊤ (IsCounted fs gs b c)
+pub counted_from : (r : Result Unit RunFault) (es fs gs : List Entry) (a b c : Option CallList) → fs ≡ es → b ≡ a
+    → Ends r (IsCounted fs gs b c) (IsCounted fs gs b c) ⊤ (IsCounted fs gs b c)
     → Ends r (IsCounted es gs a c) (IsCounted es gs a c) ⊤ (IsCounted es gs a c)
 counted_from r es fs gs a b c entries calls =
     ends_map r _ _ _ _ _ _ _ _ back back (λ u. u) back
@@ -64,29 +64,6 @@ module _ {C : Type 0} (g : Ghosts C) where
         tied = subst (λ (us : List User). IsTied us (g.state cores).held) (sym (ap (λ (r : Run). r.system.users) is ∙ users)) going.held.tied;
         usable = going.usable;
         keeps = stays;
-        faults = refl;
-        disk = refl;
-      }
-
-  -- what a call leaves that asks nothing of drum and disk, said of one that may: it is done, or memory lacks
-  pub leaves_done : (had has : State) (old new : C) → LeavesDevices g had old has new → Leaves g (Ok tt) had old has new
-  leaves_done had has old new l =
-      record { counted = l.counted; tied = l.tied; usable = l.usable; keeps = l.keeps; faults_grow = (let e = l.faults in omega (arith, e)); disk = (let e = l.disk in omega (arith, e)) }
-
-  pub leaves_no_memory : (had has : State) (old new : C) → LeavesDevices g had old has new → Leaves g (Err NoMemory) had old has new
-  leaves_no_memory had has old new l =
-      record { counted = l.counted; tied = l.tied; usable = l.usable; keeps = l.keeps; faults_grow = (let e = l.faults in omega (arith, e)); disk = (let e = l.disk in omega (arith, e)) }
-
-  -- no step
-  pub works_none : (limit : ℕ) (had : State) (cores : C) → IsGoing g had cores → g.Keeps cores cores → WorksOn g limit had cores had cores
-  works_none limit had cores going stays =
-      record {
-        many = stands_still limit (seen (g.state cores).held.places had) (g.state cores).held;
-        entries = refl;
-        tied = going.held.tied;
-        usable = going.usable;
-        keeps = stays;
-        calls = refl;
         faults = refl;
         disk = refl;
       }

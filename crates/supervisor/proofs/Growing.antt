@@ -7,8 +7,7 @@ use Rattle.time_sharing.specs.System.{SystemState, World}
 use Rattle.time_sharing.specs.Texts.{texts_after, sent, said}
 use Rattle.time_sharing.specs.Rows.{machine}
 use Rattle.user_model.specs.Session.{user_rows}
-use Rattle.system_model.specs.Round.{round}
-use Rattle.system_model.specs.Run.{Run, next}
+use Rattle.system_model.specs.Run.{world, Run, next}
 use Rattle.system_model.specs.Joined.{joined}
 use Rattle.console_texts.specs.Watching.{texts_next}
 use Rattle.user_cores.specs.Backing.{Held}
@@ -38,7 +37,7 @@ module _ {S P F : Type 0} (m : Machine S) (w : World S P F) where
 
 pub next_grow : (limit : ℕ) (r : Run) (texts : List (List ℕ)) → TextsGrow texts (texts_next limit r texts)
 unfolding texts_next
-next_grow limit r texts = after_grow (machine user_rows) (round r.swap r.common r.accounts) 1 r.system (next limit r).system texts
+next_grow limit r texts = after_grow (machine user_rows) (world r) 1 r.system (next limit r).system texts
 
 -- behind a step
 pub step_grow : (limit : ℕ) (old new : Run) (had has : Held) (x y : List (List ℕ)) → Does (next limit) old new had has → GoesOn limit old new x y → TextsGrow x y

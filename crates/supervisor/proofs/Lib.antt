@@ -12,3 +12,4 @@ pub mod Seats
 pub mod Passing
 pub mod Sharing
 pub mod Going
+pub mod Counts

@@ -7,8 +7,7 @@ use Rattle.time_sharing.specs.System as system
 use Rattle.time_sharing.specs.System.{SystemState, World, Timed, Service, Console, Event, Off, On, Password, Session, Dials, Types, Quits, Hangs, state_of, put, without, out_of, consoles_cut, consoles_after}
 use Rattle.user_model.specs.Session.{user_rows}
 use Rattle.user_model.specs.Inner.{Stored}
-use Rattle.system_model.specs.Round.{round}
-use Rattle.system_model.specs.Run.{Run, next}
+use Rattle.system_model.specs.Run.{world, Run, next}
 use Rattle.system_model.specs.Joined.{joined}
 use Rattle.system_model.proofs.PassLaws.{passes_keep}
 use Rattle.user_cores.specs.Backing.{Held}
@@ -110,7 +109,7 @@ module _ {S P F : Type 0} (m : Machine S) (w : World S P F) where
 
 pub next_seats : (limit : ℕ) (r : Run) → length (next limit r).system.consoles ≡ length r.system.consoles
 unfolding next
-next_seats limit r = next_keeps (machine user_rows) (round r.swap r.common r.accounts) limit r.system.events r.system
+next_seats limit r = next_keeps (machine user_rows) (world r) limit r.system.events r.system
 
 joined_seats : (f : ℕ → Stored) (r : Run) → length (joined f r).system.consoles ≡ length r.system.consoles
 unfolding joined

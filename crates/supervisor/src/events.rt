@@ -3,19 +3,19 @@ ghost use Rattle.std.specs.Prelude.{◌≡◌, ◌<◌, ◌≤◌, ◌-◌, ◌�
 ghost use Rattle.time_sharing.specs.System.{Off, On, Password, Session as Inside, Types, LineTaken, Refused};
 ghost use Rattle.plan_model.specs.Levels.{woken};
 ghost use Rattle.plan_model.specs.Loads.{no_places};
-ghost use Rattle.system_model.specs.Round.{line_blocks};
+ghost use Rattle.system_model.specs.World.{line_blocks};
 ghost use Rattle.system_model.specs.Joined.{cut_user};
 ghost use Rattle.system_model.specs.Run.{taken, at_console};
 ghost use Rattle.system_model.specs.Cases.{quit_taken, hang_taken, spent_taken, line_taken, heard, login_taken, dial_taken, user_at};
 ghost use Rattle.system_model.specs.Sound.{Sound, HasSeat};
 ghost use Rattle.supervisor.specs.Seen.{seen, number_of, BecomesIf, StaysIf, LeavesIf, CutsIf};
 
+use crate::accounts::Login;
 use crate::login::{asked, mark_on, password_in};
+use crate::notes::{idle_note, leave_consoles, note, note_some, service_left, stop_note};
 use crate::state::State;
-use accounts::Login;
 use ctss_types::{Console, ConsoleNo, Entry, Event, EventKind, LineText, NoMemory, Timed, UserNo};
 use level_queues::Queues;
-use run_notes::{idle_note, leave_consoles, note, note_some, service_left, stop_note};
 use user_session::{Put, Session};
 use word36::Word;
 

@@ -2,17 +2,18 @@
 ghost use Rattle.std.specs.Prelude.{◌≡◌, ◌<◌, ◌≤◌, ℕ, false, length};
 ghost use Rattle.ctss_types.specs.Words.{words_of};
 ghost use Rattle.time_sharing.specs.System.{at};
-ghost use Rattle.system_model.specs.Round.{asked as asked_in, password_by};
+ghost use Rattle.system_model.specs.World.{asked as asked_in, password_by};
 ghost use Rattle.system_model.specs.Cases.{user_at};
 
-use accounts::{Accounts, split};
-use command_lines::command_table::word_name;
+use crate::accounts::Accounts;
+use crate::words::split;
 use ctss_types::{LineText, UserNo};
+use dialogue::command_table::word_name;
 use user_session::Session;
 use word36::Word;
 
 /// The name that the line LOGIN asks for.
-#[tactic(auto, using(crate::proofs::LoginWords::asked_two, crate::proofs::LoginWords::asked_other), unfolding(system_model::specs::Round::asked))]
+#[tactic(auto, using(crate::proofs::LoginWords::asked_two, crate::proofs::LoginWords::asked_other), unfolding(system_model::specs::World::asked))]
 pub(crate) fn asked(line: &LineText) -> Option<Word>
     ensures { result ≡ asked_in line.now }
 {

@@ -7,11 +7,11 @@ ghost use Rattle.system_model.specs.Run.{with_one_event, due_of};
 ghost use Rattle.system_model.specs.Cases.{closed};
 ghost use Rattle.supervisor.specs.Seen.{seen, bare_of, BecomesIf, StaysIf};
 
-use accounts::Accounts;
+use crate::accounts::Accounts;
+use crate::notes::{end_note, idle_note, note_some};
 use console_texts::Transcripts;
 use ctss_types::{Console, Entry, Event, Item, NoMemory, Service, Timed};
 use level_queues::Queues;
-use run_notes::{end_note, idle_note, note_some};
 use std::collections::VecDeque;
 use user_session::Session;
 

@@ -19,6 +19,15 @@ use level_queues::Chosen;
 use user_cores::{Backing, Made, settle};
 use user_session::Turn;
 
+/// How far a user may go on alone: so many ticks at most, up to the limit, and up to the tick `still`, from which on another
+/// user may rise.
+#[derive(Clone, Copy)]
+struct Stretch {
+    most: u64,
+    limit: u64,
+    still: u64,
+}
+
 /// A user whose session is over gives up its core, and its files of mode 0.
 fn give_up<C: Backing>(cores: &mut C, cut: Option<UserNo>)
     requires usable { C.Usable cores.old }
@@ -194,9 +203,7 @@ impl State {
                 Ok(())
             }
             (None, Some(v)) => {
-                if self.preempt(cores, v).is_err() {
-                    return Err(RunFault::NoMemory);
-                }
+                self.preempt(cores, v)?;
                 Ok(())
             }
             (Some(next), None) => self.attend(
@@ -212,9 +219,7 @@ impl State {
                 if v.user == next.user {
                     return self.attend(cores, v);
                 }
-                if self.preempt(cores, v).is_err() {
-                    return Err(RunFault::NoMemory);
-                }
+                self.preempt(cores, v)?;
                 Ok(())
             }
         }
@@ -230,10 +235,10 @@ impl State {
         ensures leaves { Leaves C.Backing result self.old cores.old self.new cores.new }
     {
         match self.due() {
-            Some(e) => match self.hear(cores, e) {
-                Ok(()) => Ok(()),
-                Err(_) => Err(RunFault::NoMemory),
-            },
+            Some(e) => {
+                self.hear(cores, e)?;
+                Ok(())
+            }
             None => unreachable!(),
         }
     }
@@ -275,9 +280,7 @@ impl State {
             }
         }
         if self.rises() {
-            if self.lift(cores).is_err() {
-                return Err(RunFault::NoMemory);
-            }
+            self.lift(cores)?;
             return Ok(());
         }
         self.go_on(cores, limit)
@@ -309,22 +312,21 @@ impl State {
         cores: &mut C,
         v: Service,
         next: Chosen,
-        most: u64,
-        limit: u64,
-        still: u64,
+        stretch: Stretch,
     ) -> bool
         requires going { IsGoing C.Backing self.old cores.old }
         requires first { IsFirst v next (whole self.old (C.state cores.old)) }
         requires loaded { HasBlocks v.user true (whole self.old (C.state cores.old)) }
-        requires spare { MayPass most v.user next.left limit still (whole self.old (C.state cores.old)) }
-        requires limit { limit ≤ 100000000 }
-        ensures works { WorksOn C.Backing limit self.old cores.old self.new cores.new }
+        requires spare { MayPass stretch.most v.user next.left stretch.limit stretch.still
+            (whole self.old (C.state cores.old)) }
+        requires limit { stretch.limit ≤ 100000000 }
+        ensures works { WorksOn C.Backing stretch.limit self.old cores.old self.new cores.new }
         ensures ready { result ≡ true → IsReady (whole self.new (C.state cores.new)) }
     {
         let session = &mut self.sessions[v.user.index()];
-        let ticks = cores.advance(v.user, session, most);
+        let ticks = cores.advance(v.user, session, stretch.most);
         self.count_ticks(v, ticks);
-        ticks < most
+        ticks < stretch.most
     }
 
     /// Instructions of the user of the service, if it is the head of the lowest level and all its blocks are in core, until
@@ -346,7 +348,7 @@ impl State {
         if most == 0 {
             return false;
         }
-        self.work(cores, v, next, most, limit, still)
+        self.work(cores, v, next, Stretch { most, limit, still })
     }
 
     /// As many instructions of the user of the service as can be done before anything else is to be looked at, one after

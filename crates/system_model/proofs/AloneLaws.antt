@@ -19,10 +19,9 @@ use Rattle.time_sharing.proofs.RowsLaws.{rows_laws}
 use Rattle.user_model.specs.Session.{user_rows, first_state, no_account, nobody}
 use Rattle.user_model.specs.User.{User}
 use Rattle.plan_model.specs.Plan.{Plan, first_plan}
-use Rattle.system_model.specs.Round.{round}
 use Rattle.system_model.specs.Run.{Run, State, AfterSteps, run_to, ended, measure}
 use Rattle.file_model.specs.Owned.{files_of}
-use Rattle.system_model.specs.Record.{users_from, start_of, record_of, first_of_user, alone_of, consoles}
+use Rattle.system_model.specs.Record.{script_world, users_from, start_of, record_of, first_of_user, alone_of, consoles}
 use Rattle.system_model.specs.Claims.{UsersAreAlone, CommonsAreOne, EachMomentIsAlone, FeedsDecide}
 use Rattle.system_model.proofs.CaseLaws.{at_user}
 
@@ -77,7 +76,7 @@ users_are_alone script u pos within =
     inside = omega (arith, users_length 1 script.accounts script.files)
 
     come : whole.IsAlone M (at nobody firsts u) (Rattle.time_sharing.specs.Feeds.feed_of u script.events r.system.entries) p
-    come = isolation M (rows_laws user_rows) (round script.params.swap script.params.common script.accounts) u pos firsts [] (first_plan script.params.wq script.params.quantum script.params.age) consoles script.end
+    come = isolation M (rows_laws user_rows) (script_world script) u pos firsts [] (first_plan script.params.wq script.params.quantum script.params.age) consoles script.end
         (measure script.end (start_of script)) script.events inside (ap (λ (q : User). q.own) (first_is script u pos within))
 
     came : alone_of script (record_of script) u ≡ record { state = p; clocks = []; replies = [] }
@@ -89,7 +88,7 @@ users_are_alone script u pos within =
 pub commons_are_one : CommonsAreOne
 unfolding record_of start_of run_to ended measure
 commons_are_one script =
-    let is = claims.commons_are_one User Plan (List FileBody) (machine user_rows) (round script.params.swap script.params.common script.accounts) (users_from 1 script.accounts script.files) [] (first_plan script.params.wq script.params.quantum script.params.age) consoles script.end
+    let is = claims.commons_are_one User Plan (List FileBody) (machine user_rows) (script_world script) (users_from 1 script.accounts script.files) [] (first_plan script.params.wq script.params.quantum script.params.age) consoles script.end
     (measure script.end (start_of script)) script.events in
     record { replies = is.0; files = is.1 }
 
@@ -109,7 +108,7 @@ unfolding start_of AfterSteps
 each_moment script u r pos within after =
     subst (λ (q : User). IsReached q r.system) (first_is script u pos within)
     (subst (IsReached (at nobody firsts u)) (sym (ap (λ (q : Run). q.system) after.1))
-    (claims.each_moment User Plan (List FileBody) (machine user_rows) (rows_laws user_rows) (round script.params.swap script.params.common script.accounts) u pos firsts [] (first_plan script.params.wq script.params.quantum script.params.age) consoles script.end after.0
+    (claims.each_moment User Plan (List FileBody) (machine user_rows) (rows_laws user_rows) (script_world script) u pos firsts [] (first_plan script.params.wq script.params.quantum script.params.age) consoles script.end after.0
     script.events inside (ap (λ (q : User). q.own) (first_is script u pos within))))
   where
     firsts : List User

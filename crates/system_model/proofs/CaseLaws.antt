@@ -10,8 +10,8 @@ use Rattle.user_model.specs.User.{User, typed, opened, cut, can_step, step, endi
 use Rattle.plan_model.specs.Levels.{chosen, level_in, has_time, charged, dropped, woken}
 use Rattle.plan_model.specs.Plan.{Plan, must_load, places_cut, places_after}
 use Rattle.user_model.specs.Inner.{blocks_of}
-use Rattle.system_model.specs.Round.{round, line_blocks, asked, check}
-use Rattle.system_model.specs.Run.{Run, State, next, taken, at_console, awake, otherwise, attended, by_due, by_rising, rising, rise, due_of, ended}
+use Rattle.system_model.specs.World.{line_blocks, asked, check}
+use Rattle.system_model.specs.Run.{world, Run, State, next, taken, at_console, awake, otherwise, attended, by_due, by_rising, rising, rise, due_of, ended}
 use Rattle.system_model.specs.Cases.{brought, reply_for, levels_after, heard, line_taken, quit_taken, hang_taken, spent_taken, cut_taken, login_taken, dial_taken, idled, broken_off, stepped, waited, user_at, with_user, closed, end_notes, idle_start, idle_notes, stop_notes, not_served}
 
 pub at_user : {X : Type 0} (d : X) (xs : List X) (u : ℕ) → 0 < u → at d xs u ≡ get_or xs (u - 1) d
@@ -26,16 +26,16 @@ pub next_due : (limit : ℕ) (r : Run) → next limit r ≡ by_due limit (due_of
 unfolding next taken otherwise rise
 next_due limit r = by_events r.system.events refl
   where
-    by_who : (o : Option (ℕ × ℕ)) → record r { system = theory.quiet_by (machine user_rows) (round r.swap r.common r.accounts) limit o r.system } ≡ by_rising limit o r
+    by_who : (o : Option (ℕ × ℕ)) → record r { system = theory.quiet_by (machine user_rows) (world r) limit o r.system } ≡ by_rising limit o r
     by_who None = refl
     by_who (Some x) = refl
 
     by_test : (e : Timed) (rest : List Timed) → r.system.events ≡ e ∷ rest → (b : Bool)
-        → record r { system = cond b (theory.taken (machine user_rows) (round r.swap r.common r.accounts) e rest r.system) (theory.quiet (machine user_rows) (round r.swap r.common r.accounts) limit r.system) } ≡ by_due limit (cond b (Some e) None) r
-    by_test e rest is true = ap (λ (es : List Timed). record r { system = theory.taken (machine user_rows) (round r.swap r.common r.accounts) e (drop 1 es) r.system }) (sym is)
+        → record r { system = cond b (theory.taken (machine user_rows) (world r) e rest r.system) (theory.quiet (machine user_rows) (world r) limit r.system) } ≡ by_due limit (cond b (Some e) None) r
+    by_test e rest is true = ap (λ (es : List Timed). record r { system = theory.taken (machine user_rows) (world r) e (drop 1 es) r.system }) (sym is)
     by_test e rest is false = by_who (rising r)
 
-    by_events : (es : List Timed) → r.system.events ≡ es → record r { system = theory.next_by (machine user_rows) (round r.swap r.common r.accounts) limit es r.system } ≡ by_due limit (due_of es r.system.clock) r
+    by_events : (es : List Timed) → r.system.events ≡ es → record r { system = theory.next_by (machine user_rows) (world r) limit es r.system } ≡ by_due limit (due_of es r.system.clock) r
     by_events [] is = by_who (rising r)
     by_events (e ∷ rest) is = by_test e rest is (nat_le e.tick r.system.clock)
 
@@ -43,7 +43,7 @@ abbrev M : Rattle.time_sharing.specs.Machine.Machine User
 M = machine user_rows
 
 abbrev W : Run → theory.World User Plan (List FileBody)
-W r = round r.swap r.common r.accounts
+W r = world r
 
 -- an event that no session hears
 heard_is : (c : ℕ) (kind : EventKind) (now : Console) (more : ℕ → List Entry) (r : Run) → 0 < c

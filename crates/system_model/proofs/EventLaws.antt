@@ -3,7 +3,7 @@ use Rattle.std.proofs.Common.{◌≡◌, ℕ, ◌-◌, ◌<◌, Bool, true, fals
 use Rattle.std.proofs.lemmas.Bool.Decides.{nat_tests}
 use Rattle.time_sharing.specs.Machine.{Line}
 use Rattle.time_sharing.specs.System.{Timed, Console, Off, On, Password, Session, Refused, EventKind, Event, Dials, Types, Quits, Hangs, LineTaken, DialTaken, QuitTaken, HangTaken, max_lines}
-use Rattle.system_model.specs.Round.{asked, check}
+use Rattle.system_model.specs.World.{asked, check}
 use Rattle.system_model.specs.Run.{Run, taken, at_console}
 use Rattle.system_model.specs.Cases.{heard, line_taken, quit_taken, hang_taken, spent_taken, login_taken, dial_taken, user_at}
 use Rattle.system_model.specs.Joined.{cut_user}

@@ -10,14 +10,14 @@ use Rattle.user_model.specs.User.{User, typed, opened, cut, step, ending, asks_c
 use Rattle.plan_model.specs.Levels.{Levels, charged, dropped, woken, has_time, chosen, user_of, sum_of_levels}
 use Rattle.plan_model.specs.Loads.{loaded, dumps, reads, clears}
 use Rattle.plan_model.specs.Plan.{must_load, with_load, move_of, places_after, places_cut}
-use Rattle.system_model.specs.Round.{round, asked, check, line_blocks}
+use Rattle.system_model.specs.World.{asked, check, line_blocks}
 use Rattle.time_sharing.specs.Machine.{Machine}
 use Rattle.time_sharing.specs.Rows.{machine}
 use Rattle.time_sharing.specs.System.{World}
 use Rattle.ctss_types.specs.declared.file.FileBody.{FileBody}
 use Rattle.plan_model.specs.Plan.{Plan}
 use Rattle.time_sharing.specs.Record as whole
-use Rattle.system_model.specs.Run.{Run, taken, at_console, rise, rising, rise_of, raised, measure}
+use Rattle.system_model.specs.Run.{world, Run, taken, at_console, rise, rising, rise_of, raised, measure}
 use Rattle.system_model.specs.Cases.{brought, reply_for, commons_for, levels_after, heard, line_taken, quit_taken, hang_taken, spent_taken, login_taken, dial_taken, idled, broken_off, stepped, waited, idle_notes, stop_notes, not_served, cut_taken, user_at, with_user}
 use Rattle.system_model.specs.Joined.{with_stores, joined, with_store, hung_up, cut_user, stepped_to, counted, moved, at_places}
 use Rattle.system_model.specs.Sound.{Sound, IsUser, HasSeat}
@@ -28,7 +28,7 @@ abbrev M : Machine User
 M = machine user_rows
 
 abbrev W : Run → World User Plan (List FileBody)
-W r = round r.swap r.common r.accounts
+W r = world r
 
 -- lists of users with their words and files
 

@@ -8,7 +8,7 @@ use Rattle.user_model.specs.Texts.{time_text, logged_in_text, logged_out_text, r
 use Rattle.program_model.specs.Decks.{filled}
 use Rattle.opcode_table.specs.Table.{place_with_number}
 use Rattle.user_model.specs.Requests.{command_of}
-use Rattle.system_model.specs.Round.{asked, check}
+use Rattle.system_model.specs.World.{asked, check}
 use Rattle.system_model.specs.Run.{run_to, ended}
 use Rattle.system_model.specs.Record.{record_of, start_of}
 use Rattle.system_model.specs.Rows.{RowOfNobody, RowOfOneUser, RowOfLateUser, RowOfRises}

@@ -15,8 +15,8 @@ use Rattle.user_model.specs.User.{User}
 use Rattle.plan_model.specs.Levels.{Levels, dropped, sum_of_levels}
 use Rattle.plan_model.proofs.RiseLaws.{none-rises, sum-risen, sum-charged, sum-preempted, sum-dropped, sum-entered, sum-again, sum-woken}
 use Rattle.plan_model.specs.Plan.{Plan, must_load, with_load}
-use Rattle.system_model.specs.Round.{round, leaves, line_blocks}
-use Rattle.system_model.specs.Run.{Run, State, next, run_to, measure, AfterSteps}
+use Rattle.system_model.specs.World.{world_with, leaves, line_blocks}
+use Rattle.system_model.specs.Run.{world, Run, State, next, run_to, measure, AfterSteps}
 
 -- a load is done once
 load_is_done : (q : Plan) (u n : ℕ) → must_load (with_load q u n) u n ≡ false
@@ -30,7 +30,7 @@ sum-leaves q u Size p now = omega (arith, sum-entered (blocks_of p.inner) u now 
 sum-leaves q u Preempt p now = omega arith
 sum-leaves q u AtEnd p now = omega arith
 
-pub ends : (swap common : ℕ) (accounts : List Account) → whole.Ends (round swap common accounts)
+pub ends : (swap common : ℕ) (accounts : List Account) → whole.Ends (world_with swap common accounts)
 ends swap common accounts =
     record {
       loaded = λ q u p now. load_is_done q u (blocks_of p.inner);
@@ -47,24 +47,24 @@ ends swap common accounts =
     }
 
 before : Run → ℕ → State → Rattle.std.specs.Prelude.Bool
-before r limit s = whole.clock_is_below (machine user_rows) (round r.swap r.common r.accounts) limit s
+before r limit s = whole.clock_is_below (machine user_rows) (world r) limit s
 
 pub measure_next : (limit : ℕ) (r : Run) → r.system.clock < limit → measure limit (next limit r) < measure limit r
 unfolding next measure
-measure_next limit r h = ending.falls (machine user_rows) (round r.swap r.common r.accounts) (ends r.swap r.common r.accounts) limit r.system (lt-ltb r.system.clock limit h)
+measure_next limit r h = ending.falls (machine user_rows) (world r) (ends r.swap r.common r.accounts) limit r.system (lt-ltb r.system.clock limit h)
 
 pub run_to_next : (limit : ℕ) (r : Run) → r.system.clock < limit → run_to limit (next limit r) ≡ run_to limit r
 unfolding next run_to measure
 run_to_next limit r h = λ i. record r {
   system =
-      laws.whole-step (whole.clock_is_below (machine user_rows) (round r.swap r.common r.accounts) limit) (theory.next (machine user_rows) (round r.swap r.common r.accounts) limit) (whole.measure (machine user_rows) (round r.swap r.common r.accounts) limit) (ending.falls (machine user_rows) (round r.swap r.common r.accounts) (ends r.swap r.common r.accounts) limit) r.system (lt-ltb r.system.clock limit h) i;
+      laws.whole-step (whole.clock_is_below (machine user_rows) (world r) limit) (theory.next (machine user_rows) (world r) limit) (whole.measure (machine user_rows) (world r) limit) (ending.falls (machine user_rows) (world r) (ends r.swap r.common r.accounts) limit) r.system (lt-ltb r.system.clock limit h) i;
 }
 
 pub run_to_done : (limit : ℕ) (r : Run) → limit ≤ r.system.clock → run_to limit r ≡ r
 unfolding run_to measure
 run_to_done limit r h = λ i. record r {
   system =
-      laws.whole-done (whole.clock_is_below (machine user_rows) (round r.swap r.common r.accounts) limit) (theory.next (machine user_rows) (round r.swap r.common r.accounts) limit) (whole.measure (machine user_rows) (round r.swap r.common r.accounts) limit) (ending.falls (machine user_rows) (round r.swap r.common r.accounts) (ends r.swap r.common r.accounts) limit) r.system (le-ltb r.system.clock limit h) i;
+      laws.whole-done (whole.clock_is_below (machine user_rows) (world r) limit) (theory.next (machine user_rows) (world r) limit) (whole.measure (machine user_rows) (world r) limit) (ending.falls (machine user_rows) (world r) (ends r.swap r.common r.accounts) limit) r.system (le-ltb r.system.clock limit h) i;
 }
 
 pub after_next : (limit : ℕ) (old r : Run) → AfterSteps limit old r → r.system.clock < limit → AfterSteps limit old (next limit r)
@@ -72,8 +72,8 @@ unfolding next AfterSteps
 after_next limit old r h up = (
   suc h.0,
   ap (next limit) h.1 ∙ (λ i. record old {
-    system = sym (laws.repeat-last (whole.clock_is_below (machine user_rows) (round old.swap old.common old.accounts) limit) (theory.next (machine user_rows) (round old.swap old.common old.accounts) limit) (whole.measure (machine user_rows) (round old.swap old.common old.accounts) limit) (ending.falls (machine user_rows) (round old.swap old.common old.accounts) (ends old.swap old.common old.accounts) limit) h.0 old.system
-        (ap (λ (q : Run). whole.clock_is_below (machine user_rows) (round old.swap old.common old.accounts) limit q.system) (sym h.1) ∙ lt-ltb r.system.clock limit up)) i;
+    system = sym (laws.repeat-last (whole.clock_is_below (machine user_rows) (world old) limit) (theory.next (machine user_rows) (world old) limit) (whole.measure (machine user_rows) (world old) limit) (ending.falls (machine user_rows) (world old) (ends old.swap old.common old.accounts) limit) h.0 old.system
+        (ap (λ (q : Run). whole.clock_is_below (machine user_rows) (world old) limit q.system) (sym h.1) ∙ lt-ltb r.system.clock limit up)) i;
   }),
 )
 

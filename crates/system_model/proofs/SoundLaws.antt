@@ -14,7 +14,7 @@ use Rattle.user_model.specs.Inner.{blocks_of}
 use Rattle.time_sharing.specs.System as theory
 use Rattle.user_model.specs.Session.{nobody}
 use Rattle.user_model.specs.User.{User, typed, opened, cut, can_step, step, ending, asks_common}
-use Rattle.system_model.specs.Round.{asked, check, account_in, account_with, password_by}
+use Rattle.system_model.specs.World.{asked, check, account_in, account_with, password_by}
 use Rattle.ctss_types.specs.Words.{words_of}
 use Rattle.ctss_types.specs.declared.script.Account.{Account}
 use Rattle.system_model.proofs.CaseLaws.{next_due, taken_at, off_dials, off_types, off_quits, off_hangs, on_dials, on_no_name, on_name, on_quits, on_hangs, asked_dials, wrong_word, already_on, logs_in, asked_quits, asked_hangs, in_dials, in_types, in_spends, in_quits, in_hangs, idles, preempts_none, begins, goes_on, preempts, attended_loads, attended_steps, attended_waits}

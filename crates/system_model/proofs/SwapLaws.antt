@@ -1,7 +1,7 @@
 -- What each case of a step adds to the blocks that the schedule's loads moved.
 use Rattle.std.proofs.Common.{◌≡◌, ℕ, ◌+◌, Bool, true, false, nat_eq, cond, List, [], ◌∷◌, ◌++◌, Option, Some, None, refl, ◌∙◌, arith}
 use Rattle.time_sharing.specs.Machine.{Ending, CutKind, Quit, Hang, Spent, CommonOp, Reply}
-use Rattle.time_sharing.specs.System.{Timed, Service, Console, On, Entry, Taken, Login, Refused, Idle, Swap, Rise, Serve, Clock, Common, EventKind, LineTaken, kind_of, Cause, Stop, cause_of, service_entry, clock_entry, common_entry}
+use Rattle.time_sharing.specs.System.{Timed, Service, Console, On, Entry, Taken, Refused, Swap, Serve, Common, EventKind, LineTaken, kind_of, Cause, Stop, cause_of, service_entry, clock_entry, common_entry}
 use Rattle.plan_model.specs.Levels.{has_time}
 use Rattle.system_model.specs.Run.{Run, taken, rise, rising, rise_of, raised}
 use Rattle.system_model.specs.Cases.{user_at, idle_notes, stop_notes, heard, line_taken, quit_taken, hang_taken, spent_taken, cut_taken, login_taken, dial_taken, idled, broken_off, waited}
@@ -15,26 +15,14 @@ use Rattle.system_model.proofs.EventLaws.{by_event}
 pub dumped-append : (xs ys : List Entry) → dumped_in (xs ++ ys) ≡ dumped_in xs + dumped_in ys
 dumped-append [] ys = omega arith
 dumped-append (Swap tick user dumped read fresh ∷ xs) ys = omega (arith, dumped-append xs ys)
-dumped-append (Taken tick console kind user own ∷ xs) ys = dumped-append xs ys
-dumped-append (Login tick console user ∷ xs) ys = dumped-append xs ys
-dumped-append (Refused tick console cause ∷ xs) ys = dumped-append xs ys
-dumped-append (Idle from until ∷ xs) ys = dumped-append xs ys
-dumped-append (Rise tick user level ∷ xs) ys = dumped-append xs ys
-dumped-append (Serve tick user level ran cause ∷ xs) ys = dumped-append xs ys
-dumped-append (Clock answer user ∷ xs) ys = dumped-append xs ys
 dumped-append (Common user op reply ∷ xs) ys = dumped-append xs ys
+dumped-append (_ ∷ xs) ys = dumped-append xs ys
 
 pub read-append : (xs ys : List Entry) → read_in (xs ++ ys) ≡ read_in xs + read_in ys
 read-append [] ys = omega arith
 read-append (Swap tick user dumped read fresh ∷ xs) ys = omega (arith, read-append xs ys)
-read-append (Taken tick console kind user own ∷ xs) ys = read-append xs ys
-read-append (Login tick console user ∷ xs) ys = read-append xs ys
-read-append (Refused tick console cause ∷ xs) ys = read-append xs ys
-read-append (Idle from until ∷ xs) ys = read-append xs ys
-read-append (Rise tick user level ∷ xs) ys = read-append xs ys
-read-append (Serve tick user level ran cause ∷ xs) ys = read-append xs ys
-read-append (Clock answer user ∷ xs) ys = read-append xs ys
 read-append (Common user op reply ∷ xs) ys = read-append xs ys
+read-append (_ ∷ xs) ys = read-append xs ys
 
 -- a schedule gained loads that moved so many blocks
 pub record Moves (had has : List Entry) (dumped read : ℕ) : Type 0 where

@@ -10,8 +10,8 @@ use Rattle.plan_model.specs.Levels.{Levels, has_time, charged, dropped, woken, p
 use Rattle.plan_model.specs.Plan.{with_load, move_of, places_after, places_cut}
 use Rattle.time_sharing.specs.System as theory
 use Rattle.ctss_types.specs.declared.file.FileBody.{FileBody}
-use Rattle.system_model.specs.Round.{round, leaves, line_blocks}
-use Rattle.system_model.specs.Run.{Run}
+use Rattle.system_model.specs.World.{leaves, line_blocks}
+use Rattle.system_model.specs.Run.{world, Run}
 
 abbrev pub user_at : ℕ → List User → User
 user_at u users = get_or users (u - 1) nobody
@@ -144,10 +144,10 @@ brought u r =
 
 -- what the common files reply to an operation, if one is made, and what they are behind it
 abbrev pub reply_for : Run → Option CommonOp → Reply
-reply_for r made = theory.reply_for (machine user_rows) (round r.swap r.common r.accounts) r.system.files made
+reply_for r made = theory.reply_for (machine user_rows) (world r) r.system.files made
 
 abbrev pub commons_for : Run → Option CommonOp → List FileBody
-commons_for r made = theory.files_for (machine user_rows) (round r.swap r.common r.accounts) r.system.files made
+commons_for r made = theory.files_for (machine user_rows) (world r) r.system.files made
 
 -- a user step that ends a service by this cause, if any
 abbrev pub stepped_by : Option Cause → Service → Run → Run

@@ -1,4 +1,4 @@
-pub mod Round
+pub mod World
 pub mod Run
 pub mod Cases
 pub mod Sound

@@ -2,18 +2,20 @@
 use Rattle.std.specs.Prelude.{◌≡◌, ℕ, suc, ◌-◌, ◌<◌, ◌≤◌, List, [], ◌∷◌, length, map, get_or}
 use Rattle.ctss_types.specs.declared.script.Script.{Script}
 use Rattle.ctss_types.specs.declared.script.Account.{Account}
+use Rattle.ctss_types.specs.declared.file.FileBody.{FileBody}
 use Rattle.ctss_types.specs.declared.file.OwnedFile.{OwnedFile}
 use Rattle.ctss_types.specs.declared.history.Record.{Record}
 use Rattle.time_sharing.specs.Private.{Alone, alone}
 use Rattle.time_sharing.specs.Feeds.{feed_of}
 use Rattle.time_sharing.specs.Commons.{operations_of, replies_of, common_run, files_left}
 use Rattle.time_sharing.specs.Rows.{machine}
+use Rattle.time_sharing.specs.System.{World}
 use Rattle.time_sharing.specs.Record as whole
 use Rattle.user_model.specs.Session.{user_rows, first_state, no_account}
 use Rattle.user_model.specs.User.{User}
-use Rattle.plan_model.specs.Plan.{first_plan}
+use Rattle.plan_model.specs.Plan.{Plan, first_plan}
 use Rattle.file_model.specs.Owned.{files_of}
-use Rattle.system_model.specs.Round.{round}
+use Rattle.system_model.specs.World.{world_with}
 use Rattle.system_model.specs.Run.{Run, run_to, ended}
 
 -- the users of the accounts, numbered from u on
@@ -24,6 +26,10 @@ users_from u (a ∷ accounts) owned = first_state a (files_of u owned) ∷ users
 abbrev pub consoles : ℕ
 consoles = 32
 
+-- what is round the users of a script
+abbrev pub script_world : Script → World User Plan (List FileBody)
+script_world script = world_with script.params.swap script.params.common script.accounts
+
 -- the state before any step, with the script's events
 unfoldable pub start_of : Script → Run
 start_of script =
@@ -31,7 +37,7 @@ start_of script =
       swap = script.params.swap;
       common = script.params.common;
       accounts = script.accounts;
-      system = whole.start (machine user_rows) (round script.params.swap script.params.common script.accounts) (users_from 1 script.accounts script.files) [] (first_plan script.params.wq script.params.quantum script.params.age) consoles script.events;
+      system = whole.start (machine user_rows) (script_world script) (users_from 1 script.accounts script.files) [] (first_plan script.params.wq script.params.quantum script.params.age) consoles script.events;
     }
 
 -- what a run leaves
@@ -70,5 +76,5 @@ EachIsAlone script rec = (u : ℕ) → 0 < u → u ≤ length script.accounts �
 -- the replies in a record are those of one list of files, empty at first, to its operations in order; and its common files are
 -- what that list is then
 pub record IsOneList (script : Script) (rec : Record) : Type 0 where
-  pub replies : replies_of rec.entries ≡ common_run (round script.params.swap script.params.common script.accounts) [] (operations_of rec.entries)
-  pub files : rec.common ≡ files_left (round script.params.swap script.params.common script.accounts) [] (operations_of rec.entries)
+  pub replies : replies_of rec.entries ≡ common_run (script_world script) [] (operations_of rec.entries)
+  pub files : rec.common ≡ files_left (script_world script) [] (operations_of rec.entries)

@@ -4,13 +4,13 @@ use Rattle.ctss_types.specs.declared.script.Account.{Account}
 use Rattle.ctss_types.specs.declared.file.FileBody.{FileBody}
 use Rattle.time_sharing.specs.Rows.{machine}
 use Rattle.time_sharing.specs.System as theory
-use Rattle.time_sharing.specs.System.{SystemState, Timed, Service, Console, Event, Cause, Off, Rise, at, served_of}
+use Rattle.time_sharing.specs.System.{World, SystemState, Timed, Service, Console, Event, Cause, Off, Rise, at, served_of}
 use Rattle.time_sharing.specs.Record as whole
 use Rattle.user_model.specs.Session.{user_rows}
 use Rattle.user_model.specs.User.{User}
 use Rattle.plan_model.specs.Levels.{chosen, user_of, riser, goes_up, risen}
 use Rattle.plan_model.specs.Plan.{Plan}
-use Rattle.system_model.specs.Round.{round}
+use Rattle.system_model.specs.World.{world_with}
 
 abbrev pub State : Type 0
 State = SystemState User Plan (List FileBody)
@@ -22,21 +22,25 @@ pub record Run : Type 0 where
   pub accounts : List Account
   pub system : State
 
+-- what is round its users
+abbrev pub world : Run → World User Plan (List FileBody)
+world r = world_with r.swap r.common r.accounts
+
 -- one step below the limit
 unfoldable pub next : ℕ → Run → Run
-next limit r = record r { system = theory.next (machine user_rows) (round r.swap r.common r.accounts) limit r.system }
+next limit r = record r { system = theory.next (machine user_rows) (world r) limit r.system }
 
 -- all steps below the limit
 unfoldable pub run_to : ℕ → Run → Run
-run_to limit r = record r { system = whole.run_to (machine user_rows) (round r.swap r.common r.accounts) limit r.system }
+run_to limit r = record r { system = whole.run_to (machine user_rows) (world r) limit r.system }
 
 -- falls with each step
 unfoldable pub measure : ℕ → Run → ℕ
-measure limit r = whole.measure (machine user_rows) (round r.swap r.common r.accounts) limit r.system
+measure limit r = whole.measure (machine user_rows) (world r) limit r.system
 
 -- new is old after some whole steps
 unfoldable pub AfterSteps : ℕ → Run → Run → Type 0
-AfterSteps limit old new = (n : ℕ) × (new ≡ record old { system = whole.iterate (machine user_rows) (round old.swap old.common old.accounts) limit n old.system })
+AfterSteps limit old new = (n : ℕ) × (new ≡ record old { system = whole.iterate (machine user_rows) (world old) limit n old.system })
 
 -- one more event behind those that are left
 unfoldable pub with_one_event : Timed → Run → Run
@@ -48,7 +52,7 @@ with_all_events events r = record r { system = whole.with_events events r.system
 
 -- an open service and open idling end
 unfoldable pub ended : Run → Run
-ended r = record r { system = theory.ended (machine user_rows) (round r.swap r.common r.accounts) r.system }
+ended r = record r { system = theory.ended (machine user_rows) (world r) r.system }
 
 -- the parts of a step
 
@@ -58,20 +62,20 @@ due_of [] now = None
 due_of (e ∷ rest) now = if nat_le e.tick now then Some e else None
 
 unfoldable pub taken : Timed → Run → Run
-taken e r = record r { system = theory.taken (machine user_rows) (round r.swap r.common r.accounts) e (drop 1 r.system.events) r.system }
+taken e r = record r { system = theory.taken (machine user_rows) (world r) e (drop 1 r.system.events) r.system }
 
 -- idling ended, and the event gone
 abbrev pub awake : Run → State
-awake r = theory.end_idling_of (machine user_rows) (round r.swap r.common r.accounts) r.system.idling (record r.system { events = drop 1 r.system.events })
+awake r = theory.end_idling_of (machine user_rows) (world r) r.system.idling (record r.system { events = drop 1 r.system.events })
 
 unfoldable pub at_console : ℕ → Console → Event → Run → Run
-at_console c console event r = record r { system = theory.at_console (machine user_rows) (round r.swap r.common r.accounts) c console event (awake r) }
+at_console c console event r = record r { system = theory.at_console (machine user_rows) (world r) c console event (awake r) }
 
 unfoldable pub otherwise : ℕ → Option ℕ → Option Service → Run → Run
-otherwise limit user service r = record r { system = theory.otherwise (machine user_rows) (round r.swap r.common r.accounts) limit user service r.system }
+otherwise limit user service r = record r { system = theory.otherwise (machine user_rows) (world r) limit user service r.system }
 
 unfoldable pub attended : Service → Run → Run
-attended v r = record r { system = theory.attended (machine user_rows) (round r.swap r.common r.accounts) v r.system }
+attended v r = record r { system = theory.attended (machine user_rows) (world r) v r.system }
 
 -- a user rises to a level
 unfoldable pub rise : ℕ → (level : ℕ) → Run → Run

@@ -4,3 +4,4 @@ pub mod Files
 pub mod InRange
 pub mod LawfulLaws
 pub mod RowsComputed
+pub mod FieldDigits

@@ -2,8 +2,8 @@
 //!
 //! The definitions stand in `specs/`: `Fields`, `Cards` (the forms of cards), `Drafts` (what each card adds, or why it is
 //! refused), `Reading` (the script of bytes), `Canonical`, `Lawful` (the rules of cards), `Made`, `Report`, `Summary`,
-//! `Words`, and worked rows in `Rows`. The types of cards and causes are here, and functions that do nothing: each
-//! carries a law.
+//! `Words`, and worked rows in `Rows`. The types of cards and causes are here, the reading of one field of a card
+//! (`fields`), and functions that do nothing: each carries a law.
 #![tactic(auto)]
 
 ghost use Rattle.text_model.specs.Reading.{ScriptsAreInRange};
@@ -12,6 +12,7 @@ ghost use Rattle.text_model.specs.Rows.{RowOfScript, RowOfRefusals, RowOfFile, R
 
 mod card;
 mod cause;
+pub mod fields;
 mod mode;
 
 pub use card::{CardEvent, CardText, EventCard, FileCard, ParamCard, UserCard};

@@ -1,9 +1,9 @@
 use crate::written::written;
 use ctss_types::{Cause, Entry, EventKind, Item, Record, Sequence, Transcripts};
-use report_text::Summary;
 use script_read::read_script;
 use std::alloc::Global;
 use std::test::Fail;
+use text_writer::report::Summary;
 
 /// A script of two accounts.
 const SCRIPT: &[u8] = b"PARAM 1024 100 10 16 40 5\n\

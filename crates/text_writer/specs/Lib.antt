@@ -1,2 +1,4 @@
 pub mod Writing
 pub mod Lines
+pub mod Sums
+pub mod ReportLines

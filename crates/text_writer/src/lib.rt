@@ -1,5 +1,5 @@
-//! Texts on their way to a sink, piece by piece, in the parts that lines are made of; and words of the machine
-//! as cards.
+//! Texts on their way to a sink, piece by piece, in the parts that lines are made of; words of the machine as cards;
+//! and the report of a script's record (`report`).
 #![tactic(auto)]
 
 pub mod cards;
@@ -7,6 +7,7 @@ pub mod columns;
 mod digits;
 mod parts;
 mod piece;
+pub mod report;
 mod text;
 mod writer;
 

@@ -2,7 +2,8 @@
 use Rattle.std.specs.Prelude.{◌≡◌, ℕ, ◌+◌, ◌≤◌, true}
 use Rattle.ctss_types.specs.Names.{NamePair}
 use Rattle.program_model.specs.declared.Call.{Call}
-use Rattle.program_model.specs.declared.Call.TheVariants.{ReadLine, WriteLine, GetTime, GetMemory, SetMemory, FileStat, ReadFile, WriteFile, DeleteFile, RenameFile, ChangeMode, CommonStat, CommonRead, CommonWrite, CommonDelete, Dead, Dormant}
+use Rattle.program_model.specs.declared.Call.TheVariants.{ReadLine, WriteLine, ReadFile, WriteFile, Common}
+use Rattle.program_model.specs.declared.CommonCall.TheVariants as common
 use Rattle.program_model.specs.Calls.{is_line_count}
 use Rattle.tia_entry.specs.declared.call.LineEntry.{LineEntry}
 use Rattle.tia_entry.specs.declared.call.LineEntry.TheVariants.{Read, Write}
@@ -15,19 +16,9 @@ HasBuffer words (ReadLine at count) = is_line_count count ≡ true → at + coun
 HasBuffer words (WriteLine at count) = is_line_count count ≡ true → at + count ≤ words
 HasBuffer words (ReadFile name at count place) = at + count ≤ words
 HasBuffer words (WriteFile name at count place) = at + count ≤ words
-HasBuffer words GetTime = Unit {0}
-HasBuffer words GetMemory = Unit {0}
-HasBuffer words (SetMemory blocks) = Unit {0}
-HasBuffer words (FileStat name) = Unit {0}
-HasBuffer words (DeleteFile name) = Unit {0}
-HasBuffer words (RenameFile name to) = Unit {0}
-HasBuffer words (ChangeMode name mode) = Unit {0}
-HasBuffer words (CommonRead name at count place) = at + count ≤ words
-HasBuffer words (CommonWrite name at count place) = at + count ≤ words
-HasBuffer words (CommonStat name) = Unit {0}
-HasBuffer words (CommonDelete name) = Unit {0}
-HasBuffer words Dead = Unit {0}
-HasBuffer words Dormant = Unit {0}
+HasBuffer words (Common (common.Read name at count place)) = at + count ≤ words
+HasBuffer words (Common (common.Write name at count place)) = at + count ≤ words
+HasBuffer words _ = Unit {0}
 
 -- the call of an entry with a buffer
 abbrev pub call_with : LineEntry → ℕ → ℕ → Call
@@ -38,5 +29,5 @@ call_with Write at count = WriteLine at count
 abbrev pub transfer_with : TransferEntry → NamePair → (at count place : ℕ) → Call
 transfer_with transfer.Read name at count place = ReadFile name at count place
 transfer_with transfer.Write name at count place = WriteFile name at count place
-transfer_with transfer.CommonRead name at count place = CommonRead name at count place
-transfer_with transfer.CommonWrite name at count place = CommonWrite name at count place
+transfer_with transfer.CommonRead name at count place = Common (common.Read name at count place)
+transfer_with transfer.CommonWrite name at count place = Common (common.Write name at count place)

@@ -1,5 +1,5 @@
 ghost use Rattle.std.specs.Prelude.{◌≡◌, ◌≤◌, ◌<◌, ◌^◌, List, ℕ, true, Ok, length, IfOk, IfSome};
-ghost use Rattle.program_model.specs.Calls.{call_of, line_call, simple_call, is_line_count, answered};
+ghost use Rattle.program_model.specs.Calls.{call_of, call_among, simple_entries, line_call, is_line_count, answered};
 ghost use Rattle.tia_entry.specs.Buffers.{HasBuffer, call_with};
 
 use crate::argument::{argument, behind_call, is_within};
@@ -115,7 +115,7 @@ pub fn read_call<M: MemoryPort>(regs: &Regs, core: &M, name: Word) -> Result<Cal
 /// The calls without arguments, and those that ask for something of a file.
 #[tactic(auto, unfolding(ctss_types::specs::Words::name_of))]
 fn simple_call<M: MemoryPort>(regs: &Regs, core: &M, name: Word) -> Result<Call, EntryFault>
-    ensures value { result ≡ simple_call regs.now (M.words core.now) name }
+    ensures value { result ≡ call_among simple_entries regs.now (M.words core.now) name }
     ensures within { IfOk result (HasBuffer (length (M.words core.now))) }
 {
     if name.bits() == GET_TIME {

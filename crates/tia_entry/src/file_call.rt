@@ -1,13 +1,13 @@
 //! The calls that ask for something of a file.
 ghost use Rattle.std.specs.Prelude.{◌≡◌, ◌<◌, ◌^◌, length, IfOk};
-ghost use Rattle.program_model.specs.Calls.{transfer_call, rename_call, mode_call, call_of_file, call_of_common};
+ghost use Rattle.program_model.specs.Calls.{transfer_call, rename_call, mode_call, call_among, file_entries, common_entries};
 ghost use Rattle.tia_entry.specs.Buffers.{HasBuffer, transfer_with};
 ghost use Rattle.tia_entry.specs.Looks.{file_at, named_file};
 
 use crate::argument::{argument, is_within, word_at};
 use cpu_regs::{MemoryPort, Regs};
 use ctss_types::FileName;
-use program_model::{Call, EntryFault};
+use program_model::{Call, CommonCall, EntryFault};
 use word36::Word;
 
 // The names of the entries as words, so that a call is told by a comparison of numbers.
@@ -68,18 +68,18 @@ fn transfer_with(entry: TransferEntry, name: FileName, at: u16, count: u16, plac
             count,
             place,
         },
-        TransferEntry::CommonRead => Call::CommonRead {
+        TransferEntry::CommonRead => Call::Common(CommonCall::Read {
             name,
             at,
             count,
             place,
-        },
-        TransferEntry::CommonWrite => Call::CommonWrite {
+        }),
+        TransferEntry::CommonWrite => Call::Common(CommonCall::Write {
             name,
             at,
             count,
             place,
-        },
+        }),
     }
 }
 
@@ -153,7 +153,7 @@ pub(crate) fn call_of_file<M: MemoryPort>(
     core: &M,
     name: Word,
 ) -> Result<Call, EntryFault>
-    ensures value { result ≡ call_of_file regs.now (M.words core.now) name }
+    ensures value { result ≡ call_among file_entries regs.now (M.words core.now) name }
     ensures within { IfOk result (HasBuffer (length (M.words core.now))) }
 {
     match name.bits() {
@@ -174,18 +174,18 @@ pub(crate) fn call_of_file<M: MemoryPort>(
 /// The calls that ask for something of a common file.
 #[tactic(auto, unfolding(ctss_types::specs::Words::name_of))]
 fn call_of_common<M: MemoryPort>(regs: &Regs, core: &M, name: Word) -> Result<Call, EntryFault>
-    ensures value { result ≡ call_of_common regs.now (M.words core.now) name }
+    ensures value { result ≡ call_among common_entries regs.now (M.words core.now) name }
     ensures within { IfOk result (HasBuffer (length (M.words core.now))) }
 {
     match name.bits() {
-        COMMON_STAT => Ok(Call::CommonStat {
+        COMMON_STAT => Ok(Call::Common(CommonCall::Stat {
             name: named_file(regs, core)?,
-        }),
+        })),
         COMMON_READ => transfer_call(regs, core, TransferEntry::CommonRead),
         COMMON_WRITE => transfer_call(regs, core, TransferEntry::CommonWrite),
-        COMMON_DELETE => Ok(Call::CommonDelete {
+        COMMON_DELETE => Ok(Call::Common(CommonCall::Delete {
             name: named_file(regs, core)?,
-        }),
+        })),
         _ => Err(EntryFault::NoSuchEntry),
     }
 }

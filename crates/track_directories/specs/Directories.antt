@@ -6,7 +6,7 @@ use Rattle.ctss_types.specs.declared.file.CommonOp.{CommonOp}
 use Rattle.ctss_types.specs.declared.file.Reply.{Reply}
 use Rattle.ctss_types.specs.declared.fault.StepFault.{StepFault}
 use Rattle.ctss_types.specs.declared.fault.StepFault.TheVariants.{Disk, NoMemory}
-use Rattle.common_file.specs.Applied.{IsApplied}
+use Rattle.file_map.specs.Applied.{IsApplied}
 use Rattle.file_model.specs.Commons.{ReplyFits}
 use Rattle.file_model.specs.Files.{lasting}
 

@@ -102,7 +102,7 @@ impl<F: Medium> TrackDirectories<'_, F> {
         ensures served { HasServed F.Medium user result self.old self.new }
     {
         let table = &mut self.tables[user.number() as usize];
-        turn_over(self.alloc, table, &mut self.store, session, core, now)
+        turn_over(table, &mut self.store, session, core, now)
     }
 
     /// A step of a user's session, which made a common operation, goes on with its reply.
@@ -129,15 +129,7 @@ impl<F: Medium> TrackDirectories<'_, F> {
         ensures served { HasServed F.Medium user result self.old self.new }
     {
         let table = &mut self.tables[user.number() as usize];
-        reply_over(
-            self.alloc,
-            table,
-            &mut self.store,
-            session,
-            core,
-            reply,
-            now,
-        )
+        reply_over(table, &mut self.store, session, core, reply, now)
     }
 
     /// An operation on the common files: its reply, which may be a refusal.
@@ -147,7 +139,7 @@ impl<F: Medium> TrackDirectories<'_, F> {
         ensures sound { ¬ IsErrOf result StepFault.Disk → Sound F.Medium self.new }
         ensures same { (disk_of self.new).ghost_name ≡ (disk_of self.old).ghost_name }
     {
-        share_over(self.alloc, &mut self.tables[0], &mut self.store, op)
+        share_over(&mut self.tables[0], &mut self.store, op)
     }
 
     /// A user's files of mode 0 go. It takes no memory, and makes no call of the disk.

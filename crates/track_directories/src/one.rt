@@ -2,7 +2,7 @@
 ghost use Rattle.std.specs.Prelude.{◌<◌, ◌^◌, IfOk};
 ghost use Rattle.ctss_types.specs.declared.file.CommonOp.{CommonOp};
 ghost use Rattle.file_model.specs.Commons.{ReplyFits};
-ghost use Rattle.common_file.specs.Applied.{IsApplied};
+ghost use Rattle.file_map.specs.Applied.{IsApplied};
 ghost use Rattle.user_session.specs.Stores.{stored, Over, IsToMake};
 ghost use Rattle.user_session.specs.Turns.{IsReplied, IsTurn};
 ghost use Rattle.file_tracks.specs.Seen.{tells_of};
@@ -10,19 +10,23 @@ ghost use Rattle.file_tracks.specs.Tracked.{tracked, files_in, IsReady};
 ghost use Rattle.user_session.specs.Calls.{CanStep, KeepsCore, KeepsUser};
 ghost use Rattle.track_directories.specs.Calls.{IsReadyFor, LeavesOneOn};
 
-use common_file::apply;
 use cpu_regs::MemoryPort;
 use ctss_types::{CommonOp, Reply, StepFault};
 use file_map::PortFault;
+use file_map::common::apply;
 use file_tracks::{TrackPort, TrackTable};
 use medium::Medium;
 use std::alloc::Global;
 use track_store::TrackStore;
 use user_session::{Session, Step, Turn};
 
+/// The allocator of a directory's table.
+fn allocator_of(table: &TrackTable) -> Global {
+    *table.files.allocator()
+}
+
 /// A step of a user's session over its directory.
 pub(crate) fn turn_over<M: MemoryPort, F: Medium>(
-    alloc: Global,
     table: &mut TrackTable,
     store: &mut TrackStore<'_, F>,
     session: &mut Session,
@@ -40,6 +44,7 @@ pub(crate) fn turn_over<M: MemoryPort, F: Medium>(
     ensures core { KeepsCore M.MemoryPort result core.old core.new }
     ensures leaves { LeavesOneOn F.Medium result store.old store.new table.old table.new }
 {
+    let alloc = allocator_of(table);
     let mut port = TrackPort {
         alloc,
         table,
@@ -51,7 +56,6 @@ pub(crate) fn turn_over<M: MemoryPort, F: Medium>(
 
 /// A step of a user's session goes on with the reply to its common operation.
 pub(crate) fn reply_over<M: MemoryPort, F: Medium>(
-    alloc: Global,
     table: &mut TrackTable,
     store: &mut TrackStore<'_, F>,
     session: &mut Session,
@@ -74,6 +78,7 @@ pub(crate) fn reply_over<M: MemoryPort, F: Medium>(
     ensures core { KeepsCore M.MemoryPort result core.old core.new }
     ensures leaves { LeavesOneOn F.Medium result store.old store.new table.old table.new }
 {
+    let alloc = allocator_of(table);
     let mut port = TrackPort {
         alloc,
         table,
@@ -85,7 +90,6 @@ pub(crate) fn reply_over<M: MemoryPort, F: Medium>(
 
 /// An operation on the common files.
 pub(crate) fn share_over<F: Medium>(
-    alloc: Global,
     table: &mut TrackTable,
     store: &mut TrackStore<'_, F>,
     op: &CommonOp,
@@ -97,6 +101,7 @@ pub(crate) fn share_over<F: Medium>(
     ensures fits { IfOk result ReplyFits }
     ensures leaves { LeavesOneOn F.Medium result store.old store.new table.old table.new }
 {
+    let alloc = allocator_of(table);
     let mut port = TrackPort {
         alloc,
         table,

@@ -15,7 +15,7 @@ use Rattle.ctss_types.specs.declared.file.CommonOp.{CommonOp}
 use Rattle.ctss_types.specs.declared.file.FileBody.{FileBody}
 use Rattle.ctss_types.specs.declared.fault.StepFault.{StepFault}
 use Rattle.ctss_types.specs.declared.fault.StepFault.TheVariants.{Disk, NoMemory}
-use Rattle.common_file.specs.Applied.{IsApplied}
+use Rattle.file_map.specs.Applied.{IsApplied}
 use Rattle.user_model.specs.User.{User}
 use Rattle.user_cores.specs.declared.backing.Made.{Made}
 use Rattle.track_directories.specs.Directories.{DirectoriesState}

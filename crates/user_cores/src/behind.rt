@@ -2,7 +2,7 @@
 ghost use Rattle.std.specs.Prelude.{◌≡◌};
 
 use crate::backing::{Backing, Made};
-use crate::turn::{advance_in, reply_in, turn_in};
+use crate::turn::{Part, advance_in, reply_in, turn_in};
 use ctss_types::{CommonOp, StepFault, UserNo};
 use image_map::{DrumFault, Image, Plan};
 use medium::Medium;
@@ -88,15 +88,8 @@ impl<D: Medium, F: Medium> Backing for Behind<'_, '_, D, F> {
         let _number = user.number();
         let blocks = self.cores.size(user);
         let base = self.cores.base(user);
-        turn_in(
-            self.cores.bank_mut(),
-            base,
-            blocks,
-            user,
-            session,
-            &mut self.files,
-            now,
-        )
+        let part = Part { user, base, blocks };
+        turn_in(self.cores.bank_mut(), part, session, &mut self.files, now)
     }
 
     fn share(
@@ -110,11 +103,10 @@ impl<D: Medium, F: Medium> Backing for Behind<'_, '_, D, F> {
         let reply = self.files.share(op)?;
         let blocks = self.cores.size(user);
         let base = self.cores.base(user);
+        let part = Part { user, base, blocks };
         let step = reply_in(
             self.cores.bank_mut(),
-            base,
-            blocks,
-            user,
+            part,
             session,
             &mut self.files,
             &reply,
@@ -127,7 +119,8 @@ impl<D: Medium, F: Medium> Backing for Behind<'_, '_, D, F> {
         let _number = user.number();
         let blocks = self.cores.size(user);
         let base = self.cores.base(user);
-        advance_in(self.cores.bank_mut(), base, blocks, session, most)
+        let part = Part { user, base, blocks };
+        advance_in(self.cores.bank_mut(), part, session, most)
     }
 
     fn take_lists(&mut self, alloc: Global) -> Result<Lists, StepFault> {

@@ -1,6 +1,6 @@
 -- What is known of a user whose next step is to make a common operation.
-use Rattle.std.proofs.Common.{◌≡◌, Bool, true, false, ◌&&◌, List, [], ◌∷◌, Option, Some, None, refl, sym, ap, ◌∙◌}
-use Rattle.std.specs.Prelude.{slice_get, if◌then◌else◌}
+use Rattle.std.proofs.Common.{◌≡◌, Bool, true, false, ◌&&◌, List, [], ◌∷◌, Option, Some, None, refl, sym, ◌∙◌}
+use Rattle.std.specs.Prelude.{slice_get}
 use Rattle.time_sharing.specs.Machine.{Line, CommonOp}
 use Rattle.time_sharing.specs.Rows.{some_line}
 use Rattle.ctss_types.specs.Names.{NamePair}
@@ -9,10 +9,10 @@ use Rattle.program_model.specs.declared.Fill.{Fill}
 use Rattle.user_model.specs.Requests.{command_of}
 use Rattle.user_model.specs.Commands.{command_asks}
 use Rattle.program_model.specs.Stops.{Stops}
-use Rattle.user_model.specs.Programs.{step_asks, at_break, program_asks_common}
-use Rattle.user_model.specs.Session.{works_in, line_asks}
+use Rattle.user_model.specs.Programs.{step_asks, at_break}
+use Rattle.user_model.specs.Session.{works_in}
 use Rattle.user_model.specs.User.{User, can_step, asks_common}
-use Rattle.user_model.proofs.StepLaws.{program_makes, line_makes, command_can}
+use Rattle.user_model.proofs.StepLaws.{break_makes, run_makes, fill_makes, command_makes, input_makes, debug_makes, command_can}
 
 both : (a b : Bool) → (a && b) ≡ true → (a ≡ true) × (b ≡ true)
 both true true h = (refl, refl)
@@ -26,15 +26,15 @@ asked_on p can = (both p.on _ can).0
 -- a program that works has nothing that is still to be stored, and is at no breakpoint
 pub asked_filled : (p : User) (op : CommonOp) → works_in p.inner.state ≡ true → asks_common p ≡ Some op →
     (p.inner.fill ≡ None) × (at_break p.inner ≡ false) × (step_asks (step_of p.inner.regs p.inner.core) p.inner ≡ Some op)
-asked_filled p op h makes = by_fill p.inner.fill refl (sym (program_makes p h) ∙ makes)
+asked_filled p op h makes = by_fill p.inner.fill refl
   where
-    by_break : (b : Bool) → (if b then None else step_asks (step_of p.inner.regs p.inner.core) p.inner) ≡ Some op → (b ≡ false) × (step_asks (step_of p.inner.regs p.inner.core) p.inner ≡ Some op)
-    by_break true asks = cc
-    by_break false asks = (refl, asks)
+    by_break : (b : Bool) → p.inner.fill ≡ None → at_break p.inner ≡ b → (p.inner.fill ≡ None) × (at_break p.inner ≡ false) × (step_asks (step_of p.inner.regs p.inner.core) p.inner ≡ Some op)
+    by_break true is at = let none : None ≡ Some op = sym (break_makes p h is at) ∙ makes in cc
+    by_break false is at = (is, at, sym (run_makes p (step_of p.inner.regs p.inner.core) h is at refl) ∙ makes)
 
-    by_fill : (f : Option Fill) → p.inner.fill ≡ f → program_asks_common p.inner.fill p.inner ≡ Some op → (p.inner.fill ≡ None) × (at_break p.inner ≡ false) × (step_asks (step_of p.inner.regs p.inner.core) p.inner ≡ Some op)
-    by_fill None is asks = let b = by_break (at_break p.inner) (sym (ap (λ (f : Option Fill). program_asks_common f p.inner) is) ∙ asks) in (is, b.0, b.1)
-    by_fill (Some f) is asks = let none : None ≡ Some op = sym (ap (λ (f : Option Fill). program_asks_common f p.inner) is) ∙ asks in cc
+    by_fill : (f : Option Fill) → p.inner.fill ≡ f → (p.inner.fill ≡ None) × (at_break p.inner ≡ false) × (step_asks (step_of p.inner.regs p.inner.core) p.inner ≡ Some op)
+    by_fill None is = by_break (at_break p.inner) is refl
+    by_fill (Some f) is = let none : None ≡ Some op = sym (fill_makes p f h is) ∙ makes in cc
 
 -- without one a line is unread
 some_first : (xs : List Line) → some_line xs ≡ true → (l : Line) × (slice_get xs 0 ≡ Some l)
@@ -47,12 +47,12 @@ asked_first p h can = some_first p.unread (both p.on (some_line p.unread) (sym (
 -- and it is a command
 pub asked_command : (p : User) (op : CommonOp) (l : Line) → works_in p.inner.state ≡ false → slice_get p.unread 0 ≡ Some l → asks_common p ≡ Some op →
     (p.inner.debugger ≡ None) × (p.inner.input ≡ None) × (command_asks (command_of l) p.inner ≡ Some op)
-asked_command p op l h first makes = by_debugger p.inner.debugger refl (sym (line_makes p l h first) ∙ makes)
+asked_command p op l h first makes = by_debugger p.inner.debugger refl
   where
-    by_input : (o : Option NamePair) → p.inner.input ≡ o → line_asks None p.inner.input l p.inner ≡ Some op → (p.inner.input ≡ None) × (command_asks (command_of l) p.inner ≡ Some op)
-    by_input None is asks = (is, sym (ap (λ (o : Option NamePair). line_asks None o l p.inner) is) ∙ asks)
-    by_input (Some name) is asks = let none : None ≡ Some op = sym (ap (λ (o : Option NamePair). line_asks None o l p.inner) is) ∙ asks in cc
+    by_input : (o : Option NamePair) → p.inner.debugger ≡ None → p.inner.input ≡ o → (p.inner.debugger ≡ None) × (p.inner.input ≡ None) × (command_asks (command_of l) p.inner ≡ Some op)
+    by_input None shut is = (shut, is, sym (command_makes p l (command_of l) h shut is first refl) ∙ makes)
+    by_input (Some name) shut is = let none : None ≡ Some op = sym (input_makes p l name h shut is first) ∙ makes in cc
 
-    by_debugger : (o : Option Stops) → p.inner.debugger ≡ o → line_asks p.inner.debugger p.inner.input l p.inner ≡ Some op → (p.inner.debugger ≡ None) × (p.inner.input ≡ None) × (command_asks (command_of l) p.inner ≡ Some op)
-    by_debugger None is asks = let i = by_input p.inner.input refl (sym (ap (λ (o : Option Stops). line_asks o p.inner.input l p.inner) is) ∙ asks) in (is, i.0, i.1)
-    by_debugger (Some d) is asks = let none : None ≡ Some op = sym (ap (λ (o : Option Stops). line_asks o p.inner.input l p.inner) is) ∙ asks in cc
+    by_debugger : (o : Option Stops) → p.inner.debugger ≡ o → (p.inner.debugger ≡ None) × (p.inner.input ≡ None) × (command_asks (command_of l) p.inner ≡ Some op)
+    by_debugger None shut = by_input p.inner.input shut refl
+    by_debugger (Some d) is = let none : None ≡ Some op = sym (debug_makes p l d h is first) ∙ makes in cc

@@ -8,11 +8,11 @@ use Rattle.time_sharing.specs.System.{clock_for}
 use Rattle.time_sharing.proofs.Shifted.{Alike, steps_alike}
 use Rattle.user_model.specs.declared.Command.TheVariants.{RunFile}
 use Rattle.user_model.specs.Commands.{command_row, file_run, lines_added}
-use Rattle.user_model.specs.Session.{user_rows}
+use Rattle.user_model.specs.Session.{user_rows, counts_anew}
 use Rattle.user_model.specs.User.{User, can_step, asks_clock, asks_common, step}
 use Rattle.user_model.specs.Steps.{left}
 use Rattle.user_model.specs.CommandFiles.{RunsFile, with_lines, run_items, IsBehind, FilesAreTyped}
-use Rattle.user_model.proofs.StepLaws.{command_left, command_can, command_clock, command_makes, counted}
+use Rattle.user_model.proofs.StepLaws.{command_left, command_can, command_clock, command_makes, at_command}
 
 append-nil : (xs : List Item) → xs ++ [] ≡ xs
 append-nil [] = refl
@@ -61,7 +61,7 @@ run_alike p line rest lines h t clocks replies =
       at = p.own;
       is = λ j. record { state = record (with_lines lines rest p) { transcript = sym (append-nil (p.transcript ++ run_items line t)) j; own = suc p.own; own_at_command = p.own }; clocks = clocks; replies = replies };
       other = sym (append-nil p.transcript);
-      count = inl (counted p h.works h.alone h.no_input);
+      count = inl (ap counts_anew (at_command p.inner h.works h.alone h.no_input));
     }
 
 behind_of : (a b : Alone User) (before first : List Item) → Alike user_rows (before ++ first) before a b → IsBehind a.state b.state before first

@@ -19,10 +19,10 @@ use Rattle.program_model.specs.DebugLines.{debug_of}
 use Rattle.program_model.specs.Stops.{Stops, is_full, with_break, without_break}
 use Rattle.user_model.specs.Inner.{Inner}
 use Rattle.user_model.specs.Debugger.{debug_row, if_inside, with_breaks, is_debugged, stores, line_stores}
-use Rattle.user_model.specs.Programs.{at_break, run_row, program_row, program_reads, program_asks, program_asks_common, program_replied, step_asks, reads_line, asks_time}
-use Rattle.user_model.specs.Session.{user_rows, works_in, act_in, act_by, replied_in, asks_common_in, asks_clock_in, takes_line_in, line_row, line_asks}
+use Rattle.user_model.specs.Session.{user_rows, works_in, Next, AtInstruction, line_next, instruction_next, program_next, next_in, next_of, takes_line_at, asks_clock_at, asks_common_at, act_by}
 use Rattle.user_model.specs.User.{User}
 use Rattle.user_model.specs.Plain.{woken, plain_machine, with_typed, plain, Move, Comes, Does, Course, reply_in, replies_in, clocks_in, breaks_in, is_own, step_at, written_at, with_own, moved, Allowed, AllAllowed, begun, AreSameLines, outs, DebuggerIsPlain}
+use Rattle.user_model.proofs.StepLaws.{next_idle}
 use Rattle.user_model.proofs.PlainRows.{quiet, AreSame, same_marked, same_step, same_replied, same_asks, same_reads, same_times}
 
 -- the machine that goes on owes what a machine owes
@@ -64,61 +64,63 @@ both true true h = (refl, refl)
 both true false h = cc
 both false b h = cc
 
--- what its step does, by what is still to be stored and by what it asks of the common files
-abbrev work_by : Option Fill → Option CommonOp → Inner → Option Line → (n t : ℕ) → Reply → Outcome Inner
-work_by f None i l n t r = program_row f i l n t
-work_by f (Some op) i l n t r = program_replied f i r
+-- what comes next of it
+abbrev own_next : User → Next
+own_next q = program_next q.inner.fill q.inner
 
-worked : (made : Option CommonOp) (i : Inner) (l : Option Line) (n k t : ℕ) (r : Reply) → i.state ≡ Working → act_by made i l n k t r ≡ work_by i.fill made i l n t r
-worked None i l n k t r e = λ j. act_in (e j) i l n k t
-worked (Some op) i l n k t r e = λ j. replied_in (e j) i l n t r
+next_is : (q : User) → q.inner.state ≡ Working → next_of q.inner ≡ own_next q
+next_is q e = λ j. next_in (e j) q.inner
 
 abbrev line_at : User → Option Line
-line_at q = first_line (program_reads q.inner.fill q.inner) q.unread
+line_at q = first_line (takes_line_at (own_next q) q.inner) q.unread
 
 line_is : (q : User) → q.inner.state ≡ Working → line_of user_rows q ≡ line_at q
-line_is q e = λ j. first_line (takes_line_in (e j) q.inner) q.unread
+line_is q e = λ j. first_line (takes_line_at (next_is q e j) q.inner) q.unread
 
-common_is : (q : User) → q.inner.state ≡ Working → (machine user_rows).asks_common q ≡ program_asks_common q.inner.fill q.inner
-common_is q e = λ j. asks_common_in (e j) q.inner (line_of user_rows q)
+common_is : (q : User) → q.inner.state ≡ Working → (machine user_rows).asks_common q ≡ asks_common_at (own_next q) q.inner (line_at q)
+common_is q e = λ j. asks_common_at (next_is q e j) q.inner (line_is q e j)
 
-clock_is : (q : User) → q.inner.state ≡ Working → (machine user_rows).asks_clock q ≡ program_asks q.inner.fill q.inner
-clock_is q e = λ j. asks_clock_in (e j) q.inner (line_of user_rows q)
+clock_is : (q : User) → q.inner.state ≡ Working → (machine user_rows).asks_clock q ≡ asks_clock_at (own_next q) q.inner (line_at q)
+clock_is q e = λ j. asks_clock_at (next_is q e j) q.inner (line_is q e j)
 
-takes_is : (q : User) → q.inner.state ≡ Working → takes_line_in q.inner.state q.inner ≡ program_reads q.inner.fill q.inner
-takes_is q e = λ j. takes_line_in (e j) q.inner
+takes_is : (q : User) → q.inner.state ≡ Working → takes_line_at (next_of q.inner) q.inner ≡ takes_line_at (own_next q) q.inner
+takes_is q e = λ j. takes_line_at (next_is q e j) q.inner
 
 -- the number of R n
 abbrev count_at : User → ℕ
 count_at q = suc q.own - own_at_command_of user_rows q
 
+abbrev fed_at : User → ℕ
+fed_at q = one_less (line_of user_rows q) q.fed
+
 result_is : (q : User) (t : ℕ) (r : Reply) → q.inner.state ≡ Working →
-    result_of user_rows q t r ≡ work_by q.inner.fill (program_asks_common q.inner.fill q.inner) q.inner (line_at q) (count_at q) t r
-result_is q t r e =
-    worked ((machine user_rows).asks_common q) q.inner (line_of user_rows q) (count_at q) (one_less (line_of user_rows q) q.fed) t r e
-    ∙ (λ j. work_by q.inner.fill (common_is q e j) q.inner (line_is q e j) (count_at q) t r)
+    result_of user_rows q t r ≡ act_by (asks_common_at (own_next q) q.inner (line_at q)) (own_next q) q.inner (line_at q) (count_at q) (fed_at q) t r
+result_is q t r e = λ j. act_by (common_is q e j) (next_is q e j) q.inner (line_is q e j) (count_at q) (fed_at q) t r
 
 -- without the debugger it asks and does the same
 
-quiet_asks : (f : Option Fill) (i : Inner) → breaks_in f i ≡ false → program_asks_common f (quiet i) ≡ program_asks_common f i
-quiet_asks (Some f) i at = refl
-quiet_asks None i at = same_asks (step_of i.regs i.core) i ∙ (λ j. if sym at j then None else step_asks (step_of i.regs i.core) i)
+quiet_asks : (f : Option Fill) (i : Inner) (line : Option Line) → breaks_in f i ≡ false → asks_common_at (program_next f (quiet i)) (quiet i) line ≡ asks_common_at (program_next f i) i line
+quiet_asks (Some f) i line at = refl
+quiet_asks None i line at = same_asks (step_of i.regs i.core) i ∙ (λ j. asks_common_at (instruction_next (sym at j) (step_of i.regs i.core)) i line)
 
-quiet_reads : (f : Option Fill) (i : Inner) → breaks_in f i ≡ false → program_reads f (quiet i) ≡ program_reads f i
+quiet_reads : (f : Option Fill) (i : Inner) → breaks_in f i ≡ false → takes_line_at (program_next f (quiet i)) (quiet i) ≡ takes_line_at (program_next f i) i
 quiet_reads (Some f) i at = refl
-quiet_reads None i at = same_reads (step_of i.regs i.core) i ∙ (λ j. not (sym at j) && reads_line (step_of i.regs i.core) i)
+quiet_reads None i at = same_reads (step_of i.regs i.core) i ∙ (λ j. takes_line_at (instruction_next (sym at j) (step_of i.regs i.core)) i)
 
-quiet_times : (f : Option Fill) (i : Inner) → breaks_in f i ≡ false → program_asks f (quiet i) ≡ program_asks f i
-quiet_times (Some f) i at = refl
-quiet_times None i at = same_times (step_of i.regs i.core) i ∙ (λ j. not (sym at j) && asks_time (step_of i.regs i.core) i)
+quiet_times : (f : Option Fill) (i : Inner) (line : Option Line) → breaks_in f i ≡ false → asks_clock_at (program_next f (quiet i)) (quiet i) line ≡ asks_clock_at (program_next f i) i line
+quiet_times (Some f) i line at = refl
+quiet_times None i line at = same_times (step_of i.regs i.core) i ∙ (λ j. asks_clock_at (instruction_next (sym at j) (step_of i.regs i.core)) i line)
 
-quiet_work : (f : Option Fill) (made : Option CommonOp) (i : Inner) (l : Option Line) (m n t : ℕ) (r : Reply) → breaks_in f i ≡ false → AreSame (work_by f made i l n t r) (work_by f made (quiet i) l m t r)
-quiet_work (Some f) None i l m n t r at = record { inner = refl; alone = refl; written = tt; stays = refl; other = refl; front = refl }
-quiet_work (Some f) (Some op) i l m n t r at = record { inner = refl; alone = refl; written = tt; stays = refl; other = refl; front = refl }
-quiet_work None None i l m n t r at =
-    subst (λ (b : Bool). AreSame (run_row b (step_of i.regs i.core) i l n t) (program_row None (quiet i) l m t)) (sym at)
-    (same_marked _ _ (same_step (step_of i.regs i.core) i l m n t))
-quiet_work None (Some op) i l m n t r at = same_marked _ _ (same_replied (step_of i.regs i.core) i r)
+quiet_work : (f : Option Fill) (made : Option CommonOp) (i : Inner) (line : Option Line) (m n k h t : ℕ) (r : Reply) → breaks_in f i ≡ false →
+    AreSame (act_by made (program_next f i) i line n k t r) (act_by made (program_next f (quiet i)) (quiet i) line m h t r)
+quiet_work (Some f) None i line m n k h t r at = record { inner = refl; alone = refl; written = tt; stays = refl; other = refl; front = refl }
+quiet_work (Some f) (Some op) i line m n k h t r at = record { inner = refl; alone = refl; written = tt; stays = refl; other = refl; front = refl }
+quiet_work None made i line m n k h t r at =
+    subst (λ (b : Bool). AreSame (act_by made (instruction_next b (step_of i.regs i.core)) i line n k t r) (act_by made (program_next None (quiet i)) (quiet i) line m h t r)) (sym at) (by_made made)
+  where
+    by_made : (made : Option CommonOp) → AreSame (act_by made (AtInstruction (step_of i.regs i.core)) i line n k t r) (act_by made (program_next None (quiet i)) (quiet i) line m h t r)
+    by_made None = same_marked _ _ (same_step (step_of i.regs i.core) i line m n t)
+    by_made (Some op) = same_marked _ _ (same_replied (step_of i.regs i.core) i r)
 
 -- lines
 
@@ -201,30 +203,31 @@ together q s t r e at can same shut unread on =
     let line : Option Line = line_of user_rows q in
     let there : User = woken s in
     let inner_is : there.inner ≡ quiet q.inner = (λ j. record s.inner { state = Working; debugger = shut j }) ∙ same in
-    let reads_is : program_reads there.inner.fill there.inner ≡ program_reads q.inner.fill q.inner =
-    (λ j. program_reads (inner_is j).fill (inner_is j)) ∙ quiet_reads q.inner.fill q.inner at in
-    let asks_is : program_asks_common there.inner.fill there.inner ≡ program_asks_common q.inner.fill q.inner =
-    (λ j. program_asks_common (inner_is j).fill (inner_is j)) ∙ quiet_asks q.inner.fill q.inner at in
-    let times_is : program_asks there.inner.fill there.inner ≡ program_asks q.inner.fill q.inner =
-    (λ j. program_asks (inner_is j).fill (inner_is j)) ∙ quiet_times q.inner.fill q.inner at in
+    let reads_is : takes_line_at (own_next there) there.inner ≡ takes_line_at (own_next q) q.inner =
+    (λ j. takes_line_at (program_next (inner_is j).fill (inner_is j)) (inner_is j)) ∙ quiet_reads q.inner.fill q.inner at in
     let there_line : line_at there ≡ line_at q =
-    (λ j. first_line (reads_is j) ((unread ∙ ap option_to_list (line_is q e)) j)) ∙ first_again (program_reads q.inner.fill q.inner) q.unread in
+    (λ j. first_line (reads_is j) ((unread ∙ ap option_to_list (line_is q e)) j)) ∙ first_again (takes_line_at (own_next q) q.inner) q.unread in
+    let asks_is : asks_common_at (own_next there) there.inner (line_at there) ≡ asks_common_at (own_next q) q.inner (line_at q) =
+    (λ j. asks_common_at (program_next (inner_is j).fill (inner_is j)) (inner_is j) (there_line j)) ∙ quiet_asks q.inner.fill q.inner (line_at q) at in
+    let times_is : asks_clock_at (own_next there) there.inner (line_at there) ≡ asks_clock_at (own_next q) q.inner (line_at q) =
+    (λ j. asks_clock_at (program_next (inner_is j).fill (inner_is j)) (inner_is j) (there_line j)) ∙ quiet_times q.inner.fill q.inner (line_at q) at in
     let there_can : m.can_step there ≡ true =
     (λ j. on j && (not (reads_is j) || some_line ((unread ∙ ap option_to_list (line_is q e)) j)))
-    ∙ can_again (program_reads q.inner.fill q.inner) q.unread (ap (λ (b : Bool). not b || some_line q.unread) (sym (takes_is q e)) ∙ (both q.on _ can).1) in
+    ∙ can_again (takes_line_at (own_next q) q.inner) q.unread (ap (λ (b : Bool). not b || some_line q.unread) (sym (takes_is q e)) ∙ (both q.on _ can).1) in
     let there_clock : m.asks_clock there ≡ m.asks_clock q = clock_is there refl ∙ times_is ∙ sym (clock_is q e) in
     let there_common : m.asks_common there ≡ m.asks_common q = common_is there refl ∙ asks_is ∙ sym (common_is q e) in
     let tick : ℕ = clock_for (m.asks_clock q) t in
     let answer : Reply = reply_in (m.asks_common q) r in
     let o : Outcome Inner = result_of user_rows q tick answer in
     let a : Outcome Inner = result_of user_rows there tick answer in
-    let here : o ≡ work_by q.inner.fill (program_asks_common q.inner.fill q.inner) q.inner (line_at q) (count_at q) tick answer = result_is q tick answer e in
-    let other : a ≡ work_by q.inner.fill (program_asks_common q.inner.fill q.inner) (quiet q.inner) (line_at q) (count_at there) tick answer =
-    result_is there tick answer refl ∙ (λ j. work_by (inner_is j).fill (asks_is j) (inner_is j) (there_line j) (count_at there) tick answer) in
+    let made : Option CommonOp = asks_common_at (own_next q) q.inner (line_at q) in
+    let here : o ≡ act_by made (own_next q) q.inner (line_at q) (count_at q) (fed_at q) tick answer = result_is q tick answer e in
+    let other : a ≡ act_by made (program_next q.inner.fill (quiet q.inner)) (quiet q.inner) (line_at q) (count_at there) (fed_at there) tick answer =
+    result_is there tick answer refl ∙ (λ j. act_by (asks_is j) (program_next (inner_is j).fill (inner_is j)) (inner_is j) (there_line j) (count_at there) (fed_at there) tick answer) in
     let has : AreSame o a =
     subst (λ (x : Outcome Inner). AreSame x a) (sym here)
-    (subst (λ (x : Outcome Inner). AreSame (work_by q.inner.fill (program_asks_common q.inner.fill q.inner) q.inner (line_at q) (count_at q) tick answer) x) (sym other)
-    (quiet_work q.inner.fill (program_asks_common q.inner.fill q.inner) q.inner (line_at q) (count_at there) (count_at q) tick answer at)) in
+    (subst (λ (x : Outcome Inner). AreSame (act_by made (own_next q) q.inner (line_at q) (count_at q) (fed_at q) tick answer) x) (sym other)
+    (quiet_work q.inner.fill made q.inner (line_at q) (count_at there) (count_at q) (fed_at q) (fed_at there) tick answer at)) in
     record {
       after = done user_rows there a;
       goes = (λ j. when (there_can j) (with_clock (there_clock j) (clocks_in (m.asks_clock q) t) (λ u ts. with_reply (is_some (there_common j)) (replies_in (m.asks_common q) r) (λ x rs.
@@ -320,20 +323,6 @@ debug_leaves s (Set a w) i n h = cc
 debug_leaves s End i n h = refl
 debug_leaves s Bad i n h = refl
 
--- a step at a program that works or not
-abbrev act_at : ProgramState → Option CommonOp → Inner → Option Line → (n k : ℕ) → ℕ → Reply → Outcome Inner
-act_at s None i l n k t r = act_in s i l n k t
-act_at s (Some op) i l n k t r = replied_in s i l n t r
-
-act_at_is : (made : Option CommonOp) (i : Inner) (l : Option Line) (n k t : ℕ) (r : Reply) → act_by made i l n k t r ≡ act_at i.state made i l n k t r
-act_at_is None i l n k t r = refl
-act_at_is (Some op) i l n k t r = refl
-
--- a line of the debugger
-line_leaves : (d : Option Stops) (i : Inner) (l : Line) (n k t : ℕ) → is_debugged d ≡ true → stores (debug_of l) ≡ false → (line_asks d i.input l i ≡ None) × Leaves i (line_row d i.input l i n k t)
-line_leaves None i l n k t open_ h = cc
-line_leaves (Some s) i l n k t open_ h = (refl, debug_leaves s (debug_of l) i n h)
-
 not_own : (a b : Bool) → a ≡ true → (a && not b) ≡ false → b ≡ true
 not_own true true w h = refl
 not_own true false w h = cc
@@ -344,41 +333,37 @@ not_both true b h e = cc
 not_both false true h e = cc
 not_both false false h e = refl
 
-idle_leaves : (s : ProgramState) (i : Inner) (line : Option Line) (n k t : ℕ) (r : Reply) → works_in s ≡ false → is_debugged i.debugger ≡ true → line_stores line ≡ false →
-    Leaves i (act_at s (asks_common_in s i line) i line n k t r)
-idle_leaves Dead i None n k t r idle open_ h = refl
-idle_leaves Dead i (Some l) n k t r idle open_ h =
-    let leaves = line_leaves i.debugger i l n k t open_ h in
-    subst (λ (made : Option CommonOp). Leaves i (act_at Dead made i (Some l) n k t r)) (sym leaves.0) leaves.1
-idle_leaves Dormant i None n k t r idle open_ h = refl
-idle_leaves Dormant i (Some l) n k t r idle open_ h =
-    let leaves = line_leaves i.debugger i l n k t open_ h in
-    subst (λ (made : Option CommonOp). Leaves i (act_at Dormant made i (Some l) n k t r)) (sym leaves.0) leaves.1
-idle_leaves Working i line n k t r idle open_ h = cc
+-- a line of the debugger
+idle_leaves : (d : Option Stops) (i : Inner) (line : Option Line) (n k t : ℕ) (r : Reply) → is_debugged d ≡ true → line_stores line ≡ false →
+    Leaves i (act_by (asks_common_at (line_next d i.input) i line) (line_next d i.input) i line n k t r)
+idle_leaves None i line n k t r open_ h = cc
+idle_leaves (Some s) i None n k t r open_ h = refl
+idle_leaves (Some s) i (Some l) n k t r open_ h = debug_leaves s (debug_of l) i n h
 
 -- a break
-break_leaves : (f : Option Fill) (i : Inner) (line : Option Line) (n t : ℕ) (r : Reply) → breaks_in f i ≡ true → Leaves i (work_by f (program_asks_common f i) i line n t r)
-break_leaves (Some f) i line n t r at = cc
-break_leaves None i line n t r at =
-    let asks : program_asks_common None i ≡ None = λ j. if at j then None else step_asks (step_of i.regs i.core) i in
-    let row : run_row (at_break i) (step_of i.regs i.core) i line n t ≡ run_row true (step_of i.regs i.core) i line n t = λ j. run_row (at j) (step_of i.regs i.core) i line n t in
-    subst (λ (made : Option CommonOp). Leaves i (work_by None made i line n t r)) (sym asks) (subst (λ (o : Outcome Inner). Leaves i o) (sym row) refl)
+break_leaves : (f : Option Fill) (i : Inner) (line : Option Line) (n k t : ℕ) (r : Reply) → breaks_in f i ≡ true →
+    Leaves i (act_by (asks_common_at (program_next f i) i line) (program_next f i) i line n k t r)
+break_leaves (Some f) i line n k t r at = cc
+break_leaves None i line n k t r at =
+    subst (λ (b : Bool). Leaves i (act_by (asks_common_at (instruction_next b (step_of i.regs i.core)) i line) (instruction_next b (step_of i.regs i.core)) i line n k t r)) (sym at) refl
 
 other_leaves : (q : User) (t : ℕ) (r : Reply) → is_own q ≡ false → is_debugged q.inner.debugger ≡ true → (works_in q.inner.state || not (line_stores (line_of user_rows q))) ≡ true →
     quiet (step_at t r q).inner ≡ quiet q.inner
 other_leaves q t r other open_ allowed = by_work (works_in q.inner.state) refl
   where
-    by_work : (b : Bool) → works_in q.inner.state ≡ b → Leaves q.inner (result_of user_rows q (clock_for ((machine user_rows).asks_clock q) t) (reply_in ((machine user_rows).asks_common q) r))
+    tick : ℕ
+    tick = clock_for ((machine user_rows).asks_clock q) t
+
+    answer : Reply
+    answer = reply_in ((machine user_rows).asks_common q) r
+
+    by_work : (b : Bool) → works_in q.inner.state ≡ b → Leaves q.inner (result_of user_rows q tick answer)
     by_work true w =
-        let e : q.inner.state ≡ Working = works_is q.inner.state w in
-        let at : breaks_in q.inner.fill q.inner ≡ true = not_own (works_in q.inner.state) (breaks_in q.inner.fill q.inner) w other in
-        subst (λ (o : Outcome Inner). Leaves q.inner o) (sym (result_is q (clock_for ((machine user_rows).asks_clock q) t) (reply_in ((machine user_rows).asks_common q) r) e))
-        (break_leaves q.inner.fill q.inner (line_at q) (count_at q) (clock_for ((machine user_rows).asks_clock q) t) (reply_in ((machine user_rows).asks_common q) r) at)
+        subst (λ (o : Outcome Inner). Leaves q.inner o) (sym (result_is q tick answer (works_is q.inner.state w)))
+        (break_leaves q.inner.fill q.inner (line_at q) (count_at q) (fed_at q) tick answer (not_own (works_in q.inner.state) (breaks_in q.inner.fill q.inner) w other))
     by_work false w =
-        subst (λ (o : Outcome Inner). Leaves q.inner o)
-        (sym (act_at_is ((machine user_rows).asks_common q) q.inner (line_of user_rows q) (count_at q) (one_less (line_of user_rows q) q.fed) (clock_for ((machine user_rows).asks_clock q) t) (reply_in ((machine user_rows).asks_common q) r)))
-        (idle_leaves q.inner.state q.inner (line_of user_rows q) (count_at q) (one_less (line_of user_rows q) q.fed) (clock_for ((machine user_rows).asks_clock q) t) (reply_in ((machine user_rows).asks_common q) r) w open_
-        (not_both (works_in q.inner.state) (line_stores (line_of user_rows q)) allowed w))
+        subst (λ (x : Next). Leaves q.inner (act_by (asks_common_at x q.inner (line_of user_rows q)) x q.inner (line_of user_rows q) (count_at q) (fed_at q) tick answer)) (sym (next_idle q.inner.state q.inner w))
+        (idle_leaves q.inner.debugger q.inner (line_of user_rows q) (count_at q) (fed_at q) tick answer open_ (not_both (works_in q.inner.state) (line_stores (line_of user_rows q)) allowed w))
 
 -- a move
 

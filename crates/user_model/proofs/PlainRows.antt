@@ -11,7 +11,7 @@ use Rattle.file_model.specs.declared.Stat.{Stat}
 use Rattle.file_model.specs.Files.{stat, read, written, renamed, deleted, moded}
 use Rattle.machine_model.specs.Step.{Step, went, halt, entry, illegal, outside}
 use Rattle.program_model.specs.declared.Call.{Call}
-use Rattle.program_model.specs.declared.Call.TheVariants.{ReadLine, WriteLine, GetTime, GetMemory, SetMemory, FileStat, ReadFile, WriteFile, DeleteFile, RenameFile, ChangeMode as ChangesMode, CommonStat, CommonRead, CommonWrite, CommonDelete, Dead as EndsDead, Dormant as EndsDormant}
+use Rattle.program_model.specs.declared.Call.TheVariants.{ReadLine, WriteLine, SetMemory, FileStat, ReadFile, WriteFile, DeleteFile, RenameFile, ChangeMode as ChangesMode, Common, Dead as EndsDead, Dormant as EndsDormant}
 use Rattle.program_model.specs.declared.EntryFault.{EntryFault}
 use Rattle.program_model.specs.declared.EntryFault.TheVariants.{NoSuchEntry, Outside}
 use Rattle.program_model.specs.declared.ProgramState.TheVariants.{Working}
@@ -19,7 +19,7 @@ use Rattle.program_model.specs.Calls.{call_of, is_line_count}
 use Rattle.program_model.specs.Lines.{words_at}
 use Rattle.user_model.specs.Inner.{Inner}
 use Rattle.user_model.specs.Texts.{ready_text, stop_text}
-use Rattle.user_model.specs.Programs.{goes, stops, replied, stepped_in, with_step, step_row, step_asks, step_replied, reads_line, asks_time, entry_row, entry_replied, call_row, call_replied, reply_taken, file_told, file_read, files_changed}
+use Rattle.user_model.specs.Programs.{goes, stops, replied, stepped_in, with_step, step_row, step_asks, step_replied, reads_line, asks_time, entry_row, entry_replied, call_row, call_replied, common_arguments, common_buffer, reply_taken, file_told, file_read, files_changed}
 use Rattle.user_model.specs.Plain.{AreSameLines}
 
 -- a program that works, without the debugger
@@ -70,8 +70,6 @@ same_call (ReadLine at count) i None m n t = same_if (is_line_count count) _ _ _
 same_call (ReadLine at count) i (Some l) m n t = same_if (is_line_count count) _ _ _ _ (same_goes _ _ refl refl) (same_goes _ _ refl refl)
 same_call (WriteLine at count) i l m n t =
     same_if (is_line_count count) _ _ _ _ (record { inner = refl; alone = refl; written = (inl refl, tt); stays = refl; other = refl; front = refl }) (same_goes _ _ refl refl)
-same_call GetTime i l m n t = same_goes _ _ refl refl
-same_call GetMemory i l m n t = same_goes _ _ refl refl
 same_call (SetMemory blocks) i l m n t =
     same_if (nat_eq blocks 0 || nat_lt i.account.blocks blocks) _ _ _ _ (same_goes _ _ refl refl)
     (same_if (nat_eq blocks i.blocks) _ _ _ _ (same_goes _ _ refl refl) (record { inner = refl; alone = refl; written = tt; stays = refl; other = refl; front = refl }))
@@ -81,12 +79,9 @@ same_call (WriteFile name at count place) i l m n t = same_changed i 3 (written 
 same_call (DeleteFile name) i l m n t = same_changed i 1 (deleted name i.files)
 same_call (RenameFile name to) i l m n t = same_changed i 2 (renamed name to i.files)
 same_call (ChangesMode name mode) i l m n t = same_changed i 2 (moded name mode i.files)
-same_call (CommonStat name) i l m n t = same_goes _ _ refl refl
-same_call (CommonRead name at count place) i l m n t = same_goes _ _ refl refl
-same_call (CommonWrite name at count place) i l m n t = same_goes _ _ refl refl
-same_call (CommonDelete name) i l m n t = same_goes _ _ refl refl
 same_call EndsDead i l m n t = record { inner = refl; alone = refl; written = (inr (m, n, refl, refl), tt); stays = refl; other = refl; front = refl }
 same_call EndsDormant i l m n t = same_stops [] (replied i 0 0 None) (replied (quiet i) 0 0 None) m n refl refl
+same_call _ i l m n t = same_goes _ _ refl refl
 
 same_entry : (call : Result Call EntryFault) (i : Inner) (l : Option Line) (m n t : ℕ) → AreSame (entry_row call i l n t) (entry_row call (quiet i) l m t)
 same_entry (Ok call) i l m n t = same_call call i l m n t
@@ -109,23 +104,8 @@ same_reply i arguments at (reply.Words words) = same_goes _ _ refl refl
 same_reply i arguments at (reply.Refused r) = same_goes _ _ refl refl
 
 same_call_replied : (c : Call) (i : Inner) (r : Reply) → AreSame (call_replied c i r) (call_replied c (quiet i) r)
-same_call_replied (ReadLine at count) i r = same_goes _ _ refl refl
-same_call_replied (WriteLine at count) i r = same_goes _ _ refl refl
-same_call_replied GetTime i r = same_goes _ _ refl refl
-same_call_replied GetMemory i r = same_goes _ _ refl refl
-same_call_replied (SetMemory blocks) i r = same_goes _ _ refl refl
-same_call_replied (FileStat name) i r = same_goes _ _ refl refl
-same_call_replied (ReadFile name at count place) i r = same_goes _ _ refl refl
-same_call_replied (WriteFile name at count place) i r = same_goes _ _ refl refl
-same_call_replied (DeleteFile name) i r = same_goes _ _ refl refl
-same_call_replied (RenameFile name to) i r = same_goes _ _ refl refl
-same_call_replied (ChangesMode name mode) i r = same_goes _ _ refl refl
-same_call_replied (CommonStat name) i r = same_reply i 1 0 r
-same_call_replied (CommonRead name at count place) i r = same_reply i 3 at r
-same_call_replied (CommonWrite name at count place) i r = same_reply i 3 at r
-same_call_replied (CommonDelete name) i r = same_reply i 1 0 r
-same_call_replied EndsDead i r = same_goes _ _ refl refl
-same_call_replied EndsDormant i r = same_goes _ _ refl refl
+same_call_replied (Common call) i r = same_reply i (common_arguments call) (common_buffer call) r
+same_call_replied _ i r = same_goes _ _ refl refl
 
 same_entry_replied : (call : Result Call EntryFault) (i : Inner) (r : Reply) → AreSame (entry_replied call i r) (entry_replied call (quiet i) r)
 same_entry_replied (Ok call) i r = same_call_replied call i r

@@ -185,7 +185,7 @@ input_turn t p q c d l name e asked h shut some first on row =
       can = command_can (in_store c p) h ∙ (λ j. on j && some_at p.unread l first j);
       left = given_back true false (Some l) (input_row name l (in_store c p).inner (suc p.own - p.own_at_command)) false e asked p q c d on row ∙ sym (input_left t (in_store c p) l name h shut some first);
       ends = row.4 ∙ sym (input_ends t (in_store c p) l name h shut some first);
-      asks = row.5 ∙ sym (input_asks (in_store c p) l name h some first);
+      asks = row.5 ∙ sym (input_asks (in_store c p) l name h shut some first);
       makes = sym (input_makes (in_store c p) l name h shut some first);
       words = λ _. row.6;
     }

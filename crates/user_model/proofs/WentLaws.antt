@@ -11,16 +11,12 @@ use Rattle.ctss_types.specs.declared.file.Reply.TheVariants as reply
 use Rattle.file_model.specs.declared.Stat.{Stat}
 use Rattle.file_model.specs.Files.{file_named, stat, read, got, written, put, appended, renamed, deleted, moded}
 use Rattle.machine_model.specs.Step.{Step, went, halt, entry, illegal, outside}
-use Rattle.machine_model.specs.Machine.{step_of}
 use Rattle.program_model.specs.declared.Call.{Call}
-use Rattle.program_model.specs.declared.Call.TheVariants.{ReadLine, WriteLine, GetTime, GetMemory, SetMemory, FileStat, ReadFile, WriteFile, DeleteFile, RenameFile, ChangeMode as ChangesMode, CommonStat, CommonRead, CommonWrite, CommonDelete, Dead as EndsDead, Dormant as EndsDormant}
+use Rattle.program_model.specs.declared.Call.TheVariants.{ReadLine, WriteLine, SetMemory, FileStat, ReadFile, WriteFile, DeleteFile, RenameFile, ChangeMode as ChangesMode, Common, Dead as EndsDead, Dormant as EndsDormant}
 use Rattle.program_model.specs.declared.EntryFault.{EntryFault}
 use Rattle.program_model.specs.declared.EntryFault.TheVariants.{NoSuchEntry, Outside}
 use Rattle.program_model.specs.declared.LoadFault.{LoadFault}
 use Rattle.program_model.specs.declared.Deck.{Deck}
-use Rattle.program_model.specs.declared.Fill.{Fill}
-use Rattle.program_model.specs.declared.ProgramState.{ProgramState}
-use Rattle.program_model.specs.declared.ProgramState.TheVariants.{Dead, Dormant, Working}
 use Rattle.program_model.specs.Calls.{call_of, is_line_count}
 use Rattle.program_model.specs.Decks.{deck_of, deck_name}
 use Rattle.program_model.specs.Lines.{words_at, words_of_line, with_words}
@@ -34,10 +30,10 @@ use Rattle.link_model.specs.ModuleCards as modules
 use Rattle.link_model.specs.ModuleCards.{ModuleMade, module_made, is_relocatable}
 use Rattle.user_model.specs.Inner.{Inner, blocks_of}
 use Rattle.user_model.specs.declared.Command.{Command}
-use Rattle.user_model.specs.declared.Command.TheVariants.{Empty, Logout, LoadGo, List as Lists, Print, Rename, Delete, ChangeMode, Input, CopyTo, CopyFrom, Assemble, Link, Start, Save, Resume, Registers, WordAt, Debug, RunFile, BadArguments, Unknown}
+use Rattle.user_model.specs.declared.Command.TheVariants.{LoadGo, Rename, Delete, ChangeMode, Input, Assemble, Link, Start, Save, Resume, Registers, WordAt, Debug, RunFile}
 use Rattle.user_model.specs.Requests.{command_of}
 use Rattle.program_model.specs.declared.DebugLine.{DebugLine}
-use Rattle.program_model.specs.declared.DebugLine.TheVariants.{Break, Clear, Go, Look, Regs, Set, End, Bad}
+use Rattle.program_model.specs.declared.DebugLine.TheVariants.{Break, Clear, Set}
 use Rattle.program_model.specs.DebugLines.{debug_of}
 use Rattle.program_model.specs.Stops.{Stops, is_full, with_break, without_break}
 use Rattle.program_model.specs.declared.ComRefusal.{ComRefusal}
@@ -45,8 +41,8 @@ use Rattle.program_model.specs.CommandLines.{command_lines}
 use Rattle.ctss_types.specs.Words.{words_of}
 use Rattle.user_model.specs.Debugger.{debug_row, if_inside, with_breaks}
 use Rattle.user_model.specs.Commands.{CommandLine, command_file, lines_added, file_run, command_row, command_replied, copy_target, words_copied, prepared, resumed, is_dormant, if_dormant, cards_name, assembly_put, module_put, cards_assembled, modules_in, linked_put, changed, input_made, input_begun, input_row, line_entered}
-use Rattle.user_model.specs.Programs.{at_break, run_row, step_row, step_replied, entry_row, entry_replied, call_row, call_replied, reply_taken, file_told, file_read, files_changed, program_row, program_replied}
-use Rattle.user_model.specs.Session.{user_rows, act_in, act_by, asks_common_in, replied_in, line_replied, line_row}
+use Rattle.user_model.specs.Programs.{step_row, step_replied, entry_row, entry_replied, call_row, call_replied, common_arguments, common_buffer, reply_taken, file_told, file_read, files_changed}
+use Rattle.user_model.specs.Session.{user_rows, Next, AtDebugger, AtInput, AtCommand, AtFill, AtBreak, AtInstruction, next_of, by_line, act_at, act_by, asks_common_at, replied_at}
 use Rattle.user_model.specs.User.{User, step, ending}
 
 -- where an outcome goes on, the size is as it was
@@ -73,8 +69,6 @@ call_stays : (c : Call) (i : Inner) (l : Option Line) (n t : ℕ) → SizeStays 
 call_stays (ReadLine at count) i None n t = either_way (is_line_count count) i _ _ (λ e. refl) (λ e. refl)
 call_stays (ReadLine at count) i (Some l) n t = either_way (is_line_count count) i _ _ (λ e. refl) (λ e. refl)
 call_stays (WriteLine at count) i l n t = either_way (is_line_count count) i _ _ (λ e. refl) (λ e. refl)
-call_stays GetTime i l n t = λ e. refl
-call_stays GetMemory i l n t = λ e. refl
 call_stays (SetMemory blocks) i l n t = either_way (nat_eq blocks 0 || nat_lt i.account.blocks blocks) i _ _ (λ e. refl) (either_way (nat_eq blocks i.blocks) i _ _ (λ e. refl) (λ e. cc))
 call_stays (FileStat name) i l n t = told_stays i (stat name i.files)
 call_stays (ReadFile name at count place) i l n t = read_stays i at (read name place count i.files)
@@ -82,12 +76,9 @@ call_stays (WriteFile name at count place) i l n t = files_stay i 3 (written nam
 call_stays (DeleteFile name) i l n t = files_stay i 1 (deleted name i.files)
 call_stays (RenameFile name to) i l n t = files_stay i 2 (renamed name to i.files)
 call_stays (ChangesMode name mode) i l n t = files_stay i 2 (moded name mode i.files)
-call_stays (CommonStat name) i l n t = λ e. refl
-call_stays (CommonRead name at count place) i l n t = λ e. refl
-call_stays (CommonWrite name at count place) i l n t = λ e. refl
-call_stays (CommonDelete name) i l n t = λ e. refl
 call_stays EndsDead i l n t = λ e. cc
 call_stays EndsDormant i l n t = λ e. cc
+call_stays _ i l n t = λ e. refl
 
 entry_stays : (call : Result Call EntryFault) (i : Inner) (l : Option Line) (n t : ℕ) → SizeStays i (entry_row call i l n t)
 entry_stays (Ok call) i l n t = call_stays call i l n t
@@ -100,14 +91,6 @@ step_stays (halt r core) i l n t = λ e. cc
 step_stays (entry w) i l n t = entry_stays (call_of i.regs i.core w) i l n t
 step_stays illegal i l n t = λ e. cc
 step_stays (outside a) i l n t = λ e. cc
-
-run_stays : (b : Bool) (s : Step) (i : Inner) (l : Option Line) (n t : ℕ) → SizeStays i (run_row b s i l n t)
-run_stays true s i l n t = λ e. cc
-run_stays false s i l n t = step_stays s i l n t
-
-program_stays : (f : Option Fill) (i : Inner) (l : Option Line) (n t : ℕ) → SizeStays i (program_row f i l n t)
-program_stays (Some f) i l n t = λ e. refl
-program_stays None i l n t = run_stays (at_break i) (step_of i.regs i.core) i l n t
 
 load_stays : (name : ℕ) (deck : Result Deck LoadFault) (i : Inner) (n t : ℕ) → SizeStays i (prepared name deck i n t)
 load_stays name (Ok d) i n t = λ e. cc
@@ -166,17 +149,11 @@ run_file_stays (Ok words) i x n t = added_stay (command_lines words (drop 2 (wor
 run_file_stays (Err r) i x n t = λ e. cc
 
 command_stays : (c : Command) (i : Inner) (x : CommandLine) (n t : ℕ) → SizeStays i (command_row c i x n t)
-command_stays Empty i x n t = λ e. cc
-command_stays Logout i x n t = λ e. cc
 command_stays (LoadGo name) i x n t = load_stays name (deck_of i.account.blocks (got (deck_name name) i.files)) i n t
-command_stays Lists i x n t = λ e. cc
-command_stays (Print name) i x n t = λ e. cc
 command_stays (Rename name to) i x n t = change_stays (renamed name to i.files) i n t
 command_stays (Delete name) i x n t = change_stays (deleted name i.files) i n t
 command_stays (ChangeMode name mode) i x n t = change_stays (moded name mode i.files) i n t
 command_stays (Input name) i x n t = begun_stays name (file_named name i.files) i n t
-command_stays (CopyTo name) i x n t = λ e. cc
-command_stays (CopyFrom name) i x n t = λ e. cc
 command_stays (Assemble name) i x n t = cards_stay name (got (cards_name name) i.files) i n t
 command_stays (Link name) i x n t = linked_stay name (files_linked (modules_in x.line) i.files) i n t
 command_stays Start i x n t = dormant_stays _ i n t (λ e. cc)
@@ -186,8 +163,7 @@ command_stays Registers i x n t = dormant_stays _ i n t (λ e. cc)
 command_stays (WordAt place) i x n t = dormant_stays _ i n t (λ e. cc)
 command_stays Debug i x n t = dormant_stays _ i n t (λ e. cc)
 command_stays (RunFile name) i x n t = run_file_stays (got (command_file name) i.files) i x n t
-command_stays BadArguments i x n t = λ e. cc
-command_stays Unknown i x n t = λ e. cc
+command_stays _ i x n t = λ e. cc
 
 inside_stays : (a : ℕ) (done i : Inner) → SizeStays i (if_inside a done i)
 inside_stays a done i = either_way (nat_lt a (length i.core)) i _ _ (λ e. cc) (λ e. cc)
@@ -195,24 +171,21 @@ inside_stays a done i = either_way (nat_lt a (length i.core)) i _ _ (λ e. cc) (
 debug_stays : (s : Stops) (line : DebugLine) (i : Inner) (n : ℕ) → SizeStays i (debug_row s line i n)
 debug_stays s (Break a) i n = either_way (is_full s.breaks a) i _ _ (λ e. cc) (inside_stays a (with_breaks s (with_break s.breaks a) i) i)
 debug_stays s (Clear a) i n = inside_stays a (with_breaks s (without_break s.breaks a) i) i
-debug_stays s Go i n = λ e. cc
-debug_stays s (Look a) i n = λ e. cc
-debug_stays s Regs i n = λ e. cc
 debug_stays s (Set a v) i n = inside_stays a (record i { core = with_words i.core a (v ∷ []) }) i
-debug_stays s End i n = λ e. cc
-debug_stays s Bad i n = λ e. cc
+debug_stays s _ i n = λ e. cc
 
-line_stays : (debugger : Option Stops) (input : Option NamePair) (l : Line) (i : Inner) (n k t : ℕ) → SizeStays i (line_row debugger input l i n k t)
-line_stays (Some s) input l i n k t = debug_stays s (debug_of l) i n
-line_stays None None l i n k t = command_stays (command_of l) i (record { line = l; fed = k }) n t
-line_stays None (Some name) l i n k t = input_stays name l i n
+-- a step that takes a line, where there is one
+line_stays : (row : Line → Outcome Inner) (i : Inner) (line : Option Line) → ((l : Line) → SizeStays i (row l)) → SizeStays i (by_line row i line)
+line_stays row i None h = λ e. refl
+line_stays row i (Some l) h = h l
 
-act_stays : (s : ProgramState) (i : Inner) (l : Option Line) (n k t : ℕ) → SizeStays i (act_in s i l n k t)
-act_stays Dead i None n k t = λ e. refl
-act_stays Dead i (Some l) n k t = line_stays i.debugger i.input l i n k t
-act_stays Dormant i None n k t = λ e. refl
-act_stays Dormant i (Some l) n k t = line_stays i.debugger i.input l i n k t
-act_stays Working i l n k t = program_stays i.fill i l n t
+act_stays : (x : Next) (i : Inner) (line : Option Line) (n k t : ℕ) → SizeStays i (act_at x i line n k t)
+act_stays (AtDebugger s) i line n k t = line_stays _ i line (λ l. debug_stays s (debug_of l) i n)
+act_stays (AtInput name) i line n k t = line_stays _ i line (λ l. input_stays name l i n)
+act_stays AtCommand i line n k t = line_stays _ i line (λ l. command_stays (command_of l) i (record { line = l; fed = k }) n t)
+act_stays (AtFill f) i line n k t = λ e. refl
+act_stays AtBreak i line n k t = λ e. cc
+act_stays (AtInstruction s) i line n k t = step_stays s i line n t
 
 reply_stays : (i : Inner) (arguments at : ℕ) (r : Reply) → SizeStays i (reply_taken i arguments at r)
 reply_stays i arguments at reply.Done = λ e. refl
@@ -221,23 +194,8 @@ reply_stays i arguments at (reply.Words words) = λ e. refl
 reply_stays i arguments at (reply.Refused r) = λ e. refl
 
 call_replied_stays : (c : Call) (i : Inner) (r : Reply) → SizeStays i (call_replied c i r)
-call_replied_stays (ReadLine at count) i r = λ e. refl
-call_replied_stays (WriteLine at count) i r = λ e. refl
-call_replied_stays GetTime i r = λ e. refl
-call_replied_stays GetMemory i r = λ e. refl
-call_replied_stays (SetMemory blocks) i r = λ e. refl
-call_replied_stays (FileStat name) i r = λ e. refl
-call_replied_stays (ReadFile name at count place) i r = λ e. refl
-call_replied_stays (WriteFile name at count place) i r = λ e. refl
-call_replied_stays (DeleteFile name) i r = λ e. refl
-call_replied_stays (RenameFile name to) i r = λ e. refl
-call_replied_stays (ChangesMode name mode) i r = λ e. refl
-call_replied_stays (CommonStat name) i r = reply_stays i 1 0 r
-call_replied_stays (CommonRead name at count place) i r = reply_stays i 3 at r
-call_replied_stays (CommonWrite name at count place) i r = reply_stays i 3 at r
-call_replied_stays (CommonDelete name) i r = reply_stays i 1 0 r
-call_replied_stays EndsDead i r = λ e. refl
-call_replied_stays EndsDormant i r = λ e. refl
+call_replied_stays (Common call) i r = reply_stays i (common_arguments call) (common_buffer call) r
+call_replied_stays _ i r = λ e. refl
 
 entry_replied_stays : (call : Result Call EntryFault) (i : Inner) (r : Reply) → SizeStays i (entry_replied call i r)
 entry_replied_stays (Ok call) i r = call_replied_stays call i r
@@ -250,10 +208,6 @@ step_replied_stays (entry w) i r = entry_replied_stays (call_of i.regs i.core w)
 step_replied_stays illegal i r = λ e. refl
 step_replied_stays (outside a) i r = λ e. refl
 
-program_replied_stays : (f : Option Fill) (i : Inner) (r : Reply) → SizeStays i (program_replied f i r)
-program_replied_stays (Some f) i r = λ e. refl
-program_replied_stays None i r = step_replied_stays (step_of i.regs i.core) i r
-
 copied_stays : (name : Option NamePair) (words : List ℕ) (i : Inner) (n t : ℕ) → SizeStays i (words_copied name words i n t)
 copied_stays (Some name) words i n t = change_stays (put name words i.account.tracks i.files) i n t
 copied_stays None words i n t = λ e. cc
@@ -264,19 +218,16 @@ command_replied_stays c i n t (reply.Size k) = λ e. cc
 command_replied_stays c i n t (reply.Words words) = copied_stays (copy_target c) words i n t
 command_replied_stays c i n t (reply.Refused r) = λ e. cc
 
-line_replied_stays : (i : Inner) (l : Option Line) (n t : ℕ) (r : Reply) → SizeStays i (line_replied i l n t r)
-line_replied_stays i None n t r = λ e. refl
-line_replied_stays i (Some l) n t r = command_replied_stays (command_of l) i n t r
+replied_stays : (x : Next) (i : Inner) (line : Option Line) (n t : ℕ) (r : Reply) → SizeStays i (replied_at x i line n t r)
+replied_stays AtCommand i line n t r = line_stays _ i line (λ l. command_replied_stays (command_of l) i n t r)
+replied_stays (AtInstruction s) i line n t r = step_replied_stays s i r
+replied_stays _ i line n t r = λ e. refl
 
-replied_stays : (s : ProgramState) (i : Inner) (l : Option Line) (n t : ℕ) (r : Reply) → SizeStays i (replied_in s i l n t r)
-replied_stays Dead i l n t r = line_replied_stays i l n t r
-replied_stays Dormant i l n t r = line_replied_stays i l n t r
-replied_stays Working i l n t r = program_replied_stays i.fill i r
-
-either_stays : (made : Option CommonOp) (i : Inner) (l : Option Line) (n k t : ℕ) (r : Reply) → SizeStays i (act_by made i l n k t r)
-either_stays None i l n k t r = act_stays i.state i l n k t
-either_stays (Some op) i l n k t r = replied_stays i.state i l n t r
+either_stays : (made : Option CommonOp) (x : Next) (i : Inner) (line : Option Line) (n k t : ℕ) (r : Reply) → SizeStays i (act_by made x i line n k t r)
+either_stays None x i line n k t r = act_stays x i line n k t
+either_stays (Some op) x i line n k t r = replied_stays x i line n t r
 
 pub went_stays : (t : ℕ) (r : Reply) (p : User) → ending t r p ≡ Went → blocks_of (step t r p).inner ≡ blocks_of p.inner
 unfolding ending step
-went_stays t r p e = either_stays (asks_common_in p.inner.state p.inner (line_of user_rows p)) p.inner (line_of user_rows p) (suc p.own - own_at_command_of user_rows p) (one_less (line_of user_rows p) p.fed) _ r e
+went_stays t r p e =
+    either_stays (asks_common_at (next_of p.inner) p.inner (line_of user_rows p)) (next_of p.inner) p.inner (line_of user_rows p) (suc p.own - own_at_command_of user_rows p) (one_less (line_of user_rows p) p.fed) _ r e

@@ -20,7 +20,6 @@ use Rattle.link_model.specs.Modules.{module_words}
 use Rattle.link_model.specs.Files.{module_name, files_linked}
 use Rattle.link_model.specs.ModuleCards as modules
 use Rattle.link_model.specs.ModuleCards.{ModuleMade, module_made, is_relocatable}
-use Rattle.cpu_regs.specs.Registers.{no_registers}
 use Rattle.program_model.specs.declared.ProgramState.{ProgramState}
 use Rattle.program_model.specs.declared.ProgramState.TheVariants.{Dead, Dormant, Working}
 use Rattle.program_model.specs.declared.Fill.TheVariants as fill
@@ -37,7 +36,8 @@ use Rattle.program_model.specs.declared.ComRefusal.{ComRefusal}
 use Rattle.program_model.specs.declared.ComRefusal.TheVariants as refusal_of
 use Rattle.program_model.specs.CommandLines.{command_lines}
 use Rattle.user_model.specs.Requests.{word_name}
-use Rattle.user_model.specs.Inner.{Inner, zeros, without_program}
+use Rattle.user_model.specs.Inner.{Inner, with_program, without_program}
+use Rattle.user_model.specs.Programs.{gives}
 use Rattle.user_model.specs.Texts.{time_text, ready_text, logged_out_text, fault_text, doubly_text, undefined_text}
 
 -- the line that is taken as a command, and how many lines of command files are unread behind it
@@ -47,8 +47,7 @@ pub record CommandLine : Type 0 where
 
 -- a command that is done in this step, with its text and then R n
 abbrev pub says : List Line → Inner → ℕ → ℕ → Outcome Inner
-says lines i n t =
-    record { inner = i; written = time_text t ∷ (lines ++ ready_text n ∷ []); front = []; ending = Stopped }
+says lines i n t = gives i (time_text t ∷ (lines ++ ready_text n ∷ [])) Stopped
 
 -- why a program isn't loaded
 abbrev pub load_text : LoadFault → Line
@@ -58,13 +57,7 @@ load_text TooLarge = codes "TOO LARGE"
 
 -- a program of plus zeros with all registers zero takes the place of the one before; its deck is stored in the next step
 abbrev pub prepared : ℕ → Result Deck LoadFault → Inner → ℕ → ℕ → Outcome Inner
-prepared name (Ok d) i n t =
-    record {
-      inner = record i { state = Working; regs = no_registers; blocks = d.blocks; core = zeros d.blocks; fill = Some (fill.Deck (deck_name name) d.start) };
-      written = time_text t ∷ [];
-      front = [];
-      ending = Replaced;
-    }
+prepared name (Ok d) i n t = gives (with_program d.blocks (fill.Deck (deck_name name) d.start) i) (time_text t ∷ []) Replaced
 prepared name (Err fault) i n t = says (load_text fault ∷ []) i n t
 
 -- a file's words as lines, or why there is none
@@ -79,8 +72,7 @@ changed (Err r) i n t = says (refusal_text r ∷ []) i n t
 
 -- an empty file is made, and the lines that come go to it
 abbrev pub input_made : NamePair → Result (List FileBody) Refusal → Inner → ℕ → ℕ → Outcome Inner
-input_made name (Ok files) i n t =
-    record { inner = record i { files = files; input = Some name }; written = time_text t ∷ []; front = []; ending = Stopped }
+input_made name (Ok files) i n t = gives (record i { files = files; input = Some name }) (time_text t ∷ []) Stopped
 input_made name (Err r) i n t = says (refusal_text r ∷ []) i n t
 
 -- a file that is there stands in the way
@@ -90,18 +82,12 @@ input_begun name None i n t = input_made name (put name [] i.account.tracks i.fi
 
 -- a saved program takes the place of the one before; its words and registers are stored in the next step
 abbrev pub resumed : ℕ → Result ℕ LoadFault → Inner → ℕ → ℕ → Outcome Inner
-resumed name (Ok blocks) i n t =
-    record {
-      inner = record i { state = Working; regs = no_registers; blocks = blocks; core = zeros blocks; fill = Some (fill.Saved (saved_name name)) };
-      written = time_text t ∷ [];
-      front = [];
-      ending = Replaced;
-    }
+resumed name (Ok blocks) i n t = gives (with_program blocks (fill.Saved (saved_name name)) i) (time_text t ∷ []) Replaced
 resumed name (Err fault) i n t = says (load_text fault ∷ []) i n t
 
 -- the program that stopped goes on
 abbrev pub started : Inner → ℕ → Outcome Inner
-started i t = record { inner = record i { state = Working }; written = time_text t ∷ []; front = []; ending = Resized }
+started i t = gives (record i { state = Working }) (time_text t ∷ []) Resized
 
 -- whether a program stopped, and is there
 abbrev pub is_dormant : ProgramState → Bool
@@ -158,7 +144,7 @@ linked_put name (Err refusal) i n t = says (link_text refusal ∷ []) i n t
 
 -- the debugger is opened on a program that stopped, without a breakpoint
 abbrev pub debugged : Inner → ℕ → Outcome Inner
-debugged i t = record { inner = record i { debugger = Some no_stops }; written = time_text t ∷ []; front = []; ending = Stopped }
+debugged i t = gives (record i { debugger = Some no_stops }) (time_text t ∷ []) Stopped
 
 -- the file that commands are read from
 abbrev pub command_file : ℕ → NamePair
@@ -188,12 +174,7 @@ why_not (Err r) = refusal_text r ∷ []
 abbrev pub command_row : Command → Inner → CommandLine → ℕ → ℕ → Outcome Inner
 command_row Empty i x n t = says [] i n t
 command_row Logout i x n t =
-    record {
-      inner = without_program (record i { files = lasting i.files });
-      written = time_text t ∷ logged_out_text i.account.name ∷ [];
-      front = [];
-      ending = LoggedOut;
-    }
+    gives (without_program (record i { files = lasting i.files })) (time_text t ∷ logged_out_text i.account.name ∷ []) LoggedOut
 command_row (LoadGo name) i x n t = prepared name (deck_of i.account.blocks (got (deck_name name) i.files)) i n t
 command_row Lists i x n t = says (listing_lines i.account.tracks i.files) i n t
 command_row (Print name) i x n t = says (printed (got name i.files)) i n t
@@ -245,14 +226,15 @@ command_replied c i n t (Refused r) = says (refusal_text r ∷ []) i n t
 
 -- INPUT is over, with this text and R n
 abbrev pub input_ends : List Line → Inner → ℕ → Outcome Inner
-input_ends lines i n = record { inner = record i { input = None }; written = lines ++ ready_text n ∷ []; front = []; ending = Stopped }
+input_ends lines i n = gives (record i { input = None }) (lines ++ ready_text n ∷ []) Stopped
 
 -- a line is typed into a file; where that is refused, INPUT is over
 abbrev pub line_entered : Result (List FileBody) Refusal → Inner → ℕ → Outcome Inner
-line_entered (Ok files) i n = record { inner = record i { files = files }; written = []; front = []; ending = Stopped }
+line_entered (Ok files) i n = gives (record i { files = files }) [] Stopped
 line_entered (Err r) i n = input_ends (refusal_text r ∷ []) i n
 
 -- The row of a line of INPUT for a file: its 14 words go behind the file's, and an empty line ends it. R n counts from the
 -- command INPUT.
 abbrev pub input_row : NamePair → Line → Inner → ℕ → Outcome Inner
-input_row name l i n = if nat_eq (length l) 0 then input_ends [] i n else line_entered (appended name (words_of_line 14 l) i.account.tracks i.files) i n
+input_row name l i n =
+    if nat_eq (length l) 0 then input_ends [] i n else line_entered (appended name (words_of_line 14 l) i.account.tracks i.files) i n

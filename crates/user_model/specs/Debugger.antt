@@ -10,11 +10,12 @@ use Rattle.program_model.specs.declared.ProgramState.TheVariants.{Working}
 use Rattle.program_model.specs.Lines.{with_words}
 use Rattle.program_model.specs.Saved.{register_lines, word_line}
 use Rattle.user_model.specs.Inner.{Inner}
+use Rattle.user_model.specs.Programs.{gives}
 use Rattle.user_model.specs.Texts.{ready_text}
 
 -- a line of the debugger writes its text and no R n
 abbrev pub tells : List Line → Inner → Outcome Inner
-tells lines i = record { inner = i; written = lines; front = []; ending = Stopped }
+tells lines i = gives i lines Stopped
 
 abbrev pub bad_line : Inner → Outcome Inner
 bad_line i = tells (codes "BAD ARGUMENTS" ∷ []) i
@@ -29,7 +30,7 @@ if_inside a done i = if nat_lt a (length i.core) then tells [] done else tells (
 
 -- the program goes on, and hasn't stepped yet
 abbrev pub let_go : Stops → Inner → Outcome Inner
-let_go s i = record { inner = record i { state = Working; debugger = Some (record s { stepped = false }) }; written = []; front = []; ending = Resized }
+let_go s i = gives (record i { state = Working; debugger = Some (record s { stepped = false }) }) [] Resized
 
 -- the debugger is closed
 abbrev pub debugger_ends : Inner → ℕ → Outcome Inner

@@ -1,12 +1,12 @@
 -- claim: one user's inner state: all of a user but the unread lines, the transcript and the counts.
-use Rattle.std.specs.Prelude.{ℕ, ◌-◌, ◌*◌, List, [], ◌++◌, length, take, replicate, Option, None}
+use Rattle.std.specs.Prelude.{ℕ, ◌-◌, ◌*◌, List, [], ◌++◌, length, take, replicate, Option, Some, None}
 use Rattle.ctss_types.specs.declared.script.Account.{Account}
 use Rattle.ctss_types.specs.Names.{NamePair}
 use Rattle.ctss_types.specs.declared.file.FileBody.{FileBody}
 use Rattle.cpu_regs.specs.declared.regs.Regs.{Regs}
 use Rattle.cpu_regs.specs.Registers.{no_registers}
 use Rattle.program_model.specs.declared.ProgramState.{ProgramState}
-use Rattle.program_model.specs.declared.ProgramState.TheVariants.{Dead}
+use Rattle.program_model.specs.declared.ProgramState.TheVariants.{Dead, Working}
 use Rattle.program_model.specs.declared.Fill.{Fill}
 use Rattle.program_model.specs.Stops.{Stops}
 
@@ -41,6 +41,10 @@ zeros blocks = replicate (256 * blocks) 0
 -- a core cut to so many blocks, or extended to them by plus zeros
 abbrev pub recut : ℕ → List ℕ → List ℕ
 recut blocks core = take (256 * blocks) core ++ replicate (256 * blocks - length core) 0
+
+-- another program of so many blocks works, whose words and registers are still to be stored
+abbrev pub with_program : ℕ → Fill → Inner → Inner
+with_program blocks fill i = record i { state = Working; regs = no_registers; blocks = blocks; core = zeros blocks; fill = Some fill }
 
 -- no program is left, and the debugger is closed
 abbrev pub without_program : Inner → Inner

@@ -1,7 +1,7 @@
 -- claim: the steps of a program that works: what each end of an instruction and each supervisor entry does.
-use Rattle.std.specs.Prelude.{ℕ, ◌+◌, ◌*◌, Bool, true, false, not, if◌then◌else◌, ◌||◌, ◌&&◌, nat_eq, nat_lt, nat_le, List, [], ◌∷◌, ◌++◌, length, codes, Option, Some, None, Ok, Err}
+use Rattle.std.specs.Prelude.{ℕ, ◌+◌, ◌*◌, Bool, true, false, if◌then◌else◌, ◌||◌, nat_eq, nat_lt, nat_le, List, [], ◌∷◌, ◌++◌, length, codes, Option, Some, None, Ok, Err}
 use Rattle.std.specs.declared.result.Result.{Result}
-use Rattle.time_sharing.specs.Machine.{Line, Went, Stopped, Resized, CommonOp, Reply}
+use Rattle.time_sharing.specs.Machine.{Line, Ending, Went, Stopped, Resized, CommonOp, Reply}
 use Rattle.time_sharing.specs.Rows.{Outcome}
 use Rattle.ctss_types.specs.declared.file.FileBody.{FileBody}
 use Rattle.ctss_types.specs.declared.file.CommonOp.TheVariants as op
@@ -11,9 +11,10 @@ use Rattle.file_model.specs.declared.Stat.{Stat}
 use Rattle.file_model.specs.Files.{stat, read, got, written, renamed, deleted, moded}
 use Rattle.file_model.specs.Texts.{refusal_number}
 use Rattle.machine_model.specs.Step.{Step, went, halt, entry, illegal, outside}
-use Rattle.machine_model.specs.Machine.{step_of}
 use Rattle.program_model.specs.declared.Call.{Call}
-use Rattle.program_model.specs.declared.Call.TheVariants.{ReadLine, WriteLine, GetTime, GetMemory, SetMemory, FileStat, ReadFile, WriteFile, DeleteFile, RenameFile, ChangeMode, CommonStat, CommonRead, CommonWrite, CommonDelete, Dead, Dormant}
+use Rattle.program_model.specs.declared.Call.TheVariants.{ReadLine, WriteLine, GetTime, GetMemory, SetMemory, FileStat, ReadFile, WriteFile, DeleteFile, RenameFile, ChangeMode, Common, Dead, Dormant}
+use Rattle.program_model.specs.declared.CommonCall.{CommonCall}
+use Rattle.program_model.specs.declared.CommonCall.TheVariants as common
 use Rattle.program_model.specs.declared.EntryFault.{EntryFault}
 use Rattle.program_model.specs.declared.EntryFault.TheVariants.{NoSuchEntry, Outside}
 use Rattle.program_model.specs.declared.ProgramState.TheVariants as program
@@ -26,13 +27,17 @@ use Rattle.program_model.specs.Stops.{Stops, meets}
 use Rattle.user_model.specs.Inner.{Inner, recut, without_program}
 use Rattle.user_model.specs.Texts.{ready_text, stop_text}
 
+-- what a row leaves, writes and ends as; no line goes before the unread ones
+abbrev pub gives : Inner → List Line → Ending → Outcome Inner
+gives i written e = record { inner = i; written = written; front = []; ending = e }
+
 -- the program goes on
 abbrev pub goes : Inner → Outcome Inner
-goes i = record { inner = i; written = []; front = []; ending = Went }
+goes i = gives i [] Went
 
 -- the program doesn't run any more: these lines, and R n
 abbrev pub stops : List Line → Inner → ℕ → Outcome Inner
-stops lines i n = record { inner = record i { state = program.Dormant }; written = lines ++ ready_text n ∷ []; front = []; ending = Stopped }
+stops lines i n = gives (record i { state = program.Dormant }) (lines ++ ready_text n ∷ []) Stopped
 
 -- an answer to a call, with so many arguments
 abbrev pub replied : Inner → ℕ → ℕ → Option ℕ → Inner
@@ -45,15 +50,14 @@ read_line i at count (Some l) = goes (record (replied i 1 0 (Some (length l))) {
 
 -- a buffer is written as a line
 abbrev pub write_line : Inner → ℕ → ℕ → Outcome Inner
-write_line i at count =
-    record { inner = replied i 1 0 None; written = line_of_words (words_at i.core at count) ∷ []; front = []; ending = Went }
+write_line i at count = gives (replied i 1 0 None) (line_of_words (words_at i.core at count) ∷ []) Went
 
 -- another size, from 1 block to the quota
 abbrev pub set_memory : Inner → ℕ → Outcome Inner
 set_memory i blocks =
     if nat_eq blocks 0 || nat_lt i.account.blocks blocks then goes (replied i 1 3 None)
     else (if nat_eq blocks i.blocks then goes (replied i 1 0 None)
-    else record { inner = record (replied i 1 0 None) { blocks = blocks; core = recut blocks i.core }; written = []; front = []; ending = Resized })
+    else gives (record (replied i 1 0 None) { blocks = blocks; core = recut blocks i.core }) [] Resized)
 
 -- an answer that is a refusal
 abbrev pub refused : Inner → ℕ → Refusal → Outcome Inner
@@ -78,6 +82,24 @@ files_changed i arguments (Err r) = refused i arguments r
 abbrev pub is_common_count : ℕ → Bool
 is_common_count count = nat_le count 432
 
+-- the operation of a call on a common file
+abbrev pub common_asks : CommonCall → List ℕ → Option CommonOp
+common_asks (common.Stat name) core = Some (op.Stat name)
+common_asks (common.Read name at count place) core = if is_common_count count then Some (op.Read name place count) else None
+common_asks (common.Write name at count place) core = if is_common_count count then Some (op.Write name place (words_at core at count)) else None
+common_asks (common.Delete name) core = Some (op.Delete name)
+
+-- how many arguments it has
+abbrev pub common_arguments : CommonCall → ℕ
+common_arguments (common.Read name at count place) = 3
+common_arguments (common.Write name at count place) = 3
+common_arguments _ = 1
+
+-- where words of a reply go
+abbrev pub common_buffer : CommonCall → ℕ
+common_buffer (common.Read name at count place) = at
+common_buffer _ = 0
+
 -- the row of an entry that makes no common operation, with the line that it takes, n own steps since the command, and the clock at t
 abbrev pub call_row : Call → Inner → Option Line → ℕ → ℕ → Outcome Inner
 call_row (ReadLine at count) i l n t = if is_line_count count then read_line i at count l else goes (replied i 1 7 None)
@@ -91,19 +113,13 @@ call_row (WriteFile name at count place) i l n t = files_changed i 3 (written na
 call_row (DeleteFile name) i l n t = files_changed i 1 (deleted name i.files)
 call_row (RenameFile name to) i l n t = files_changed i 2 (renamed name to i.files)
 call_row (ChangeMode name mode) i l n t = files_changed i 2 (moded name mode i.files)
-call_row (CommonStat name) i l n t = goes (replied i 1 7 None)
-call_row (CommonRead name at count place) i l n t = goes (replied i 3 7 None)
-call_row (CommonWrite name at count place) i l n t = goes (replied i 3 7 None)
-call_row (CommonDelete name) i l n t = goes (replied i 1 7 None)
-call_row Dead i l n t = record { inner = without_program i; written = ready_text n ∷ []; front = []; ending = Stopped }
+call_row (Common call) i l n t = goes (replied i (common_arguments call) 7 None)
+call_row Dead i l n t = gives (without_program i) (ready_text n ∷ []) Stopped
 call_row Dormant i l n t = stops [] (replied i 0 0 None) n
 
 -- the common operation that a call makes
 abbrev pub call_asks : Call → List ℕ → Option CommonOp
-call_asks (CommonStat name) core = Some (op.Stat name)
-call_asks (CommonRead name at count place) core = if is_common_count count then Some (op.Read name place count) else None
-call_asks (CommonWrite name at count place) core = if is_common_count count then Some (op.Write name place (words_at core at count)) else None
-call_asks (CommonDelete name) core = Some (op.Delete name)
+call_asks (Common call) core = common_asks call core
 call_asks _ core = None
 
 -- a call that made a common operation, with so many arguments, takes its reply; words go to a buffer
@@ -115,10 +131,7 @@ reply_taken i arguments at (Refused r) = refused i arguments r
 
 -- the row of an entry that made a common operation
 abbrev pub call_replied : Call → Inner → Reply → Outcome Inner
-call_replied (CommonStat name) i r = reply_taken i 1 0 r
-call_replied (CommonRead name at count place) i r = reply_taken i 3 at r
-call_replied (CommonWrite name at count place) i r = reply_taken i 3 at r
-call_replied (CommonDelete name) i r = reply_taken i 1 0 r
+call_replied (Common call) i r = reply_taken i (common_arguments call) (common_buffer call) r
 call_replied _ i r = goes i
 
 abbrev pub entry_row : Result Call EntryFault → Inner → Option Line → ℕ → ℕ → Outcome Inner
@@ -209,29 +222,3 @@ with_step o = record o { inner = has_stepped o.inner }
 -- a break touches neither registers nor words
 abbrev pub breaks : Inner → ℕ → Outcome Inner
 breaks i n = stops (stop_text (codes "BREAK") i.regs.ic ∷ []) i n
-
--- a break where there is one, and else the next instruction
-abbrev pub run_row : Bool → Step → Inner → Option Line → ℕ → ℕ → Outcome Inner
-run_row true s i l n t = breaks i n
-run_row false s i l n t = with_step (step_row s i l n t)
-
--- a program's step: of one that still has to be filled, that; else a break or its next instruction
-abbrev pub program_row : Option Fill → Inner → Option Line → ℕ → ℕ → Outcome Inner
-program_row (Some f) i l n t = goes (filled_program f i)
-program_row None i l n t = run_row (at_break i) (step_of i.regs i.core) i l n t
-
-abbrev pub program_reads : Option Fill → Inner → Bool
-program_reads (Some f) i = false
-program_reads None i = not (at_break i) && reads_line (step_of i.regs i.core) i
-
-abbrev pub program_asks : Option Fill → Inner → Bool
-program_asks (Some f) i = false
-program_asks None i = not (at_break i) && asks_time (step_of i.regs i.core) i
-
-abbrev pub program_asks_common : Option Fill → Inner → Option CommonOp
-program_asks_common (Some f) i = None
-program_asks_common None i = if at_break i then None else step_asks (step_of i.regs i.core) i
-
-abbrev pub program_replied : Option Fill → Inner → Reply → Outcome Inner
-program_replied (Some f) i reply = goes i
-program_replied None i reply = with_step (step_replied (step_of i.regs i.core) i reply)

@@ -84,30 +84,36 @@ linking_of (w ∷ ws) =
     if nat_le 1 (length ws) && (nat_le (length ws) 8 && list_all (λ m. nat_le (length m) 6) ws) then if_some (λ name. Link name) (word_name w)
     else BadArguments
 
--- what the words behind a command's name ask for
-abbrev pub command_by : Line → List Line → Command
-command_by w ws =
-    if bytes_eq w (codes "LOGOUT") then alone Logout ws
-    else (if bytes_eq w (codes "LOADGO") then with_name (λ name. LoadGo name) ws
-    else (if bytes_eq w (codes "LISTF") then alone Lists ws
-    else (if bytes_eq w (codes "PRINTF") then with_file (λ name. Print name) ws
-    else (if bytes_eq w (codes "RENAME") then rename_of ws
-    else (if bytes_eq w (codes "DELETE") then with_file (λ name. Delete name) ws
-    else (if bytes_eq w (codes "CHMODE") then chmode_of ws
-    else (if bytes_eq w (codes "INPUT") then with_file (λ name. Input name) ws
-    else (if bytes_eq w (codes "COPY") then copy_by ws
-    else (if bytes_eq w (codes "FAP") then with_name (λ name. Assemble name) ws
-    else (if bytes_eq w (codes "LINK") then linking_of ws
-    else (if bytes_eq w (codes "START") then alone Start ws
-    else (if bytes_eq w (codes "SAVE") then with_name (λ name. Save name) ws
-    else (if bytes_eq w (codes "RESUME") then with_name (λ name. Resume name) ws
-    else (if bytes_eq w (codes "PM") then post_mortem_of ws
-    else (if bytes_eq w (codes "FAPDBG") then alone Debug ws
-    else (if bytes_eq w (codes "RUNCOM") then run_of ws else Unknown))))))))))))))))
+-- each command's name, and what the words behind it ask for
+abbrev pub commands : List (Line × (List Line → Command))
+commands =
+    (codes "LOGOUT", alone Logout)
+    ∷ (codes "LOADGO", with_name (λ name. LoadGo name))
+    ∷ (codes "LISTF", alone Lists)
+    ∷ (codes "PRINTF", with_file (λ name. Print name))
+    ∷ (codes "RENAME", rename_of)
+    ∷ (codes "DELETE", with_file (λ name. Delete name))
+    ∷ (codes "CHMODE", chmode_of)
+    ∷ (codes "INPUT", with_file (λ name. Input name))
+    ∷ (codes "COPY", copy_by)
+    ∷ (codes "FAP", with_name (λ name. Assemble name))
+    ∷ (codes "LINK", linking_of)
+    ∷ (codes "START", alone Start)
+    ∷ (codes "SAVE", with_name (λ name. Save name))
+    ∷ (codes "RESUME", with_name (λ name. Resume name))
+    ∷ (codes "PM", post_mortem_of)
+    ∷ (codes "FAPDBG", alone Debug)
+    ∷ (codes "RUNCOM", run_of)
+    ∷ []
+
+-- the command of a name, among those of a list
+abbrev pub command_named : List (Line × (List Line → Command)) → Line → List Line → Command
+command_named [] w ws = Unknown
+command_named ((name, asks) ∷ rest) w ws = if bytes_eq w name then asks ws else command_named rest w ws
 
 abbrev pub command_of_words : List Line → Command
 command_of_words [] = Empty
-command_of_words (w ∷ ws) = command_by w ws
+command_of_words (w ∷ ws) = command_named commands w ws
 
 -- what a line asks for
 unfoldable pub command_of : Line → Command

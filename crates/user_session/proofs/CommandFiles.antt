@@ -5,7 +5,7 @@ use Rattle.ctss_types.specs.Words.{words_of}
 use Rattle.ctss_types.specs.declared.file.Refusal.{Refusal}
 use Rattle.program_model.specs.Lines.{lines_of_words}
 use Rattle.program_model.specs.CommandLines.{lines_with, command_lines}
-use Rattle.cmd_files.specs.Lines.{lines_got}
+use Rattle.cmd_program.specs.Lines.{lines_got}
 use Rattle.user_model.specs.Inner.{Inner}
 use Rattle.user_model.specs.Commands.{CommandLine, lines_added, file_run}
 

@@ -14,6 +14,10 @@ pub record CanStep (p : User) (words : List ℕ) : Type 0 where
   pub size : length words ≡ 256 * p.inner.blocks
   pub fits : p.own < 2 ^ 64 - 1
 
+-- these words can be the core of the user's program: as many as its blocks hold
+abbrev pub IsCoreOf : User → List ℕ → Type 0
+IsCoreOf p core = length core ≡ 256 * p.inner.blocks
+
 -- the next step of a user is an instruction of a program that works
 pub record IsAtInstruction (p : User) : Type 0 where
   pub on : p.on ≡ true

@@ -1,5 +1,5 @@
 //! FAP: a file of cards is assembled.
-ghost use Rattle.std.specs.Prelude.{◌≡◌, ◌<◌, ◌-◌, ◌*◌, ◌^◌, true, length, IfOk, OnErr};
+ghost use Rattle.std.specs.Prelude.{◌≡◌, ◌<◌, ◌-◌, ◌^◌, ℕ, List, IfOk};
 ghost use Rattle.file_model.specs.Files.{got};
 ghost use Rattle.cmd_fap.specs.Assemblies.{assembly_got};
 ghost use Rattle.user_model.specs.Answers.{DidCommand};
@@ -7,15 +7,14 @@ ghost use Rattle.link_model.specs.Files.{module_name};
 ghost use Rattle.user_model.specs.Commands.{cards_name};
 ghost use Rattle.user_session.specs.Stores.{stored, Over, OfSome, Uses, Reads};
 ghost use Rattle.user_model.specs.declared.Command.{Command};
-ghost use Rattle.user_session.specs.Calls.{CanStep, IsDirectoryOf, KeepsUser};
+ghost use Rattle.user_session.specs.Calls.{IsCoreOf, IsDirectoryOf, KeepsUser};
 
 use crate::Step;
 use crate::command::deck_name;
 use crate::file_command::DONE;
 use crate::session::Session;
 use cmd_fap::{Assembly, assemble_file};
-use cmd_files::refusal_text;
-use cpu_regs::MemoryPort;
+use cmd_program::refusal_text;
 use ctss_types::{FileName, LineText, Refusal, StepFault, name_word};
 use file_map::{FilePort, PortFault};
 use word36::Word;
@@ -56,26 +55,23 @@ impl Session {
 
     /// FAP: the deck or the module of a file of cards is put, or the faults of the cards are printed.
     #[tactic(auto, using(user_model::proofs::CoreLaws::recut_same))]
-    pub(crate) fn assemble<M: MemoryPort, P: FilePort>(
+    pub(crate) fn assemble<P: FilePort>(
         &mut self,
-        core: &M,
         files: &mut P,
         line: LineText,
         name: Word,
         now: u64,
     ) -> Result<Step, StepFault>
-        requires on { self.old.on ≡ true }
-        requires can { CanStep self.old (M.words core.now) }
+        requires fits { self.old.own < 2 ^ 64 - 1 }
         requires own { IsDirectoryOf P.FilePort self.old files.old }
-        ensures row { IfOk result (λ s. Over (P.tells files.old)
-            (stored (M.words core.now) (P.files files.old)) (stored (M.words core.now) (P.files files.new))
+        ensures row { (core : List ℕ) → IsCoreOf self.old core → IfOk result (λ s. Over (P.tells files.old)
+            (stored core (P.files files.old)) (stored core (P.files files.new))
             (DidCommand line (Command.Assemble name) s.ending s.clock now self.old self.new)) }
         ensures user { KeepsUser result self.old self.new }
         ensures uses { Uses P.FilePort result files.old files.new }
     {
         match self.assembly_of(files, name)? {
             Ok(Assembly::Deck(words)) => self.put_file(
-                core,
                 files,
                 line,
                 deck_name(name),
@@ -83,7 +79,6 @@ impl Session {
                 now,
             ),
             Ok(Assembly::Module(words)) => self.put_file(
-                core,
                 files,
                 line,
                 module_name(name),

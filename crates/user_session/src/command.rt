@@ -1,28 +1,28 @@
 //! Steps of a user without a program that works: the first unread line as a command, or in INPUT.
-ghost use Rattle.std.specs.Prelude.{◌≡◌, ◌<◌, ◌≤◌, ◌+◌, ◌-◌, ◌*◌, ◌^◌, ◌++◌, ◌∷◌, [], suc, true, false, Some, None, length, drop, option_to_list, slice_get, IfOk, OnOk, OnErr};
+ghost use Rattle.std.specs.Prelude.{◌≡◌, ◌<◌, ◌≤◌, ◌+◌, ◌-◌, ◌^◌, ◌++◌, ◌∷◌, [], ℕ, List, suc, true, false, Some, None, length, drop, option_to_list, IfOk, OnOk, OnErr};
 ghost use Rattle.std.specs.List.{list_all};
 ghost use Rattle.bcd48.specs.Characters.{is_character};
 ghost use Rattle.cpu_regs.specs.Registers.{no_registers};
 ghost use Rattle.user_model.specs.declared.Command.{Command};
-ghost use Rattle.file_model.specs.Files.{got, lasting};
+ghost use Rattle.file_model.specs.Files.{got};
 ghost use Rattle.program_model.specs.Decks.{deck_of, deck_name};
 ghost use Rattle.program_model.specs.Fills.{StartsInCore};
 ghost use Rattle.program_model.specs.declared.ProgramState.TheVariants.{Dead, Working};
 ghost use Rattle.time_sharing.specs.Machine.{In, Out};
 ghost use Rattle.time_sharing.specs.Rows.{out_all};
 ghost use Rattle.user_model.specs.Session.{works_in};
-ghost use Rattle.user_model.specs.Texts.{time_text, ready_text, logged_out_text};
+ghost use Rattle.user_model.specs.Texts.{time_text, ready_text};
 ghost use Rattle.user_session.specs.Stores.{stored, Over, OfSome, Uses, Reads};
 ghost use Rattle.user_session.specs.Turns.{IsTurn, Obeys};
-ghost use Rattle.user_session.specs.Calls.{CanStep, IsDirectoryOf, KeepsUser};
+ghost use Rattle.user_session.specs.Calls.{CanStep, IsCoreOf, IsDirectoryOf, KeepsUser};
 
 use crate::file_command::DONE;
 use crate::session::Session;
 use crate::{Step, Turn};
 use cmd_program::{PrepareFault, prepare};
-use command_lines::command_table::command_of;
 use cpu_regs::{MemoryPort, Regs};
 use ctss_types::{CommonOp, Ending, FileName, LineText, NoMemory, StepFault, name_word};
+use dialogue::command_table::command_of;
 use dialogue::session_text::load_text;
 use file_map::FilePort;
 use program_model::{Deck, Fill, LoadFault, ProgramState};
@@ -80,17 +80,16 @@ impl Session {
 
     /// LOGOUT: the program goes, and files of mode 0.
     #[tactic(auto, using(user_model::proofs::CoreLaws::recut_none))]
-    fn log_out<M: MemoryPort, P: FilePort>(
+    fn log_out<P: FilePort>(
         &mut self,
-        core: &M,
         files: &mut P,
         line: LineText,
         now: u64,
     ) -> Result<Turn, StepFault>
         requires port { P.Usable files.old }
         requires fits { self.old.own < 2 ^ 64 - 1 }
-        ensures row { IfOk result (λ turn. Obeys line Command.Logout turn now self.old self.new
-            (stored (M.words core.now) (P.files files.old)) (stored (M.words core.now) (P.files files.new))) }
+        ensures row { (core : List ℕ) → IfOk result (λ turn. Obeys line Command.Logout turn now self.old self.new
+            (stored core (P.files files.old)) (stored core (P.files files.new))) }
         ensures user { KeepsUser result self.old self.new }
         ensures uses { Uses P.FilePort result files.old files.new }
     {
@@ -99,11 +98,7 @@ impl Session {
         self.count_command();
         files.drop_temporary();
         self.on = false;
-        self.state = ProgramState::Dead;
-        self.regs = Regs::new();
-        self.blocks = 0;
-        self.fill = None;
-        self.debugger = None;
+        self.drop_program();
         Ok(Turn::Done(Step {
             ending: Ending::LoggedOut,
             clock: true,
@@ -164,19 +159,17 @@ impl Session {
 
     /// LOADGO: the program of a deck, or why there is none.
     #[tactic(auto, using(user_model::proofs::CoreLaws::recut_same))]
-    fn load<M: MemoryPort, P: FilePort>(
+    fn load<P: FilePort>(
         &mut self,
-        core: &M,
         files: &mut P,
         line: LineText,
         name: Word,
         now: u64,
     ) -> Result<Turn, StepFault>
-        requires on { self.old.on ≡ true }
-        requires can { CanStep self.old (M.words core.now) }
+        requires fits { self.old.own < 2 ^ 64 - 1 }
         requires port { P.Usable files.old }
-        ensures row { IfOk result (λ turn. Over (P.tells files.old)
-            (stored (M.words core.now) (P.files files.old)) (stored (M.words core.now) (P.files files.new))
+        ensures row { (core : List ℕ) → IsCoreOf self.old core → IfOk result (λ turn. Over (P.tells files.old)
+            (stored core (P.files files.old)) (stored core (P.files files.new))
             (Obeys line (Command.LoadGo name) turn now self.old self.new)) }
         ensures user { KeepsUser result self.old self.new }
         ensures uses { Uses P.FilePort result files.old files.new }
@@ -213,7 +206,6 @@ impl Session {
         command: Command,
         now: u64,
     ) -> Result<Turn, StepFault>
-        requires on { self.old.on ≡ true }
         requires can { CanStep self.old (M.words core.now) }
         requires own { IsDirectoryOf P.FilePort self.old files.old }
         ensures row { IfOk result (λ turn. Over (P.tells files.old)
@@ -227,38 +219,38 @@ impl Session {
                 self.say(line, None, now)?;
                 Ok(Turn::Done(DONE))
             }
-            Command::Logout => self.log_out(core, files, line, now),
-            Command::LoadGo(name) => self.load(core, files, line, name, now),
+            Command::Logout => self.log_out(files, line, now),
+            Command::LoadGo(name) => self.load(files, line, name, now),
             Command::List => {
-                let done = self.list_files(core, files, line, now)?;
+                let done = self.list_files(files, line, now)?;
                 Ok(Turn::Done(done))
             }
-            Command::Print(name) => self.print_file(core, files, line, name, now),
-            Command::Rename { name, to } => self.rename(core, files, line, name, to, now),
-            Command::Delete(name) => self.delete(core, files, line, name, now),
-            Command::ChangeMode { name, mode } => self.chmode(core, files, line, name, mode, now),
-            Command::Input(name) => self.begin_input(core, files, line, name, now),
-            Command::CopyTo(name) => self.ask_copy(core, files, line, name, now),
+            Command::Print(name) => self.print_file(files, line, name, now),
+            Command::Rename { name, to } => self.rename(files, line, name, to, now),
+            Command::Delete(name) => self.delete(files, line, name, now),
+            Command::ChangeMode { name, mode } => self.chmode(files, line, name, mode, now),
+            Command::Input(name) => self.begin_input(files, line, name, now),
+            Command::CopyTo(name) => self.ask_copy(files, line, name, now),
             Command::CopyFrom(name) => Ok(self.ask(CommonOp::Get(name))?),
             Command::Assemble(name) => {
-                let done = self.assemble(core, files, line, name, now)?;
+                let done = self.assemble(files, line, name, now)?;
                 Ok(Turn::Done(done))
             }
             Command::Link(name) => {
-                let done = self.link(core, files, line, name, now)?;
+                let done = self.link(files, line, name, now)?;
                 Ok(Turn::Done(done))
             }
-            Command::Start => Ok(Turn::Done(self.start(core, line, now)?)),
+            Command::Start => Ok(Turn::Done(self.start(line, now)?)),
             Command::Save(name) => {
                 let done = self.save(core, files, line, name, now)?;
                 Ok(Turn::Done(done))
             }
-            Command::Resume(name) => self.resume(core, files, line, name, now),
-            Command::Registers => Ok(Turn::Done(self.tell_registers(core, line, now)?)),
+            Command::Resume(name) => self.resume(files, line, name, now),
+            Command::Registers => Ok(Turn::Done(self.tell_registers(line, now)?)),
             Command::WordAt { place } => Ok(Turn::Done(self.tell_word(core, line, place, now)?)),
-            Command::Debug => Ok(Turn::Done(self.open_debugger(core, line, now)?)),
+            Command::Debug => Ok(Turn::Done(self.open_debugger(line, now)?)),
             Command::RunFile(name) => {
-                let done = self.run_file(core, files, line, name, now)?;
+                let done = self.run_file(files, line, name, now)?;
                 Ok(Turn::Done(done))
             }
             Command::BadArguments => {
@@ -292,13 +284,12 @@ impl Session {
         ensures user { KeepsUser result self.old self.new }
         ensures uses { Uses P.FilePort result files.old files.new }
     {
-        let _ = &self.account;
         let Some(line) = self.first_line() else {
             return Ok(Turn::Waits);
         };
         match self.input {
             Some(name) => {
-                let typed = self.type_line(core, files, line, name, now)?;
+                let typed = self.type_line(files, line, name)?;
                 Ok(Turn::Done(typed))
             }
             None => {

@@ -1,5 +1,5 @@
 //! COPY: a file goes to the common files, or comes from them.
-ghost use Rattle.std.specs.Prelude.{◌≡◌, ◌<◌, ◌-◌, ◌*◌, ◌^◌, List, true, length, IfOk, OnErr};
+ghost use Rattle.std.specs.Prelude.{◌≡◌, ◌<◌, ◌-◌, ◌^◌, ℕ, List, IfOk};
 ghost use Rattle.user_model.specs.Commands.{copy_target};
 ghost use Rattle.user_model.specs.declared.Command.{Command};
 ghost use Rattle.user_session.specs.Changes.{Copies, TookReply};
@@ -7,13 +7,12 @@ ghost use Rattle.user_session.specs.Stores.{stored, Over, OfSome, Uses};
 ghost use Rattle.ctss_types.specs.declared.file.FileBody.{FileBody};
 ghost use Rattle.file_map.specs.Known.{known};
 ghost use Rattle.user_session.specs.Turns.{Obeys};
-ghost use Rattle.user_session.specs.Calls.{CanStep, IsDirectoryOf, KeepsUser};
+ghost use Rattle.user_session.specs.Calls.{IsCoreOf, IsDirectoryOf, KeepsUser};
 
 use crate::file_command::DONE;
 use crate::session::Session;
 use crate::{Step, Turn};
-use cmd_files::refusal_text;
-use cpu_regs::MemoryPort;
+use cmd_program::refusal_text;
 use ctss_types::{CommonOp, FileName, LineText, Reply, StepFault, WordList};
 use file_map::{FilePort, PortFault};
 use user_model::Command;
@@ -31,19 +30,17 @@ fn copy_target(command: Command) -> Option<FileName>
 impl Session {
     /// COPY TO: the operation that puts the file, or why the file isn't read.
     #[tactic(auto, using(user_model::proofs::CoreLaws::recut_same))]
-    pub(crate) fn ask_copy<M: MemoryPort, P: FilePort>(
+    pub(crate) fn ask_copy<P: FilePort>(
         &mut self,
-        core: &M,
         files: &mut P,
         line: LineText,
         name: FileName,
         now: u64,
     ) -> Result<Turn, StepFault>
-        requires on { self.old.on ≡ true }
-        requires can { CanStep self.old (M.words core.now) }
+        requires fits { self.old.own < 2 ^ 64 - 1 }
         requires port { P.Usable files.old }
-        ensures row { IfOk result (λ turn. Over (P.tells files.old)
-            (stored (M.words core.now) (P.files files.old)) (stored (M.words core.now) (P.files files.new))
+        ensures row { (core : List ℕ) → IsCoreOf self.old core → IfOk result (λ turn. Over (P.tells files.old)
+            (stored core (P.files files.old)) (stored core (P.files files.new))
             (Obeys line (Command.CopyTo name) turn now self.old self.new)) }
         ensures user { KeepsUser result self.old self.new }
         ensures uses { Uses P.FilePort result files.old files.new }
@@ -61,27 +58,26 @@ impl Session {
 
     /// Words that came from the common files are put, where they are to be.
     #[tactic(auto, using(user_model::proofs::CoreLaws::recut_same))]
-    fn put_copy<M: MemoryPort, P: FilePort>(
+    fn put_copy<P: FilePort>(
         &mut self,
-        core: &M,
         files: &mut P,
         line: LineText,
         target: Option<FileName>,
         words: &WordList,
         now: u64,
     ) -> Result<Step, StepFault>
-        requires on { self.old.on ≡ true }
-        requires can { CanStep self.old (M.words core.now) }
+        requires fits { self.old.own < 2 ^ 64 - 1 }
         requires own { IsDirectoryOf P.FilePort self.old files.old }
-        ensures row { (fs : List FileBody) → known (P.tells files.old) fs ≡ P.files files.old
+        ensures row { (core : List ℕ) (fs : List FileBody) → IsCoreOf self.old core
+            → known (P.tells files.old) fs ≡ P.files files.old
             → IfOk result (λ s. OfSome (P.tells files.old) (P.files files.new) (λ has.
             Copies line target words.now s.ending s.clock now self.old self.new
-            (stored (M.words core.now) fs) (stored (M.words core.now) has))) }
+            (stored core fs) (stored core has))) }
         ensures user { KeepsUser result self.old self.new }
         ensures uses { Uses P.FilePort result files.old files.new }
     {
         match target {
-            Some(name) => self.put_file(core, files, line, name, words.as_slice(), now),
+            Some(name) => self.put_file(files, line, name, words.as_slice(), now),
             None => {
                 self.say(line, None, now)?;
                 Ok(DONE)
@@ -91,22 +87,21 @@ impl Session {
 
     /// A command that made a common operation goes on with its reply.
     #[tactic(auto, using(user_model::proofs::CoreLaws::recut_same))]
-    pub(crate) fn copy_replied<M: MemoryPort, P: FilePort>(
+    pub(crate) fn copy_replied<P: FilePort>(
         &mut self,
-        core: &M,
         files: &mut P,
         line: LineText,
         command: Command,
         reply: &Reply,
         now: u64,
     ) -> Result<Step, StepFault>
-        requires on { self.old.on ≡ true }
-        requires can { CanStep self.old (M.words core.now) }
+        requires fits { self.old.own < 2 ^ 64 - 1 }
         requires own { IsDirectoryOf P.FilePort self.old files.old }
-        ensures row { (fs : List FileBody) → known (P.tells files.old) fs ≡ P.files files.old
+        ensures row { (core : List ℕ) (fs : List FileBody) → IsCoreOf self.old core
+            → known (P.tells files.old) fs ≡ P.files files.old
             → IfOk result (λ s. OfSome (P.tells files.old) (P.files files.new) (λ has.
             TookReply line command reply.now s.ending s.clock now self.old self.new
-            (stored (M.words core.now) fs) (stored (M.words core.now) has))) }
+            (stored core fs) (stored core has))) }
         ensures user { KeepsUser result self.old self.new }
         ensures uses { Uses P.FilePort result files.old files.new }
     {
@@ -119,14 +114,7 @@ impl Session {
                 self.say(line, None, now)?;
                 Ok(DONE)
             }
-            Reply::Words(words) => self.put_copy(
-                core,
-                files,
-                line,
-                copy_target(command),
-                words,
-                now,
-            ),
+            Reply::Words(words) => self.put_copy(files, line, copy_target(command), words, now),
             Reply::Refused(refusal) => {
                 self.say(line, Some(refusal_text(*refusal)), now)?;
                 Ok(DONE)

@@ -1,24 +1,25 @@
 //! Supervisor entries for common files.
-ghost use Rattle.std.specs.Prelude.{◌≡◌, ◌<◌, ◌≤◌, ◌+◌, ◌-◌, ◌*◌, ◌^◌, List, true, Ok, Some, length, IfOk, OnErr};
+ghost use Rattle.std.specs.Prelude.{◌≡◌, ◌<◌, ◌≤◌, ◌+◌, ◌-◌, ◌^◌, ℕ, List, Ok, Some, length, IfOk};
 ghost use Rattle.program_model.specs.declared.Call.{Call};
+ghost use Rattle.program_model.specs.declared.CommonCall.{CommonCall};
 ghost use Rattle.tia_entry.specs.Buffers.{HasBuffer};
-ghost use Rattle.user_model.specs.Programs.{is_common_count};
-ghost use Rattle.user_model.specs.Programs.{call_asks};
+ghost use Rattle.user_model.specs.Programs.{is_common_count, common_arguments, common_buffer, call_asks};
 ghost use Rattle.user_session.specs.Changes.{Answered, CallTook};
 ghost use Rattle.ctss_types.specs.declared.file.CommonOp.{CommonOp};
 ghost use Rattle.ctss_types.specs.declared.file.FileBody.{FileBody};
+ghost use Rattle.user_model.specs.Inner.{Stored};
 ghost use Rattle.user_session.specs.Stores.{stored};
 ghost use Rattle.user_session.specs.Turns.{Enters};
 ghost use Rattle.file_model.specs.Commons.{ReplyFits};
-ghost use Rattle.user_session.specs.Calls.{CanStep, KeepsUser};
+ghost use Rattle.user_session.specs.Calls.{CanStep, IsCoreOf, KeepsUser};
 
-use crate::file_entry::WENT;
+use crate::file_entry::{Buffer, WENT};
 use crate::session::Session;
 use crate::{Step, Turn};
 use cpu_regs::MemoryPort;
 use ctss_types::{Apart, CommonOp, FileName, NoMemory, Reply, Sequence};
 use file_model::refusal_number;
-use program_model::Call;
+use program_model::{Call, CommonCall};
 use tia_entry::{store_fitting, words_in};
 
 /// Whether an operation on common files may have so many words: at most 432.
@@ -26,6 +27,27 @@ fn is_common_count(count: u16) -> bool
     ensures { result ≡ is_common_count count }
 {
     count <= 432
+}
+
+/// How many arguments a call on a common file has.
+fn common_arguments(call: &CommonCall) -> u8
+    ensures value { result ≡ common_arguments call.now }
+    ensures most { result ≤ 3 }
+{
+    match call {
+        CommonCall::Read { .. } | CommonCall::Write { .. } => 3,
+        CommonCall::Stat { .. } | CommonCall::Delete { .. } => 1,
+    }
+}
+
+/// Where words of its reply go.
+fn common_buffer(call: &CommonCall) -> u16
+    ensures { result ≡ common_buffer call.now }
+{
+    match call {
+        CommonCall::Read { at, .. } => *at,
+        _ => 0,
+    }
 }
 
 impl Session {
@@ -39,20 +61,15 @@ impl Session {
 
     /// CRDFIL: the operation that reads words, or reply 7 where there are too many.
     #[tactic(auto, using(user_model::proofs::CoreLaws::recut_same))]
-    pub(crate) fn ask_read<M: MemoryPort>(
+    pub(crate) fn ask_read(
         &mut self,
-        core: &M,
         name: FileName,
-        at: u16,
         count: u16,
         place: u64,
-        now: u64,
     ) -> Result<Turn, NoMemory>
-        requires on { self.old.on ≡ true }
-        requires can { CanStep self.old (M.words core.now) }
-        ensures row { (fs : List FileBody)
-            → IfOk result (λ turn. Enters (Ok (Call.CommonRead name at count place)) turn
-            now self.old self.new (stored (M.words core.now) fs) (stored (M.words core.now) fs)) }
+        requires fits { self.old.own < 2 ^ 64 - 1 }
+        ensures row { (store : Stored) (at now : ℕ) → IsCoreOf self.old store.core → IfOk result (λ turn.
+            Enters (Ok (Call.Common (CommonCall.Read name at count place))) turn now self.old self.new store store) }
         ensures user { KeepsUser result self.old self.new }
     {
         if !is_common_count(count) {
@@ -68,29 +85,57 @@ impl Session {
         &mut self,
         core: &M,
         name: FileName,
-        at: u16,
-        count: u16,
+        buffer: Buffer,
         place: u64,
-        now: u64,
     ) -> Result<Turn, NoMemory>
-        requires on { self.old.on ≡ true }
         requires can { CanStep self.old (M.words core.now) }
-        requires within { at + count ≤ length (M.words core.now) }
-        ensures row { (fs : List FileBody)
-            → IfOk result (λ turn. Enters (Ok (Call.CommonWrite name at count place)) turn
-            now self.old self.new (stored (M.words core.now) fs) (stored (M.words core.now) fs)) }
+        requires within { buffer.at + buffer.count ≤ length (M.words core.now) }
+        ensures row { (fs : List FileBody) (now : ℕ) → IfOk result (λ turn.
+            Enters (Ok (Call.Common (CommonCall.Write name buffer.at buffer.count place))) turn now self.old self.new
+            (stored (M.words core.now) fs) (stored (M.words core.now) fs)) }
         ensures user { KeepsUser result self.old self.new }
     {
-        if !is_common_count(count) {
+        if !is_common_count(buffer.count) {
             self.reply(3, 7, None);
             return Ok(Turn::Done(WENT));
         }
-        let words = words_in(self.talk.allocator(), core, at, count)?;
+        let words = words_in(self.talk.allocator(), core, buffer.at, buffer.count)?;
         self.ask(CommonOp::Write {
             name,
             place,
             words: Sequence::from_vec(words),
         })
+    }
+
+    /// A call on the common files: the operation that it makes, or reply 7 where it has too many words.
+    pub(crate) fn ask_common<M: MemoryPort>(
+        &mut self,
+        core: &M,
+        call: CommonCall,
+    ) -> Result<Turn, NoMemory>
+        requires can { CanStep self.old (M.words core.now) }
+        requires within { HasBuffer (length (M.words core.now)) (Call.Common call) }
+        ensures row { (fs : List FileBody) (now : ℕ) → IfOk result (λ turn.
+            Enters (Ok (Call.Common call)) turn now self.old self.new
+            (stored (M.words core.now) fs) (stored (M.words core.now) fs)) }
+        ensures user { KeepsUser result self.old self.new }
+    {
+        match call {
+            CommonCall::Stat { name } => self.ask(CommonOp::Stat(name)),
+            CommonCall::Read {
+                name,
+                count,
+                place,
+                ..
+            } => self.ask_read(name, count, place),
+            CommonCall::Write {
+                name,
+                at,
+                count,
+                place,
+            } => self.ask_write(core, name, Buffer { at, count }, place),
+            CommonCall::Delete { name } => self.ask(CommonOp::Delete(name)),
+        }
     }
 
     /// A call that made a common operation, with so many arguments and a buffer, takes its reply.
@@ -102,7 +147,6 @@ impl Session {
         at: u16,
         reply: &Reply,
     ) -> Step
-        requires on { self.old.on ≡ true }
         requires arguments { arguments ≤ 3 }
         requires can { CanStep self.old (M.words core.old) }
         requires reply_fits { ReplyFits reply.now }
@@ -139,7 +183,6 @@ impl Session {
         call: Call,
         reply: &Reply,
     ) -> Step
-        requires on { self.old.on ≡ true }
         requires can { CanStep self.old (M.words core.old) }
         requires reply_fits { ReplyFits reply.now }
         requires asks { (op : CommonOp) × (call_asks call (M.words core.old) ≡ Some op) }
@@ -149,10 +192,11 @@ impl Session {
         ensures keeps { M.Keeps core.old core.new }
     {
         match call {
-            Call::CommonStat { name: _ } => self.take_answer(core, 1, 0, reply),
-            Call::CommonDelete { name: _ } => self.take_answer(core, 1, 0, reply),
-            Call::CommonRead { at, .. } => self.take_answer(core, 3, at, reply),
-            Call::CommonWrite { at, .. } => self.take_answer(core, 3, at, reply),
+            Call::Common(asked) => {
+                let arguments = common_arguments(&asked);
+                let at = common_buffer(&asked);
+                self.take_answer(core, arguments, at, reply)
+            }
             _ => unreachable!(),
         }
     }

@@ -1,5 +1,5 @@
 //! The debugger: it is opened on a program that stopped, and takes lines until it is closed.
-ghost use Rattle.std.specs.Prelude.{◌≡◌, ◌<◌, ◌≤◌, ◌-◌, ◌*◌, ◌^◌, ◌++◌, ◌∷◌, [], List, suc, true, false, None, Some, not, drop, length, nat_lt, IfOk, OnOk, OnErr};
+ghost use Rattle.std.specs.Prelude.{◌≡◌, ◌<◌, ◌≤◌, ◌-◌, ◌^◌, ◌++◌, ◌∷◌, [], ℕ, List, suc, true, false, None, Some, drop, length, nat_lt, IfOk, OnOk, OnErr};
 ghost use Rattle.std.specs.List.{list_all};
 ghost use Rattle.bcd48.specs.Characters.{is_character};
 ghost use Rattle.ctss_types.specs.declared.file.FileBody.{FileBody};
@@ -10,20 +10,20 @@ ghost use Rattle.time_sharing.specs.Rows.{out_all};
 ghost use Rattle.user_model.specs.declared.Command.{Command};
 ghost use Rattle.user_model.specs.Answers.{DidCommand};
 ghost use Rattle.user_model.specs.Session.{works_in};
-ghost use Rattle.user_session.specs.Stores.{stored, Over};
+ghost use Rattle.user_model.specs.Inner.{Stored};
+ghost use Rattle.user_session.specs.Stores.{stored};
 ghost use Rattle.user_session.specs.Turns.{IsTurn, Debugs};
-ghost use Rattle.user_session.specs.Calls.{CanStep, KeepsCore, KeepsUser};
+ghost use Rattle.user_session.specs.Calls.{CanStep, IsCoreOf, KeepsCore, KeepsUser};
 
 use crate::entry::STOPPED;
 use crate::file_command::DONE;
 use crate::session::Session;
 use crate::{Step, Turn};
 use cmd_program::{register_lines, word_line};
-use command_lines::fap_debug::{Debug, parse};
 use cpu_regs::MemoryPort;
 use ctss_types::{Ending, LineText, NoMemory};
+use dialogue::fap_debug::{Debug, parse};
 use dialogue::session_text::ready_text;
-use file_map::FilePort;
 use program_model::{DebugLine, ProgramState};
 use word36::Word;
 
@@ -43,16 +43,10 @@ fn is_inside<M: MemoryPort>(core: &M, at: u16) -> bool
 impl Session {
     /// FAPDBG: the debugger is opened, without a breakpoint.
     #[tactic(auto, using(user_model::proofs::CoreLaws::recut_same))]
-    pub(crate) fn open_debugger<M: MemoryPort>(
-        &mut self,
-        core: &M,
-        line: LineText,
-        now: u64,
-    ) -> Result<Step, NoMemory>
-        requires on { self.old.on ≡ true }
-        requires can { CanStep self.old (M.words core.now) }
-        ensures row { (fs : List FileBody) → IfOk result (λ s. DidCommand line Command.Debug s.ending s.clock
-            now self.old self.new (stored (M.words core.now) fs) (stored (M.words core.now) fs)) }
+    pub(crate) fn open_debugger(&mut self, line: LineText, now: u64) -> Result<Step, NoMemory>
+        requires fits { self.old.own < 2 ^ 64 - 1 }
+        ensures row { (store : Stored) → IsCoreOf self.old store.core → IfOk result (λ s.
+            DidCommand line Command.Debug s.ending s.clock now self.old self.new store store) }
         ensures user { KeepsUser result self.old self.new }
     {
         if !self.is_dormant() {
@@ -120,7 +114,6 @@ impl Session {
         line: LineText,
         at: u16,
     ) -> Result<Step, NoMemory>
-        requires on { self.old.on ≡ true }
         requires can { CanStep self.old (M.words core.now) }
         requires debugger { (s : Stops) × (self.old.inner.debugger ≡ Some s) }
         ensures row { Debugs line (DebugLine.Break at) result self.old self.new
@@ -135,6 +128,7 @@ impl Session {
         }
         self.tell(line, &[])?;
         if let Some(debugger) = &mut self.debugger {
+            // There is room, so it is set.
             let _ = debugger.set_break(at);
         }
         Ok(STOPPED)
@@ -148,7 +142,6 @@ impl Session {
         line: LineText,
         at: u16,
     ) -> Result<Step, NoMemory>
-        requires on { self.old.on ≡ true }
         requires can { CanStep self.old (M.words core.now) }
         requires debugger { (s : Stops) × (self.old.inner.debugger ≡ Some s) }
         ensures row { Debugs line (DebugLine.Clear at) result self.old self.new
@@ -167,15 +160,13 @@ impl Session {
 
     /// GO: the program goes on.
     #[tactic(auto, using(user_model::proofs::CoreLaws::recut_same))]
-    fn let_go<M: MemoryPort>(&mut self, core: &M, line: LineText) -> Result<Step, NoMemory>
-        requires on { self.old.on ≡ true }
-        requires can { CanStep self.old (M.words core.now) }
+    fn let_go(&mut self, line: LineText) -> Result<Step, NoMemory>
+        requires fits { self.old.own < 2 ^ 64 - 1 }
         requires debugger { (s : Stops) × (self.old.inner.debugger ≡ Some s) }
-        ensures row { Debugs line DebugLine.Go result self.old self.new
-            (M.words core.now) (M.words core.now) }
+        ensures row { (core : List ℕ) → IsCoreOf self.old core
+            → Debugs line DebugLine.Go result self.old self.new core core }
         ensures user { KeepsUser result self.old self.new }
     {
-        let _ = core;
         self.tell(line, &[])?;
         self.state = ProgramState::Working;
         if let Some(debugger) = &mut self.debugger {
@@ -192,7 +183,6 @@ impl Session {
         line: LineText,
         at: u16,
     ) -> Result<Step, NoMemory>
-        requires on { self.old.on ≡ true }
         requires can { CanStep self.old (M.words core.now) }
         requires debugger { (s : Stops) × (self.old.inner.debugger ≡ Some s) }
         ensures row { Debugs line (DebugLine.Look at) result self.old self.new
@@ -206,19 +196,13 @@ impl Session {
 
     /// REGS: the registers.
     #[tactic(auto, using(user_model::proofs::CoreLaws::recut_same))]
-    fn look_at_registers<M: MemoryPort>(
-        &mut self,
-        core: &M,
-        line: LineText,
-    ) -> Result<Step, NoMemory>
-        requires on { self.old.on ≡ true }
-        requires can { CanStep self.old (M.words core.now) }
+    fn look_at_registers(&mut self, line: LineText) -> Result<Step, NoMemory>
+        requires fits { self.old.own < 2 ^ 64 - 1 }
         requires debugger { (s : Stops) × (self.old.inner.debugger ≡ Some s) }
-        ensures row { Debugs line DebugLine.Regs result self.old self.new
-            (M.words core.now) (M.words core.now) }
+        ensures row { (core : List ℕ) → IsCoreOf self.old core
+            → Debugs line DebugLine.Regs result self.old self.new core core }
         ensures user { KeepsUser result self.old self.new }
     {
-        let _ = core;
         let lines = register_lines(&self.regs);
         self.tell(line, &lines)?;
         Ok(STOPPED)
@@ -233,7 +217,6 @@ impl Session {
         at: u16,
         word: Word,
     ) -> Result<Step, NoMemory>
-        requires on { self.old.on ≡ true }
         requires can { CanStep self.old (M.words core.old) }
         requires debugger { (s : Stops) × (self.old.inner.debugger ≡ Some s) }
         ensures row { Debugs line (DebugLine.Set at word) result self.old self.new
@@ -245,21 +228,20 @@ impl Session {
             return self.tell_why(line, b"PROTECTION");
         }
         self.tell(line, &[])?;
+        // The place lies inside, so the word is stored.
         let _ = core.store(at, word);
         Ok(STOPPED)
     }
 
     /// END: the debugger is closed.
     #[tactic(auto, using(user_model::proofs::CoreLaws::recut_same))]
-    fn end_debugger<M: MemoryPort>(&mut self, core: &M, line: LineText) -> Result<Step, NoMemory>
-        requires on { self.old.on ≡ true }
-        requires can { CanStep self.old (M.words core.now) }
+    fn end_debugger(&mut self, line: LineText) -> Result<Step, NoMemory>
+        requires fits { self.old.own < 2 ^ 64 - 1 }
         requires debugger { (s : Stops) × (self.old.inner.debugger ≡ Some s) }
-        ensures row { Debugs line DebugLine.End result self.old self.new
-            (M.words core.now) (M.words core.now) }
+        ensures row { (core : List ℕ) → IsCoreOf self.old core
+            → Debugs line DebugLine.End result self.old self.new core core }
         ensures user { KeepsUser result self.old self.new }
     {
-        let _ = core;
         self.tell(line, &[ready_text(1)])?;
         self.debugger = None;
         Ok(STOPPED)
@@ -272,7 +254,6 @@ impl Session {
         line: LineText,
         asked: DebugLine,
     ) -> Result<Step, NoMemory>
-        requires on { self.old.on ≡ true }
         requires can { CanStep self.old (M.words core.old) }
         requires debugger { (s : Stops) × (self.old.inner.debugger ≡ Some s) }
         ensures row { Debugs line asked result self.old self.new
@@ -283,36 +264,27 @@ impl Session {
         match asked {
             DebugLine::Break(at) => self.break_at(core, line, at),
             DebugLine::Clear(at) => self.clear_at(core, line, at),
-            DebugLine::Go => self.let_go(core, line),
+            DebugLine::Go => self.let_go(line),
             DebugLine::Look(at) => self.look_at(core, line, at),
-            DebugLine::Regs => self.look_at_registers(core, line),
+            DebugLine::Regs => self.look_at_registers(line),
             DebugLine::Set(at, word) => self.set_word(core, line, at, word),
-            DebugLine::End => self.end_debugger(core, line),
+            DebugLine::End => self.end_debugger(line),
             DebugLine::Bad => self.tell_why(line, b"BAD ARGUMENTS"),
         }
     }
 
     /// The first unread line is taken by the debugger.
     #[inline(never)]
-    pub(crate) fn debug<M: MemoryPort, P: FilePort>(
-        &mut self,
-        core: &mut M,
-        files: &P,
-        now: u64,
-    ) -> Result<Turn, NoMemory>
+    pub(crate) fn debug<M: MemoryPort>(&mut self, core: &mut M) -> Result<Turn, NoMemory>
         requires on { self.old.on ≡ true }
         requires works { works_in self.old.inner.state ≡ false }
         requires debugger { (s : Stops) × (self.old.inner.debugger ≡ Some s) }
         requires can { CanStep self.old (M.words core.old) }
-        requires port { P.Usable files.now }
-        ensures turn { IfOk result (λ turn. Over (P.tells files.now)
-            (stored (M.words core.old) (P.files files.now)) (stored (M.words core.new) (P.files files.now))
-            (IsTurn turn now self.old self.new)) }
+        ensures turn { (fs : List FileBody) (now : ℕ) → IfOk result (λ turn. IsTurn turn now self.old self.new
+            (stored (M.words core.old) fs) (stored (M.words core.new) fs)) }
         ensures user { KeepsUser result self.old self.new }
         ensures core { KeepsCore M.MemoryPort result core.old core.new }
     {
-        let _ = files;
-        let _ = now;
         let Some(line) = self.first_line() else {
             return Ok(Turn::Waits);
         };

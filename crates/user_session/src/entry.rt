@@ -1,29 +1,26 @@
 //! Supervisor entries of a program.
-ghost use Rattle.std.specs.Prelude.{◌≡◌, ◌<◌, ◌≤◌, ◌+◌, ◌-◌, ◌*◌, ◌^◌, ◌++◌, ◌∷◌, [], ◌||◌, List, suc, nat_eq, nat_lt, true, false, Ok, Err, None, Some, drop, length, IfOk, IfSome, OnOk, OnErr, vec_len, vec_capacity};
+ghost use Rattle.std.specs.Prelude.{◌≡◌, ◌<◌, ◌≤◌, ◌+◌, ◌-◌, ◌*◌, ◌^◌, ◌++◌, ◌∷◌, [], ◌||◌, ℕ, List, suc, nat_eq, nat_lt, true, false, Ok, Err, None, Some, length, IfOk, IfSome, OnOk, OnErr};
 ghost use Rattle.std.specs.List.{list_all};
 ghost use Rattle.bcd48.specs.Characters.{is_character};
-ghost use Rattle.cpu_regs.specs.Registers.{no_registers};
 ghost use Rattle.machine_model.specs.Machine.{step_of};
 ghost use Rattle.machine_model.specs.Step.{entry};
 ghost use Rattle.program_model.specs.declared.Call.{Call};
-ghost use Rattle.program_model.specs.Calls.{call_of, is_line_count, answered};
-ghost use Rattle.program_model.specs.Lines.{line_of_words, words_of_line, words_at, with_words};
+ghost use Rattle.program_model.specs.Calls.{is_line_count, answered};
 ghost use Rattle.program_model.specs.declared.ProgramState.TheVariants as program;
-ghost use Rattle.time_sharing.specs.Machine.{In, Out};
+ghost use Rattle.time_sharing.specs.Machine.{Out};
 ghost use Rattle.tia_entry.specs.Buffers.{HasBuffer};
-ghost use Rattle.user_model.specs.Session.{works_in};
 ghost use Rattle.user_model.specs.Texts.{ready_text, stop_text};
 ghost use Rattle.ctss_types.specs.declared.file.FileBody.{FileBody};
-ghost use Rattle.user_session.specs.Stores.{stored, Over, Uses};
+ghost use Rattle.user_model.specs.Inner.{Stored};
+ghost use Rattle.user_session.specs.Stores.{stored, Over};
 ghost use Rattle.user_session.specs.Turns.{Enters, Runs};
-ghost use Rattle.user_model.specs.Programs.{at_break};
-ghost use Rattle.user_session.specs.Calls.{CanStep, IsAtInstruction, IsDirectoryOf, KeepsCore, KeepsUser, Leaves};
+ghost use Rattle.user_session.specs.Calls.{CanStep, IsCoreOf, IsAtInstruction, IsDirectoryOf, KeepsCore, KeepsUser, Leaves};
 
-use crate::file_entry::WENT;
+use crate::file_entry::{Buffer, WENT};
 use crate::session::Session;
 use crate::{Step, Turn};
 use cpu_regs::{MemoryPort, Regs};
-use ctss_types::{CommonOp, Ending, NoMemory, StepFault};
+use ctss_types::{Ending, NoMemory, StepFault};
 use dialogue::session_text::ready_text;
 use file_map::FilePort;
 use program_model::{Call, EntryFault, ProgramState};
@@ -74,16 +71,10 @@ impl Session {
 
     /// A program that stops at a call that can't be done.
     #[tactic(auto, using(user_model::proofs::CoreLaws::recut_same))]
-    fn refuse<M: MemoryPort>(
-        &mut self,
-        core: &M,
-        fault: EntryFault,
-        now: u64,
-    ) -> Result<Turn, NoMemory>
-        requires on { self.old.on ≡ true }
-        requires can { CanStep self.old (M.words core.now) }
-        ensures row { (fs : List FileBody) → IfOk result (λ turn. Enters (Err fault) turn
-            now self.old self.new (stored (M.words core.now) fs) (stored (M.words core.now) fs)) }
+    fn refuse(&mut self, fault: EntryFault) -> Result<Turn, NoMemory>
+        requires fits { self.old.own < 2 ^ 64 - 1 }
+        ensures row { (store : Stored) (now : ℕ) → IsCoreOf self.old store.core → IfOk result (λ turn.
+            Enters (Err fault) turn now self.old self.new store store) }
         ensures user { KeepsUser result self.old self.new }
     {
         match fault {
@@ -131,13 +122,12 @@ impl Session {
         core: &mut M,
         at: u16,
         count: u16,
-        now: u64,
     ) -> Result<Turn, NoMemory>
-        requires on { self.old.on ≡ true }
         requires can { CanStep self.old (M.words core.old) }
         requires within { HasBuffer (length (M.words core.old)) (Call.ReadLine at count) }
-        ensures row { (fs : List FileBody) → IfOk result (λ turn. Enters (Ok (Call.ReadLine at count)) turn
-            now self.old self.new (stored (M.words core.old) fs) (stored (M.words core.new) fs)) }
+        ensures row { (fs : List FileBody) (now : ℕ) → IfOk result (λ turn.
+            Enters (Ok (Call.ReadLine at count)) turn now self.old self.new
+            (stored (M.words core.old) fs) (stored (M.words core.new) fs)) }
         ensures user { KeepsUser result self.old self.new }
         ensures core { KeepsCore M.MemoryPort result core.old core.new }
     {
@@ -150,8 +140,6 @@ impl Session {
             Some(line) => {
                 self.talk.reserve(1)?;
                 self.talk.read(line);
-                // Then it is known of the core how many words it has at most.
-                let _blocks = core.size();
                 store_line(core, at, count, line.as_slice());
                 self.reply(1, 0, Some(u64::from(line.len())));
                 Ok(Turn::Done(WENT))
@@ -161,18 +149,12 @@ impl Session {
 
     /// WRFLX: a buffer is written as a line.
     #[tactic(auto, using(user_model::proofs::CoreLaws::recut_same))]
-    fn write_line<M: MemoryPort>(
-        &mut self,
-        core: &M,
-        at: u16,
-        count: u16,
-        now: u64,
-    ) -> Result<Turn, NoMemory>
-        requires on { self.old.on ≡ true }
+    fn write_line<M: MemoryPort>(&mut self, core: &M, at: u16, count: u16) -> Result<Turn, NoMemory>
         requires can { CanStep self.old (M.words core.now) }
         requires within { HasBuffer (length (M.words core.now)) (Call.WriteLine at count) }
-        ensures row { (fs : List FileBody) → IfOk result (λ turn. Enters (Ok (Call.WriteLine at count)) turn
-            now self.old self.new (stored (M.words core.now) fs) (stored (M.words core.now) fs)) }
+        ensures row { (fs : List FileBody) (now : ℕ) → IfOk result (λ turn.
+            Enters (Ok (Call.WriteLine at count)) turn now self.old self.new
+            (stored (M.words core.now) fs) (stored (M.words core.now) fs)) }
         ensures user { KeepsUser result self.old self.new }
     {
         if !is_line_count(count) {
@@ -187,11 +169,10 @@ impl Session {
 
     /// SETMEM: another size, from 1 block to the quota.
     #[tactic(auto, using(user_model::proofs::CoreLaws::recut_same))]
-    fn set_memory<M: MemoryPort>(&mut self, core: &M, blocks: u16, now: u64) -> Turn
-        requires on { self.old.on ≡ true }
-        requires can { CanStep self.old (M.words core.now) }
-        ensures row { (fs : List FileBody) → Enters (Ok (Call.SetMemory blocks)) result
-            now self.old self.new (stored (M.words core.now) fs) (stored (M.words core.now) fs) }
+    fn set_memory(&mut self, blocks: u16) -> Turn
+        requires fits { self.old.own < 2 ^ 64 - 1 }
+        ensures row { (store : Stored) (now : ℕ) → IsCoreOf self.old store.core
+            → Enters (Ok (Call.SetMemory blocks)) result now self.old self.new store store }
         ensures account { self.new.inner.account ≡ self.old.inner.account }
     {
         if self.is_no_size(blocks) {
@@ -213,13 +194,11 @@ impl Session {
 
     /// GETTM: the clock.
     #[tactic(auto, using(user_model::proofs::CoreLaws::recut_same))]
-    fn tell_time<M: MemoryPort>(&mut self, core: &M, now: u64) -> Turn
-        requires on { self.old.on ≡ true }
-        requires can { CanStep self.old (M.words core.now) }
+    fn tell_time(&mut self, now: u64) -> Turn
+        requires fits { self.old.own < 2 ^ 64 - 1 }
         requires time { now < 2 ^ 35 }
-        ensures row { (fs : List FileBody)
-            → Enters (Ok Call.GetTime) result now self.old self.new (stored (M.words core.now) fs)
-            (stored (M.words core.now) fs) }
+        ensures row { (store : Stored) → IsCoreOf self.old store.core
+            → Enters (Ok Call.GetTime) result now self.old self.new store store }
         ensures account { self.new.inner.account ≡ self.old.inner.account }
     {
         self.reply(0, 0, Some(now));
@@ -231,12 +210,10 @@ impl Session {
 
     /// GETMEM: the size in words.
     #[tactic(auto, using(user_model::proofs::CoreLaws::recut_same))]
-    fn tell_memory<M: MemoryPort>(&mut self, core: &M, now: u64) -> Turn
-        requires on { self.old.on ≡ true }
-        requires can { CanStep self.old (M.words core.now) }
-        ensures row { (fs : List FileBody)
-            → Enters (Ok Call.GetMemory) result now self.old self.new (stored (M.words core.now) fs)
-            (stored (M.words core.now) fs) }
+    fn tell_memory(&mut self) -> Turn
+        requires fits { self.old.own < 2 ^ 64 - 1 }
+        ensures row { (store : Stored) (now : ℕ) → IsCoreOf self.old store.core
+            → Enters (Ok Call.GetMemory) result now self.old self.new store store }
         ensures account { self.new.inner.account ≡ self.old.inner.account }
     {
         let words = 256 * u64::from(self.blocks());
@@ -246,32 +223,26 @@ impl Session {
 
     /// DEAD: the program is over and goes.
     #[tactic(auto, using(user_model::proofs::CoreLaws::recut_none))]
-    fn end_dead<M: MemoryPort>(&mut self, core: &M, now: u64) -> Result<Turn, NoMemory>
-        requires on { self.old.on ≡ true }
-        requires can { CanStep self.old (M.words core.now) }
-        ensures row { (fs : List FileBody) → IfOk result (λ turn. Enters (Ok Call.Dead) turn
-            now self.old self.new (stored (M.words core.now) fs) (stored (M.words core.now) fs)) }
+    fn end_dead(&mut self) -> Result<Turn, NoMemory>
+        requires fits { self.old.own < 2 ^ 64 - 1 }
+        ensures row { (store : Stored) (now : ℕ) → IfOk result (λ turn.
+            Enters (Ok Call.Dead) turn now self.old self.new store store) }
         ensures user { KeepsUser result self.old self.new }
     {
         self.talk.reserve(1)?;
         let n = self.own + 1 - self.own_at_command;
         self.talk.write(ready_text(n));
         self.own += 1;
-        self.state = ProgramState::Dead;
-        self.regs = Regs::new();
-        self.blocks = 0;
-        self.fill = None;
-        self.debugger = None;
+        self.drop_program();
         Ok(Turn::Done(STOPPED))
     }
 
     /// DORMNT: the program is over and stays.
     #[tactic(auto, using(user_model::proofs::CoreLaws::recut_same))]
-    fn end_dormant<M: MemoryPort>(&mut self, core: &M, now: u64) -> Result<Turn, NoMemory>
-        requires on { self.old.on ≡ true }
-        requires can { CanStep self.old (M.words core.now) }
-        ensures row { (fs : List FileBody) → IfOk result (λ turn. Enters (Ok Call.Dormant) turn
-            now self.old self.new (stored (M.words core.now) fs) (stored (M.words core.now) fs)) }
+    fn end_dormant(&mut self) -> Result<Turn, NoMemory>
+        requires fits { self.old.own < 2 ^ 64 - 1 }
+        ensures row { (store : Stored) (now : ℕ) → IsCoreOf self.old store.core → IfOk result (λ turn.
+            Enters (Ok Call.Dormant) turn now self.old self.new store store) }
         ensures user { KeepsUser result self.old self.new }
     {
         self.talk.reserve(1)?;
@@ -290,7 +261,6 @@ impl Session {
         call: Call,
         now: u64,
     ) -> Result<Turn, StepFault>
-        requires on { self.old.on ≡ true }
         requires can { CanStep self.old (M.words core.old) }
         requires own { IsDirectoryOf P.FilePort self.old files.old }
         requires within { HasBuffer (length (M.words core.old)) call }
@@ -301,43 +271,30 @@ impl Session {
         ensures leaves { Leaves M.MemoryPort P.FilePort result self.old self.new core.old core.new files.old files.new }
     {
         match call {
-            Call::ReadLine { at, count } => Ok(self.read_line(core, at, count, now)?),
-            Call::WriteLine { at, count } => Ok(self.write_line(core, at, count, now)?),
-            Call::GetTime => Ok(self.tell_time(core, now)),
-            Call::GetMemory => Ok(self.tell_memory(core, now)),
-            Call::SetMemory { blocks } => Ok(self.set_memory(core, blocks, now)),
-            Call::FileStat { name } => Ok(self.tell_file(core, files, name, now)),
+            Call::ReadLine { at, count } => Ok(self.read_line(core, at, count)?),
+            Call::WriteLine { at, count } => Ok(self.write_line(core, at, count)?),
+            Call::GetTime => Ok(self.tell_time(now)),
+            Call::GetMemory => Ok(self.tell_memory()),
+            Call::SetMemory { blocks } => Ok(self.set_memory(blocks)),
+            Call::FileStat { name } => Ok(self.tell_file(files, name)),
             Call::ReadFile {
                 name,
                 at,
                 count,
                 place,
-            } => self.read_file(core, files, name, at, count, place, now),
+            } => self.read_file(core, files, name, Buffer { at, count }, place),
             Call::WriteFile {
                 name,
                 at,
                 count,
                 place,
-            } => self.write_file(core, files, name, at, count, place, now),
-            Call::DeleteFile { name } => self.delete_file(core, files, name, now),
-            Call::RenameFile { name, to } => self.rename_file(core, files, name, to, now),
-            Call::ChangeMode { name, mode } => self.change_mode(core, files, name, mode, now),
-            Call::CommonStat { name } => Ok(self.ask(CommonOp::Stat(name))?),
-            Call::CommonRead {
-                name,
-                at,
-                count,
-                place,
-            } => Ok(self.ask_read(core, name, at, count, place, now)?),
-            Call::CommonWrite {
-                name,
-                at,
-                count,
-                place,
-            } => Ok(self.ask_write(core, name, at, count, place, now)?),
-            Call::CommonDelete { name } => Ok(self.ask(CommonOp::Delete(name))?),
-            Call::Dead => Ok(self.end_dead(core, now)?),
-            Call::Dormant => Ok(self.end_dormant(core, now)?),
+            } => self.write_file(core, files, name, Buffer { at, count }, place),
+            Call::DeleteFile { name } => self.delete_file(files, name),
+            Call::RenameFile { name, to } => self.rename_file(files, name, to),
+            Call::ChangeMode { name, mode } => self.change_mode(files, name, mode),
+            Call::Common(call) => Ok(self.ask_common(core, call)?),
+            Call::Dead => Ok(self.end_dead()?),
+            Call::Dormant => Ok(self.end_dormant()?),
         }
     }
 
@@ -363,7 +320,7 @@ impl Session {
         ensures leaves { Leaves M.MemoryPort P.FilePort result self.old self.new core.old core.new files.old files.new }
     {
         match read_call(&self.regs, core, name) {
-            Err(fault) => Ok(self.refuse(core, fault, now)?),
+            Err(fault) => Ok(self.refuse(fault)?),
             Ok(call) => self.answer_call(core, files, call, now),
         }
     }
@@ -389,10 +346,10 @@ impl Session {
         ensures leaves { Leaves M.MemoryPort P.FilePort result self.old self.new core.old core.new files.old files.new }
     {
         if is_get_time(name) {
-            return Ok(self.tell_time(core, now));
+            return Ok(self.tell_time(now));
         }
         if is_get_memory(name) {
-            return Ok(self.tell_memory(core, now));
+            return Ok(self.tell_memory());
         }
         self.enter_apart(core, files, name, now)
     }

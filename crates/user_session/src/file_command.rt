@@ -1,5 +1,5 @@
 //! Commands on a user's files.
-ghost use Rattle.std.specs.Prelude.{◌≡◌, ◌<◌, ◌≤◌, ◌+◌, ◌-◌, ◌*◌, ◌^◌, ◌++◌, ◌∷◌, [], List, suc, true, Some, None, length, drop, IfOk, OnOk, OnErr};
+ghost use Rattle.std.specs.Prelude.{◌≡◌, ◌<◌, ◌+◌, ◌-◌, ◌^◌, ◌++◌, ◌∷◌, [], ℕ, List, suc, true, Some, None, drop, IfOk, OnOk, OnErr};
 ghost use Rattle.file_model.specs.Files.{got};
 ghost use Rattle.time_sharing.specs.Machine.{In, Out};
 ghost use Rattle.time_sharing.specs.Rows.{out_all};
@@ -12,12 +12,11 @@ ghost use Rattle.user_session.specs.Stores.{stored, Over, OfSome, Uses, Reads};
 ghost use Rattle.user_session.specs.Turns.{Obeys};
 ghost use Rattle.ctss_types.specs.declared.file.FileBody.{FileBody};
 ghost use Rattle.file_map.specs.Known.{known};
-ghost use Rattle.user_session.specs.Calls.{CanStep, IsDirectoryOf, KeepsUser};
+ghost use Rattle.user_session.specs.Calls.{IsCoreOf, IsDirectoryOf, KeepsUser};
 
 use crate::session::Session;
 use crate::{Step, Turn};
-use cmd_files::{listing, refusal_text};
-use cpu_regs::MemoryPort;
+use cmd_program::{listing, refusal_text};
 use ctss_types::{Ending, FileName, LineList, LineText, NoMemory, Sequence, StepFault};
 use file_map::{FilePort, PortFault};
 use std::alloc::Global;
@@ -73,21 +72,21 @@ impl Session {
 
     /// A command that replaces a file's content, or says why it doesn't.
     #[tactic(auto, using(user_model::proofs::CoreLaws::recut_same))]
-    pub(crate) fn put_file<M: MemoryPort, P: FilePort>(
+    pub(crate) fn put_file<P: FilePort>(
         &mut self,
-        core: &M,
         files: &mut P,
         line: LineText,
         name: FileName,
         words: &[Word],
         now: u64,
     ) -> Result<Step, StepFault>
-        requires can { CanStep self.old (M.words core.now) }
+        requires fits { self.old.own < 2 ^ 64 - 1 }
         requires own { IsDirectoryOf P.FilePort self.old files.old }
-        ensures row { (fs : List FileBody) → known (P.tells files.old) fs ≡ P.files files.old
+        ensures row { (core : List ℕ) (fs : List FileBody) → IsCoreOf self.old core
+            → known (P.tells files.old) fs ≡ P.files files.old
             → IfOk result (λ s. OfSome (P.tells files.old) (P.files files.new) (λ has.
             DidPut line name words.now s.ending s.clock now self.old self.new
-            (stored (M.words core.now) fs) (stored (M.words core.now) has))) }
+            (stored core fs) (stored core has))) }
         ensures user { KeepsUser result self.old self.new }
         ensures uses { Uses P.FilePort result files.old files.new }
     {
@@ -110,18 +109,17 @@ impl Session {
 
     /// LISTF: the files are listed.
     #[tactic(auto, using(user_model::proofs::CoreLaws::recut_same))]
-    pub(crate) fn list_files<M: MemoryPort, P: FilePort>(
+    pub(crate) fn list_files<P: FilePort>(
         &mut self,
-        core: &M,
         files: &P,
         line: LineText,
         now: u64,
     ) -> Result<Step, NoMemory>
-        requires on { self.old.on ≡ true }
-        requires can { CanStep self.old (M.words core.now) }
+        requires fits { self.old.own < 2 ^ 64 - 1 }
         requires own { IsDirectoryOf P.FilePort self.old files.now }
-        ensures row { IfOk result (λ s. DidCommand line Command.List s.ending s.clock now self.old self.new
-            (stored (M.words core.now) (P.files files.now)) (stored (M.words core.now) (P.files files.now))) }
+        ensures row { (core : List ℕ) → IsCoreOf self.old core → IfOk result (λ s.
+            DidCommand line Command.List s.ending s.clock now self.old self.new
+            (stored core (P.files files.now)) (stored core (P.files files.now))) }
         ensures user { KeepsUser result self.old self.new }
     {
         let lines = listing(self.talk.allocator(), files)?;
@@ -137,7 +135,7 @@ impl Session {
         ensures reads { Reads P.FilePort result files.old files.new }
     {
         let alloc = self.talk.allocator();
-        match cmd_files::printed(alloc, name, files) {
+        match cmd_program::printed(alloc, name, files) {
             Ok(lines) => Ok(lines),
             Err(PortFault::Refused(refusal)) => {
                 let lines = one_line(alloc, refusal_text(refusal))?;
@@ -150,19 +148,17 @@ impl Session {
 
     /// PRINTF: a file's words are printed as lines.
     #[tactic(auto, using(user_model::proofs::CoreLaws::recut_same))]
-    pub(crate) fn print_file<M: MemoryPort, P: FilePort>(
+    pub(crate) fn print_file<P: FilePort>(
         &mut self,
-        core: &M,
         files: &mut P,
         line: LineText,
         name: FileName,
         now: u64,
     ) -> Result<Turn, StepFault>
-        requires on { self.old.on ≡ true }
-        requires can { CanStep self.old (M.words core.now) }
+        requires fits { self.old.own < 2 ^ 64 - 1 }
         requires port { P.Usable files.old }
-        ensures row { IfOk result (λ turn. Over (P.tells files.old)
-            (stored (M.words core.now) (P.files files.old)) (stored (M.words core.now) (P.files files.new))
+        ensures row { (core : List ℕ) → IsCoreOf self.old core → IfOk result (λ turn. Over (P.tells files.old)
+            (stored core (P.files files.old)) (stored core (P.files files.new))
             (Obeys line (Command.Print name) turn now self.old self.new)) }
         ensures user { KeepsUser result self.old self.new }
         ensures uses { Uses P.FilePort result files.old files.new }
@@ -174,20 +170,19 @@ impl Session {
 
     /// RENAME: a file gets another name.
     #[tactic(auto, using(user_model::proofs::CoreLaws::recut_same))]
-    pub(crate) fn rename<M: MemoryPort, P: FilePort>(
+    pub(crate) fn rename<P: FilePort>(
         &mut self,
-        core: &M,
         files: &mut P,
         line: LineText,
         name: FileName,
         to: FileName,
         now: u64,
     ) -> Result<Turn, StepFault>
-        requires on { self.old.on ≡ true }
-        requires can { CanStep self.old (M.words core.now) }
+        requires fits { self.old.own < 2 ^ 64 - 1 }
         requires port { P.Usable files.old }
-        ensures row { IfOk result (λ turn. Obeys line (Command.Rename name to) turn now self.old self.new
-            (stored (M.words core.now) (P.files files.old)) (stored (M.words core.now) (P.files files.new))) }
+        ensures row { (core : List ℕ) → IsCoreOf self.old core → IfOk result (λ turn.
+            Obeys line (Command.Rename name to) turn now self.old self.new
+            (stored core (P.files files.old)) (stored core (P.files files.new))) }
         ensures user { KeepsUser result self.old self.new }
         ensures uses { Uses P.FilePort result files.old files.new }
     {
@@ -210,19 +205,18 @@ impl Session {
 
     /// DELETE: a file goes.
     #[tactic(auto, using(user_model::proofs::CoreLaws::recut_same))]
-    pub(crate) fn delete<M: MemoryPort, P: FilePort>(
+    pub(crate) fn delete<P: FilePort>(
         &mut self,
-        core: &M,
         files: &mut P,
         line: LineText,
         name: FileName,
         now: u64,
     ) -> Result<Turn, StepFault>
-        requires on { self.old.on ≡ true }
-        requires can { CanStep self.old (M.words core.now) }
+        requires fits { self.old.own < 2 ^ 64 - 1 }
         requires port { P.Usable files.old }
-        ensures row { IfOk result (λ turn. Obeys line (Command.Delete name) turn now self.old self.new
-            (stored (M.words core.now) (P.files files.old)) (stored (M.words core.now) (P.files files.new))) }
+        ensures row { (core : List ℕ) → IsCoreOf self.old core → IfOk result (λ turn.
+            Obeys line (Command.Delete name) turn now self.old self.new
+            (stored core (P.files files.old)) (stored core (P.files files.new))) }
         ensures user { KeepsUser result self.old self.new }
         ensures uses { Uses P.FilePort result files.old files.new }
     {
@@ -245,20 +239,19 @@ impl Session {
 
     /// CHMODE: a file gets another mode.
     #[tactic(auto, using(user_model::proofs::CoreLaws::recut_same))]
-    pub(crate) fn chmode<M: MemoryPort, P: FilePort>(
+    pub(crate) fn chmode<P: FilePort>(
         &mut self,
-        core: &M,
         files: &mut P,
         line: LineText,
         name: FileName,
         mode: u8,
         now: u64,
     ) -> Result<Turn, StepFault>
-        requires on { self.old.on ≡ true }
-        requires can { CanStep self.old (M.words core.now) }
+        requires fits { self.old.own < 2 ^ 64 - 1 }
         requires port { P.Usable files.old }
-        ensures row { IfOk result (λ turn. Obeys line (Command.ChangeMode name mode) turn now self.old self.new
-            (stored (M.words core.now) (P.files files.old)) (stored (M.words core.now) (P.files files.new))) }
+        ensures row { (core : List ℕ) → IsCoreOf self.old core → IfOk result (λ turn.
+            Obeys line (Command.ChangeMode name mode) turn now self.old self.new
+            (stored core (P.files files.old)) (stored core (P.files files.new))) }
         ensures user { KeepsUser result self.old self.new }
         ensures uses { Uses P.FilePort result files.old files.new }
     {

@@ -1,36 +1,33 @@
 //! INPUT: lines typed into a file.
-ghost use Rattle.std.specs.Prelude.{◌≡◌, ◌<◌, ◌≤◌, ◌+◌, ◌-◌, ◌*◌, ◌^◌, true, length, IfOk, OnErr};
+ghost use Rattle.std.specs.Prelude.{◌<◌, ◌+◌, ◌-◌, ◌^◌, ℕ, List, IfOk};
 ghost use Rattle.user_model.specs.declared.Command.{Command};
 ghost use Rattle.user_model.specs.Answers.{DidInput};
 ghost use Rattle.user_session.specs.Stores.{stored, Over, Uses};
 ghost use Rattle.user_session.specs.Turns.{Obeys};
-ghost use Rattle.user_session.specs.Calls.{CanStep, IsDirectoryOf, KeepsUser};
+ghost use Rattle.user_session.specs.Calls.{IsCoreOf, IsDirectoryOf, KeepsUser};
 
 use crate::entry::STOPPED;
 use crate::file_command::DONE;
 use crate::session::Session;
 use crate::{Step, Turn};
-use cmd_files::{line_words, refusal_text};
-use cpu_regs::MemoryPort;
+use cmd_program::{line_words, refusal_text};
 use ctss_types::{FileName, LineText, Refusal, StepFault};
 use file_map::{FilePort, PortFault};
 
 impl Session {
     /// INPUT: an empty file is made, and the lines that come go to it.
     #[tactic(auto, using(user_model::proofs::CoreLaws::recut_same, crate::proofs::Files::input_there, crate::proofs::Files::input_absent))]
-    pub(crate) fn begin_input<M: MemoryPort, P: FilePort>(
+    pub(crate) fn begin_input<P: FilePort>(
         &mut self,
-        core: &M,
         files: &mut P,
         line: LineText,
         name: FileName,
         now: u64,
     ) -> Result<Turn, StepFault>
-        requires on { self.old.on ≡ true }
-        requires can { CanStep self.old (M.words core.now) }
+        requires fits { self.old.own < 2 ^ 64 - 1 }
         requires own { IsDirectoryOf P.FilePort self.old files.old }
-        ensures row { IfOk result (λ turn. Over (P.tells files.old)
-            (stored (M.words core.now) (P.files files.old)) (stored (M.words core.now) (P.files files.new))
+        ensures row { (core : List ℕ) → IsCoreOf self.old core → IfOk result (λ turn. Over (P.tells files.old)
+            (stored core (P.files files.old)) (stored core (P.files files.new))
             (Obeys line (Command.Input name) turn now self.old self.new)) }
         ensures user { KeepsUser result self.old self.new }
         ensures uses { Uses P.FilePort result files.old files.new }
@@ -65,19 +62,16 @@ impl Session {
 
     /// A line of INPUT: its 14 words go to the file. An empty line, or a refusal, ends it.
     #[tactic(auto, using(user_model::proofs::CoreLaws::recut_same))]
-    pub(crate) fn type_line<M: MemoryPort, P: FilePort>(
+    pub(crate) fn type_line<P: FilePort>(
         &mut self,
-        core: &M,
         files: &mut P,
         line: LineText,
         name: FileName,
-        now: u64,
     ) -> Result<Step, StepFault>
-        requires on { self.old.on ≡ true }
-        requires can { CanStep self.old (M.words core.now) }
+        requires fits { self.old.own < 2 ^ 64 - 1 }
         requires own { IsDirectoryOf P.FilePort self.old files.old }
-        ensures row { IfOk result (λ s. Over (P.tells files.old)
-            (stored (M.words core.now) (P.files files.old)) (stored (M.words core.now) (P.files files.new))
+        ensures row { (core : List ℕ) → IsCoreOf self.old core → IfOk result (λ s. Over (P.tells files.old)
+            (stored core (P.files files.old)) (stored core (P.files files.new))
             (DidInput line name s.ending s.clock self.old self.new)) }
         ensures user { KeepsUser result self.old self.new }
         ensures uses { Uses P.FilePort result files.old files.new }

@@ -1,12 +1,12 @@
 //! LINK: modules are linked to a deck.
-ghost use Rattle.std.specs.Prelude.{◌≡◌, ◌<◌, ◌-◌, ◌*◌, ◌^◌, ◌++◌, true, length, IfOk, OnOk, OnErr};
+ghost use Rattle.std.specs.Prelude.{◌≡◌, ◌<◌, ◌-◌, ◌^◌, ◌++◌, ℕ, List, IfOk, OnOk};
 ghost use Rattle.ctss_types.specs.Words.{words_of};
 ghost use Rattle.link_model.specs.Files.{files_linked};
 ghost use Rattle.user_model.specs.Answers.{DidCommand};
 ghost use Rattle.user_model.specs.Commands.{modules_in, names_in};
 ghost use Rattle.user_model.specs.declared.Command.{Command};
 ghost use Rattle.user_session.specs.Stores.{stored, Over, OfSome, Uses, Reads};
-ghost use Rattle.user_session.specs.Calls.{CanStep, IsDirectoryOf, KeepsUser};
+ghost use Rattle.user_session.specs.Calls.{IsCoreOf, IsDirectoryOf, KeepsUser};
 
 use crate::Step;
 use crate::command::deck_name;
@@ -14,9 +14,8 @@ use crate::file_command::DONE;
 use crate::run_file::behind_two;
 use crate::session::Session;
 use cmd_program::{LinkFilesFault, link_files};
-use command_lines::command_table::word_name;
-use cpu_regs::MemoryPort;
 use ctss_types::{LineText, NoMemory, Sequence, StepFault, WordList, first_word};
+use dialogue::command_table::word_name;
 use dialogue::session_text::link_text;
 use file_map::FilePort;
 use link_model::LinkRefusal;
@@ -70,25 +69,23 @@ impl Session {
 
     /// LINK: the deck of the modules that a line names is put under this name, or it is said why there is none.
     #[tactic(auto, using(user_model::proofs::CoreLaws::recut_same))]
-    pub(crate) fn link<M: MemoryPort, P: FilePort>(
+    pub(crate) fn link<P: FilePort>(
         &mut self,
-        core: &M,
         files: &mut P,
         line: LineText,
         name: Word,
         now: u64,
     ) -> Result<Step, StepFault>
-        requires on { self.old.on ≡ true }
-        requires can { CanStep self.old (M.words core.now) }
+        requires fits { self.old.own < 2 ^ 64 - 1 }
         requires own { IsDirectoryOf P.FilePort self.old files.old }
-        ensures row { IfOk result (λ s. Over (P.tells files.old)
-            (stored (M.words core.now) (P.files files.old)) (stored (M.words core.now) (P.files files.new))
+        ensures row { (core : List ℕ) → IsCoreOf self.old core → IfOk result (λ s. Over (P.tells files.old)
+            (stored core (P.files files.old)) (stored core (P.files files.new))
             (DidCommand line (Command.Link name) s.ending s.clock now self.old self.new)) }
         ensures user { KeepsUser result self.old self.new }
         ensures uses { Uses P.FilePort result files.old files.new }
     {
         match self.deck_of_modules(files, &line)? {
-            Ok(deck) => self.put_file(core, files, line, deck_name(name), deck.as_slice(), now),
+            Ok(deck) => self.put_file(files, line, deck_name(name), deck.as_slice(), now),
             Err(refusal) => {
                 self.say(line, Some(link_text(refusal)), now)?;
                 Ok(DONE)

@@ -1,5 +1,5 @@
 //! Steps of a program that works, and one step of a user.
-ghost use Rattle.std.specs.Prelude.{◌≡◌, ◌<◌, ◌≤◌, ◌+◌, ◌-◌, ◌*◌, ◌^◌, List, true, false, None, Some, length, IfOk, OnOk, OnErr};
+ghost use Rattle.std.specs.Prelude.{◌≡◌, ◌<◌, ◌≤◌, ◌+◌, ◌-◌, ◌^◌, ℕ, List, true, false, None, Some, IfOk, OnOk, OnErr};
 ghost use Rattle.program_model.specs.Fills.{StartsInCore};
 ghost use Rattle.program_model.specs.declared.Fill.{Fill};
 ghost use Rattle.user_model.specs.Session.{works_in};
@@ -7,12 +7,13 @@ ghost use Rattle.user_model.specs.Runs.{HaveGone, IsAtWork};
 ghost use Rattle.ctss_types.specs.declared.file.CommonOp.{CommonOp};
 ghost use Rattle.ctss_types.specs.declared.file.FileBody.{FileBody};
 ghost use Rattle.user_session.specs.Changes.{IsStored, IsEntryFor};
-ghost use Rattle.user_session.specs.Stores.{stored, Over, OfSome, IsToMake, Uses, Reads};
+ghost use Rattle.user_model.specs.Inner.{Stored};
+ghost use Rattle.user_session.specs.Stores.{stored, Over, OfSome, IsToMake, Reads};
 ghost use Rattle.user_session.specs.Turns.{IsReplied, IsTurn, Instructs, Runs};
 ghost use Rattle.user_model.specs.Answers.{DidBreak, marked};
 ghost use Rattle.user_model.specs.Programs.{at_break};
 ghost use Rattle.file_model.specs.Commons.{ReplyFits};
-ghost use Rattle.user_session.specs.Calls.{CanStep, IsAtInstruction, IsDirectoryOf, KeepsCore, KeepsUser, Leaves};
+ghost use Rattle.user_session.specs.Calls.{CanStep, IsCoreOf, IsAtInstruction, IsDirectoryOf, KeepsCore, KeepsUser, Leaves};
 
 use crate::entry::STOPPED;
 use crate::file_entry::WENT;
@@ -20,10 +21,10 @@ use crate::session::{Session, works_in};
 use crate::turn::Instructed;
 use crate::{Step, Turn};
 use cmd_program::fill;
-use command_lines::command_table::command_of;
 use cpu_regs::MemoryPort;
 use cpu_step::{Stepped, run, step};
 use ctss_types::{NoMemory, Reply, StepFault};
+use dialogue::command_table::command_of;
 use file_map::FilePort;
 use program_model::Fill;
 use tia_entry::read_call;
@@ -58,7 +59,6 @@ impl Session {
         core: &mut M,
         files: &mut P,
         with: Fill,
-        now: u64,
     ) -> Result<Turn, StepFault>
         requires on { self.old.on ≡ true }
         requires works { works_in self.old.inner.state ≡ true }
@@ -66,7 +66,7 @@ impl Session {
         requires start { StartsInCore with }
         requires can { CanStep self.old (M.words core.old) }
         requires port { P.Usable files.old }
-        ensures turn { IfOk result (λ turn. Over (P.tells files.old)
+        ensures turn { (now : ℕ) → IfOk result (λ turn. Over (P.tells files.old)
             (stored (M.words core.old) (P.files files.old)) (stored (M.words core.new) (P.files files.new))
             (IsTurn turn now self.old self.new)) }
         ensures leaves { Leaves M.MemoryPort P.FilePort result self.old self.new core.old core.new files.old files.new }
@@ -77,10 +77,10 @@ impl Session {
 
     /// The next instruction of a program. A supervisor entry is not done yet.
     #[inline(always)]
-    fn instruct<M: MemoryPort>(&mut self, core: &mut M, now: u64) -> Result<Instructed, NoMemory>
+    fn instruct<M: MemoryPort>(&mut self, core: &mut M) -> Result<Instructed, NoMemory>
         requires ready { IsAtInstruction self.old }
         requires can { CanStep self.old (M.words core.old) }
-        ensures does { (fs : List FileBody) → IfOk result (λ done. Instructs done now self.old self.new
+        ensures does { (fs : List FileBody) (now : ℕ) → IfOk result (λ done. Instructs done now self.old self.new
             (stored (M.words core.old) fs) (stored (M.words core.new) fs)) }
         ensures user { KeepsUser result self.old self.new }
         ensures core { KeepsCore M.MemoryPort result core.old core.new }
@@ -129,7 +129,7 @@ impl Session {
             (Runs turn now self.old self.new)) }
         ensures leaves { Leaves M.MemoryPort P.FilePort result self.old self.new core.old core.new files.old files.new }
     {
-        match self.instruct(core, now)? {
+        match self.instruct(core)? {
             Instructed::Done(step) => Ok(Turn::Done(step)),
             Instructed::Entry(name) => self.enter(core, files, name, now),
         }
@@ -147,11 +147,10 @@ impl Session {
 
     /// A break: the program stops before its next instruction.
     #[tactic(auto, using(user_model::proofs::CoreLaws::recut_same))]
-    fn make_break<M: MemoryPort>(&mut self, core: &M) -> Result<Step, NoMemory>
-        requires on { self.old.on ≡ true }
-        requires can { CanStep self.old (M.words core.now) }
-        ensures row { (fs : List FileBody) → IfOk result (λ s. DidBreak s.ending s.clock self.old self.new
-            (stored (M.words core.now) fs) (stored (M.words core.now) fs)) }
+    fn make_break(&mut self) -> Result<Step, NoMemory>
+        requires fits { self.old.own < 2 ^ 64 - 1 }
+        ensures row { (store : Stored) → IsCoreOf self.old store.core → IfOk result (λ s.
+            DidBreak s.ending s.clock self.old self.new store store) }
         ensures user { KeepsUser result self.old self.new }
     {
         self.talk.reserve(2)?;
@@ -191,7 +190,7 @@ impl Session {
         ensures leaves { Leaves M.MemoryPort P.FilePort result self.old self.new core.old core.new files.old files.new }
     {
         if self.is_at_break() {
-            let broken = self.make_break(core)?;
+            let broken = self.make_break()?;
             return Ok(Turn::Done(broken));
         }
         match self.go_on(core, files, now)? {
@@ -253,12 +252,12 @@ impl Session {
     }
 
     /// A program's call that made a common operation goes on with its reply.
-    fn entry_replied<M: MemoryPort>(&mut self, core: &mut M, reply: &Reply, now: u64) -> Step
+    fn entry_replied<M: MemoryPort>(&mut self, core: &mut M, reply: &Reply) -> Step
         requires ready { IsAtInstruction self.old }
         requires asks { (op : CommonOp) × IsEntryFor op self.old (M.words core.old) }
         requires can { CanStep self.old (M.words core.old) }
         requires reply_fits { ReplyFits reply.now }
-        ensures step { (op : CommonOp) (fs : List FileBody) → IsEntryFor op self.old (M.words core.old)
+        ensures step { (op : CommonOp) (fs : List FileBody) (now : ℕ) → IsEntryFor op self.old (M.words core.old)
             → IsReplied result op reply.now now self.old self.new (stored (M.words core.old) fs)
             (stored (M.words core.new) fs) }
         ensures account { self.new.inner.account ≡ self.old.inner.account }
@@ -297,14 +296,13 @@ impl Session {
             (IsReplied s op reply.now now self.old self.new)) }
         ensures leaves { Leaves M.MemoryPort P.FilePort result self.old self.new core.old core.new files.old files.new }
     {
-        let _ = &self.account;
         if self.works() {
-            return Ok(self.entry_replied(core, reply, now));
+            return Ok(self.entry_replied(core, reply));
         }
         let Some(line) = self.first_line() else {
             unreachable!()
         };
-        self.copy_replied(core, files, line, command_of(&line), reply, now)
+        self.copy_replied(files, line, command_of(&line), reply, now)
     }
 
     /// A step at a tick of a user of whom no program works. It stands apart, so that programs don't pay for the room
@@ -327,7 +325,7 @@ impl Session {
         ensures leaves { Leaves M.MemoryPort P.FilePort result self.old self.new core.old core.new files.old files.new }
     {
         if self.is_debugged() {
-            let turn = self.debug(core, files, now)?;
+            let turn = self.debug(core)?;
             return Ok(turn);
         }
         self.take_line(core, files, now)
@@ -377,7 +375,7 @@ impl Session {
             return self.listen(core, files, now);
         }
         match self.fill {
-            Some(fill) => self.fill_core(core, files, fill, now),
+            Some(fill) => self.fill_core(core, files, fill),
             None => self.run(core, files, now),
         }
     }

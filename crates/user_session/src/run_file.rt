@@ -1,28 +1,27 @@
 //! RUNCOM: the lines of a command file stand before those that were typed.
-ghost use Rattle.std.specs.Prelude.{◌≡◌, ◌<◌, ◌≤◌, ◌+◌, ◌-◌, ◌*◌, ◌^◌, List, drop, length, true, IfOk, OnErr};
+ghost use Rattle.std.specs.Prelude.{◌≡◌, ◌<◌, ◌-◌, ◌^◌, ℕ, List, drop, true, IfOk};
 ghost use Rattle.std.specs.List.{list_all};
 ghost use Rattle.bcd48.specs.Characters.{is_character};
 ghost use Rattle.ctss_types.specs.Words.{words_of};
-ghost use Rattle.ctss_types.specs.declared.file.FileBody.{FileBody};
 ghost use Rattle.file_model.specs.Files.{got};
 ghost use Rattle.program_model.specs.CommandLines.{lines_with};
-ghost use Rattle.cmd_files.specs.Lines.{lines_got};
+ghost use Rattle.cmd_program.specs.Lines.{lines_got};
 ghost use Rattle.user_model.specs.declared.Command.{Command};
 ghost use Rattle.user_model.specs.Answers.{DidCommand};
 ghost use Rattle.user_model.specs.Commands.{command_file, com_text};
 ghost use Rattle.user_session.specs.Changes.{DidFeed};
+ghost use Rattle.user_model.specs.Inner.{Stored};
 ghost use Rattle.user_session.specs.Stores.{stored, Over, OfSome, Uses, Reads};
-ghost use Rattle.user_session.specs.Calls.{CanStep, KeepsUser};
+ghost use Rattle.user_session.specs.Calls.{IsCoreOf, KeepsUser};
 
 use crate::Step;
 use crate::file_command::DONE;
 use crate::session::Session;
-use cmd_files::{printed, refusal_text};
-use command_lines::runcom::{ComFault, ComRefusal, MOST_LINES, substitute};
-use cpu_regs::MemoryPort;
+use cmd_program::{printed, refusal_text};
 use ctss_types::{
     FileName, LineList, LineText, NoMemory, Refusal, StepFault, first_word, name_word,
 };
+use dialogue::runcom::{ComFault, ComRefusal, MOST_LINES, substitute};
 use file_map::{FilePort, PortFault};
 use word36::Word;
 
@@ -44,7 +43,7 @@ fn com_text(refusal: ComRefusal) -> LineText
 }
 
 /// What stands behind the first word of a text.
-#[tactic(auto, using(command_lines::proofs::Parts::behind_all))]
+#[tactic(auto, using(dialogue::proofs::Parts::behind_all))]
 fn behind_one(text: &[u8]) -> &[u8]
     requires { list_all is_character text.now ≡ true }
     ensures words { words_of result.now ≡ drop 1 (words_of text.now) }
@@ -85,17 +84,11 @@ impl Session {
 
     /// The lines of a command file stand before those unread, or it is said why they don't.
     #[tactic(auto, using(user_model::proofs::CoreLaws::recut_same))]
-    fn feed_lines<M: MemoryPort>(
-        &mut self,
-        core: &M,
-        line: LineText,
-        lines: &[LineText],
-        now: u64,
-    ) -> Result<Step, NoMemory>
-        requires can { CanStep self.old (M.words core.now) }
-        ensures row { (fs : List FileBody) → IfOk result (λ s. DidFeed line
-            (lines_with lines.now (drop 2 (words_of line)) (256 - (self.old.fed - 1)))
-            s.ending s.clock now self.old self.new (stored (M.words core.now) fs) (stored (M.words core.now) fs)) }
+    fn feed_lines(&mut self, line: LineText, lines: &[LineText], now: u64) -> Result<Step, NoMemory>
+        requires fits { self.old.own < 2 ^ 64 - 1 }
+        ensures row { (store : Stored) → IsCoreOf self.old store.core → IfOk result (λ s.
+            DidFeed line (lines_with lines.now (drop 2 (words_of line)) (256 - (self.old.fed - 1)))
+            s.ending s.clock now self.old self.new store store) }
         ensures user { KeepsUser result self.old self.new }
     {
         let left = self.talk.fed_count().saturating_sub(1);
@@ -121,26 +114,24 @@ impl Session {
 
     /// RUNCOM: the lines of a command file stand before those unread.
     #[tactic(auto, using(user_model::proofs::CoreLaws::recut_same))]
-    pub(crate) fn run_file<M: MemoryPort, P: FilePort>(
+    pub(crate) fn run_file<P: FilePort>(
         &mut self,
-        core: &M,
         files: &mut P,
         line: LineText,
         name: Word,
         now: u64,
     ) -> Result<Step, StepFault>
-        requires on { self.old.on ≡ true }
-        requires can { CanStep self.old (M.words core.now) }
+        requires fits { self.old.own < 2 ^ 64 - 1 }
         requires port { P.Usable files.old }
-        ensures row { IfOk result (λ s. Over (P.tells files.old)
-            (stored (M.words core.now) (P.files files.old)) (stored (M.words core.now) (P.files files.new))
+        ensures row { (core : List ℕ) → IsCoreOf self.old core → IfOk result (λ s. Over (P.tells files.old)
+            (stored core (P.files files.old)) (stored core (P.files files.new))
             (DidCommand line (Command.RunFile name) s.ending s.clock now self.old self.new)) }
         ensures user { KeepsUser result self.old self.new }
         ensures uses { Uses P.FilePort result files.old files.new }
     {
         match self.command_lines(files, name)? {
             Ok(lines) => {
-                let done = self.feed_lines(core, line, lines.as_slice(), now)?;
+                let done = self.feed_lines(line, lines.as_slice(), now)?;
                 Ok(done)
             }
             Err(refusal) => {

@@ -1,22 +1,23 @@
 //! Commands on a program that stopped, and on saved programs.
-ghost use Rattle.std.specs.Prelude.{◌≡◌, ◌<◌, ◌≤◌, ◌-◌, ◌*◌, ◌^◌, List, true, length, IfOk, OnErr};
+ghost use Rattle.std.specs.Prelude.{◌≡◌, ◌<◌, ◌≤◌, ◌-◌, ◌^◌, ℕ, List, true, IfOk};
 ghost use Rattle.file_model.specs.Files.{got};
 ghost use Rattle.program_model.specs.Saved.{saved_name, saved_of};
 ghost use Rattle.user_model.specs.Answers.{DidCommand};
 ghost use Rattle.user_model.specs.Commands.{is_dormant};
 ghost use Rattle.ctss_types.specs.declared.file.FileBody.{FileBody};
+ghost use Rattle.user_model.specs.Inner.{Stored};
 ghost use Rattle.user_session.specs.Stores.{stored, Over, OfSome, Uses, Reads};
 ghost use Rattle.user_session.specs.Turns.{Obeys};
 ghost use Rattle.user_model.specs.declared.Command.{Command};
-ghost use Rattle.user_session.specs.Calls.{CanStep, IsDirectoryOf, KeepsUser};
+ghost use Rattle.user_session.specs.Calls.{CanStep, IsCoreOf, IsDirectoryOf, KeepsUser};
 
 use crate::file_command::DONE;
 use crate::session::Session;
 use crate::{Step, Turn};
 use cmd_program::{PrepareFault, prepare_saved, register_lines, saved_words, word_line};
-use command_lines::command_table::is_dormant;
 use cpu_regs::MemoryPort;
 use ctss_types::{Ending, FileName, LineText, NoMemory, StepFault, name_word};
+use dialogue::command_table::is_dormant;
 use dialogue::session_text::load_text;
 use file_map::FilePort;
 use program_model::{Fill, LoadFault, ProgramState};
@@ -39,16 +40,10 @@ impl Session {
 
     /// START: the program that stopped goes on.
     #[tactic(auto, using(user_model::proofs::CoreLaws::recut_same))]
-    pub(crate) fn start<M: MemoryPort>(
-        &mut self,
-        core: &M,
-        line: LineText,
-        now: u64,
-    ) -> Result<Step, NoMemory>
-        requires on { self.old.on ≡ true }
-        requires can { CanStep self.old (M.words core.now) }
-        ensures row { (fs : List FileBody) → IfOk result (λ s. DidCommand line Command.Start s.ending s.clock
-            now self.old self.new (stored (M.words core.now) fs) (stored (M.words core.now) fs)) }
+    pub(crate) fn start(&mut self, line: LineText, now: u64) -> Result<Step, NoMemory>
+        requires fits { self.old.own < 2 ^ 64 - 1 }
+        ensures row { (store : Stored) → IsCoreOf self.old store.core → IfOk result (λ s.
+            DidCommand line Command.Start s.ending s.clock now self.old self.new store store) }
         ensures user { KeepsUser result self.old self.new }
     {
         if !self.is_dormant() {
@@ -75,7 +70,6 @@ impl Session {
         name: Word,
         now: u64,
     ) -> Result<Step, StepFault>
-        requires on { self.old.on ≡ true }
         requires can { CanStep self.old (M.words core.now) }
         requires own { IsDirectoryOf P.FilePort self.old files.old }
         ensures row { IfOk result (λ s. Over (P.tells files.old)
@@ -89,7 +83,7 @@ impl Session {
             return Ok(DONE);
         }
         let words = saved_words(self.talk.allocator(), self.blocks, &self.regs, core)?;
-        self.put_file(core, files, line, saved_name(name), &words, now)
+        self.put_file(files, line, saved_name(name), &words, now)
     }
 
     /// The blocks of a saved program of this name, or why there is none.
@@ -114,19 +108,17 @@ impl Session {
 
     /// RESUME: a saved program takes the place of the one before, or why there is none.
     #[tactic(auto, using(user_model::proofs::CoreLaws::recut_same))]
-    pub(crate) fn resume<M: MemoryPort, P: FilePort>(
+    pub(crate) fn resume<P: FilePort>(
         &mut self,
-        core: &M,
         files: &mut P,
         line: LineText,
         name: Word,
         now: u64,
     ) -> Result<Turn, StepFault>
-        requires on { self.old.on ≡ true }
-        requires can { CanStep self.old (M.words core.now) }
+        requires fits { self.old.own < 2 ^ 64 - 1 }
         requires port { P.Usable files.old }
-        ensures row { IfOk result (λ turn. Over (P.tells files.old)
-            (stored (M.words core.now) (P.files files.old)) (stored (M.words core.now) (P.files files.new))
+        ensures row { (core : List ℕ) → IsCoreOf self.old core → IfOk result (λ turn. Over (P.tells files.old)
+            (stored core (P.files files.old)) (stored core (P.files files.new))
             (Obeys line (Command.Resume name) turn now self.old self.new)) }
         ensures user { KeepsUser result self.old self.new }
         ensures uses { Uses P.FilePort result files.old files.new }
@@ -151,16 +143,10 @@ impl Session {
 
     /// PM: the registers of the program that stopped.
     #[tactic(auto, using(user_model::proofs::CoreLaws::recut_same))]
-    pub(crate) fn tell_registers<M: MemoryPort>(
-        &mut self,
-        core: &M,
-        line: LineText,
-        now: u64,
-    ) -> Result<Step, NoMemory>
-        requires on { self.old.on ≡ true }
-        requires can { CanStep self.old (M.words core.now) }
-        ensures row { (fs : List FileBody) → IfOk result (λ s. DidCommand line Command.Registers s.ending s.clock
-            now self.old self.new (stored (M.words core.now) fs) (stored (M.words core.now) fs)) }
+    pub(crate) fn tell_registers(&mut self, line: LineText, now: u64) -> Result<Step, NoMemory>
+        requires fits { self.old.own < 2 ^ 64 - 1 }
+        ensures row { (store : Stored) → IsCoreOf self.old store.core → IfOk result (λ s.
+            DidCommand line Command.Registers s.ending s.clock now self.old self.new store store) }
         ensures user { KeepsUser result self.old self.new }
     {
         if !self.is_dormant() {
@@ -181,7 +167,6 @@ impl Session {
         place: u16,
         now: u64,
     ) -> Result<Step, NoMemory>
-        requires on { self.old.on ≡ true }
         requires can { CanStep self.old (M.words core.now) }
         ensures row { (fs : List FileBody) → IfOk result (λ s. DidCommand line (Command.WordAt place) s.ending s.clock
             now self.old self.new (stored (M.words core.now) fs) (stored (M.words core.now) fs)) }

@@ -1,13 +1,13 @@
 ghost use Rattle.std.specs.Prelude.{◌≡◌, ◌<◌, ◌≤◌, ◌+◌, ◌-◌, ◌^◌, ◌++◌, ◌∷◌, ◌↔◌, [], ℕ, true, false, not, OnOk, OnErr, IfOk, slice_get};
 ghost use Rattle.user_model.specs.Session.{first_state, is_none, works_in};
-ghost use Rattle.user_model.specs.Inner.{blocks_of};
+ghost use Rattle.user_model.specs.Inner.{blocks_of, without_program};
 ghost use Rattle.user_model.specs.User.{typed, opened, cut};
 ghost use Rattle.time_sharing.specs.Machine.{Quit, Hang, Spent};
 ghost use Rattle.time_sharing.specs.Rows.{some_line};
 
-use command_lines::fap_debug::Debug;
 use cpu_regs::Regs;
 use ctss_types::{Account, FileName, Item, Items, LineText, NoMemory};
+use dialogue::fap_debug::Debug;
 use dialogue::{Dialogue, Put};
 use program_model::{Fill, ProgramState};
 use std::alloc::Global;
@@ -220,6 +220,17 @@ impl Session {
         Ok(())
     }
 
+    /// No program is left, and the debugger is closed.
+    pub(crate) fn drop_program(&mut self)
+        ensures { self.new ≡ record self.old { inner = without_program self.old.inner } }
+    {
+        self.state = ProgramState::Dead;
+        self.regs = Regs::new();
+        self.blocks = 0;
+        self.fill = None;
+        self.debugger = None;
+    }
+
     /// A hang: the session is over, and its program goes. Its files of mode 0 go too, but they lie outside.
     #[tactic(auto, unfolding(user_model::specs::User::cut))]
     pub fn hang(&mut self) -> Result<(), NoMemory>
@@ -228,12 +239,8 @@ impl Session {
     {
         self.talk.hang()?;
         self.on = false;
-        self.state = ProgramState::Dead;
-        self.regs = Regs::new();
-        self.blocks = 0;
-        self.fill = None;
+        self.drop_program();
         self.input = None;
-        self.debugger = None;
         Ok(())
     }
 

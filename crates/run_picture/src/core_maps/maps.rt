@@ -11,7 +11,7 @@ use ctss_modes::give_all;
 use ctss_types::{NoMemory, Script};
 use live_run::{Begun, NewRun, begin};
 use medium::{Medium, PlainMedium};
-use schedule_chart::CoreMaps;
+use schedule_figures::chart::CoreMaps;
 use std::alloc::Global;
 
 /// The same over a drum and a disk.

@@ -3,7 +3,7 @@ ghost use Rattle.std.specs.Prelude.{◌≡◌, ◌++◌, map, OnOk};
 ghost use Rattle.picture_model.specs.Cores.{load_tick, load_ticks, owner_in};
 
 use ctss_types::{Entry, NoMemory};
-use schedule_chart::CoreMaps;
+use schedule_figures::chart::CoreMaps;
 
 /// Notes the owners, if an entry tells of a load.
 fn note_load(maps: &mut CoreMaps, entry: &Entry, owners: &[u8; 128]) -> Result<(), NoMemory>

@@ -11,7 +11,7 @@ use crate::core_maps::note::note_loads;
 use ctss_types::{NoMemory, RunFault, Script};
 use image_map::Image;
 use medium::Medium;
-use schedule_chart::CoreMaps;
+use schedule_figures::chart::CoreMaps;
 use std::alloc::Global;
 use supervisor::Supervisor;
 use track_directories::TrackDirectories;

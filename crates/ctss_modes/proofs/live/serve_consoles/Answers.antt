@@ -23,7 +23,7 @@ use Rattle.ctss_modes.proofs.live.serve_consoles.Goals as goal
 pub returns-in-Err-clause-answers : goal.returns-in-Err-clause-answers
 returns-in-Err-clause-answers g c =
     unread_answers _ _ _ _ c.end_unread.result (ends_unread c.in-Err.end _ _ _ _ _ (λ e. c.in-Err.ensures.too_long (ap Err e)) (λ e. c.in-Err.ensures.stopped (ap Err e)) (λ e. c.in-Err.ensures.fault (ap Err e)) c.end_unread.ensures)
-    (Serve c.args.port c.args.turns) refl _ _ (NotServed refl refl)
+    (Serve c.args.listening.port c.args.listening.turns) refl _ _ (NotServed refl refl)
 
 pub returns-in-Err-clause-statuses : goal.returns-in-Err-clause-statuses
 returns-in-Err-clause-statuses g c = unread_told_live _ _ _ _ c.end_unread.result (ends_unread c.in-Err.end _ _ _ _ _ (λ e. c.in-Err.ensures.too_long (ap Err e)) (λ e. c.in-Err.ensures.stopped (ap Err e)) (λ e. c.in-Err.ensures.fault (ap Err e)) c.end_unread.ensures)
@@ -44,7 +44,7 @@ returns-in-Ok-read_base-clause-answers g c =
 
 pub returns-in-Err-Refused-clause-answers : goal.returns-in-Err-Refused-clause-answers
 returns-in-Err-Refused-clause-answers g c =
-    let mode : Mode = Serve c.args.port c.args.turns in
+    let mode : Mode = Serve c.args.listening.port c.args.listening.turns in
     let did = c.refuse_script.ensures in
     let number : ℕ = c.number.result in
     let refusal : ScriptRefusal = c.in-Err-Refused.refusal in
@@ -65,4 +65,4 @@ returns-in-Err-Refused-clause-answers g c =
     did.cause did.memory did.silent
 
 pub returns-clause-answers : goal.returns-clause-answers
-returns-clause-answers g c = answers_no_memory (Serve c.args.port c.args.turns) _ _ c.bare.result (NotServed refl refl) c.bare.ensures refl
+returns-clause-answers g c = answers_no_memory (Serve c.args.listening.port c.args.listening.turns) _ _ c.bare.result (NotServed refl refl) c.bare.ensures refl

@@ -4,7 +4,7 @@ use Rattle.fap_assemble.proofs.ModuleEnds.{module_said}
 use Rattle.fap_assemble.proofs.module_assembler.module_of.Goals as goal
 
 pub sound_module-requires-clause-sound : goal.sound_module-requires-clause-sound
-sound_module-requires-clause-sound c = c.in_ok-refuse_faults.ensures.sound
+sound_module-requires-clause-sound c = c.in-Ok.ensures.sound
 
-pub returns : goal.returns
-returns c = module_said (texts c.args.cards.now) [] c.in_ok-made.made (sym c.in_ok-refuse_faults.ensures.sound) refl c.in_ok-made.ensures
+pub returns-in_ok-made-in-Ok : goal.returns-in_ok-made-in-Ok
+returns-in_ok-made-in-Ok c = module_said (texts c.args.cards.now) [] c.in_ok-made-in-Ok.made (sym c.in-Ok.ensures.sound) refl c.in_ok-made-in-Ok.ensures

@@ -1,4 +1,4 @@
-use Rattle.std.proofs.Common.{arith}
+use Rattle.std.proofs.Common.{arith, ◌∙◌}
 use Rattle.fap_assemble.specs.Steps.{texts}
 use Rattle.fap_assemble.specs.Judging.{relocated_in}
 use Rattle.fap_assemble.proofs.ModuleEnds.{told_is, sound_end, sound_cards, few_externs, module_is}
@@ -28,6 +28,6 @@ cells_of-requires-clause-sound c =
 
 pub returns : goal.returns
 returns c =
-    module_is (relocated_in c.args.r) (texts c.args.cards.now) (texts c.args.read.now) c.in_ok-start.start c.in_ok-entries.entries c.into_names.result c.in_ok-places.places
+    module_is (relocated_in c.args.r) (texts c.args.cards.now) (texts c.args.read.now) c.in-Ok.start c.in-Ok-entries_of.entries c.into_names.result c.in-Ok-cells_of.places
     (told_is (relocated_in c.args.r) (texts c.args.cards.now) (texts c.args.read.now) c.requires.tells.told c.requires.read) c.requires.read
-    c.in_ok-start.ensures c.in_ok-entries.ensures c.into_names.ensures c.in_ok-places.ensures
+    c.in-Ok.ensures c.in-Ok-entries_of.ensures (c.into_names.ensures ∙ c.into_externs-externs.ensures) c.in-Ok-cells_of.ensures

@@ -4,4 +4,4 @@ use Rattle.fap_assemble.specs.Follows.{numbered}
 use Rattle.fap_assemble.proofs.module_judge.judge_card.Goals as goal
 
 pub returns : goal.returns
-returns c = c.in_ok-note.ensures ∙ ap (λ (f : ℕ). numbered c.args.faults.now ++ fault_entry c.args.number f) c.in_ok-fault.ensures
+returns c = c.in_ok-note.ensures ∙ ap (λ (f : ℕ). numbered c.args.faults.now ++ fault_entry c.args.card.number f) c.in_ok-fault.ensures

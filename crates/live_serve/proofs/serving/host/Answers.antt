@@ -16,14 +16,14 @@ use Rattle.live_serve.proofs.serving.host.Goals as goal
 pub returns-in-Err-clause-hosts : goal.returns-in-Err-clause-hosts
 returns-in-Err-clause-hosts g c = λ base was now begun behind.
     let parts = c.into_parts-supervisor.ensures in
-    hosts_unbegun base c.args.port c.args.turns was now _ _ c.args.wrote c.in-Err.fault c.args.run.supervisor (g.C.Backing.state c.args.run.cores) refl c.in-Err.is begun
+    hosts_unbegun base c.args.listening.port c.args.listening.turns was now _ _ c.args.wrote c.in-Err.fault c.args.run.supervisor (g.C.Backing.state c.args.run.cores) refl c.in-Err.is begun
     (ap (λ x. (g.C.Backing.state x).calls) (sym parts.cores) ∙ behind.calls) (ap (λ x. (g.C.Backing.state x).disk_faults) (sym parts.cores) ∙ behind.disk) c.end_unbegun-served.result
     (subst (λ (b : Bare). IfOk c.end_unbegun-served.result (λ s. (c.in-Err.fault ≡ Disk) × (s ≡ DiskFailed (record_so_far (run_with no_places b))))) parts.supervisor c.end_unbegun-served.ensures.disk)
 
 pub returns-then-is_err-clause-hosts : goal.returns-then-is_err-clause-hosts
 returns-then-is_err-clause-hosts g c = λ base was now begun behind.
-    hosts_unopened base c.args.port c.args.turns was now _ _ c.args.wrote c.args.run.supervisor (g.C.Backing.state c.args.run.cores)
-    (subst (λ (f : Bool). Did (DidOpen c.args.port f) (g.L.Link.seen c.args.link.now) (g.L.Link.seen c.open.new.self)) (sym c.is_err.ensures.value ∙ c.if-is_err.true) c.open.ensures) begun
+    hosts_unopened base c.args.listening.port c.args.listening.turns was now _ _ c.args.wrote c.args.run.supervisor (g.C.Backing.state c.args.run.cores)
+    (subst (λ (f : Bool). Did (DidOpen c.args.listening.port f) (g.L.Link.seen c.args.link.now) (g.L.Link.seen c.open.new.self)) (sym c.is_err.ensures.value ∙ c.if-is_err.true) c.open.ensures) begun
     (ap (λ x. (g.C.Backing.state x).calls) (sym c.into_parts-behind.ensures.cores) ∙ behind.calls)
 
 pub returns-clause-hosts : goal.returns-clause-hosts
@@ -41,11 +41,11 @@ returns-clause-hosts g c = λ base was now begun behind.
     let ends : IfOk c.end-served.result (EndsSo Lies ended core.supervisor (g.C.Backing.state core.cores) last events) =
     subst (λ (s : Bare). IfOk c.end-served.result (EndsSo Lies ended s (g.C.Backing.state core.cores) last events)) parts.supervisor
     (subst (λ x. IfOk c.end-served.result (EndsSo Lies ended c.into_parts-supervisor-2.result.0 (g.C.Backing.state x) last events)) parts.cores c.end-served.ensures.ends) in
-    hosted base was now a b begins _ _ _ _ (λ calls h. h.1) (λ calls texts h. (whole_of h.0.supervisor (g.C.Backing.state h.0.cores), h.1.1, h.2)) begun.calls c.args.port c.args.turns
+    hosted base was now a b begins _ _ _ _ (λ calls h. h.1) (λ calls texts h. (whole_of h.0.supervisor (g.C.Backing.state h.0.cores), h.1.1, h.2)) begun.calls c.args.listening.port c.args.listening.turns
     begun.drum begun.disk last
     (c.end-served.ensures.calls ∙ ap (λ x. (g.C.Backing.state x).calls) parts.cores) (c.end-served.ensures.faults ∙ ap (λ x. (g.C.Backing.state x).faults) parts.cores)
     behind.calls behind.faults behind.disk events _ _ _
-    (subst (λ (f : Bool). Did (DidOpen c.args.port f) (g.L.Link.seen c.args.link.now) (g.L.Link.seen c.open.new.self)) (sym c.is_err.ensures.value ∙ c.if-is_err.false) c.open.ensures)
+    (subst (λ (f : Bool). Did (DidOpen c.args.listening.port f) (g.L.Link.seen c.args.link.now) (g.L.Link.seen c.open.new.self)) (sym c.is_err.ensures.value ∙ c.if-is_err.false) c.open.ensures)
     Lies behind.lie ended c.talk-core.ensures.done c.talk-core.ensures.cut c.talk-core.ensures.cause c.end-served.result ends
 
 pub returns-clause-keeps : goal.returns-clause-keeps

@@ -1,7 +1,7 @@
-use Rattle.std.proofs.Common.{◌≡◌, ◌-◌, ◌<◌, ◌++◌, true, false, List, rules, sym, ap, ◌∙◌, arith}
+use Rattle.std.proofs.Common.{◌≡◌, ◌-◌, ◌<◌, ◌++◌, true, false, List, rules, refl, sym, ap, ◌∙◌, arith}
 use Rattle.user_model.specs.Session.{works_in}
 use Rattle.program_trace.specs.Lone.{TracedUser}
-use Rattle.program_trace.specs.Traces.{TracedStep, steps_from}
+use Rattle.program_trace.specs.Traces.{TracedStep, step_between, steps_from}
 use Rattle.program_trace.proofs.Sessions.{own_rises}
 use Rattle.program_trace.proofs.States.{gone_still, cannot_go, works_not, steps_more, gone_more, steps_end, steps_all, gone_all, waits_told, went_told}
 use Rattle.program_trace.proofs.run.go.Goals as goal
@@ -23,10 +23,9 @@ steps-preserved c =
     let next = c.in-Went.next in
     let told = went_told l.alone _ _ c.in_ok-same.ensures c.in-Went.is in
     let works : works_in l.alone.user.inner.state ≡ true = search rules in
-    let seen = c.in_ok-step_between.ensures l.alone c.found_by-found.ensures in
     let some : 0 < l.left = c.steps-test.true in (
-      ap (λ (ss : List TracedStep). ss ++ steps_from (l.left - 1) next) c.in_ok-push.ensures.ok
-          ∙ sym (steps_more l.steps l.left l.alone next c.in_ok-step_between.field-0 some works told.0 told.1 seen) ∙ l.invariant.0,
+      ap (λ (ss : List TracedStep). ss ++ steps_from (l.left - 1) next) (c.in-Ok.ensures l.alone c.found_by-found.ensures)
+          ∙ sym (steps_more l.steps l.left l.alone next (step_between l.alone next) some works told.0 told.1 refl) ∙ l.invariant.0,
       sym (gone_more l.left l.alone next some works told.0 told.1) ∙ l.invariant.1,
       omega (arith, some, l.invariant.2, ap (λ (a : TracedUser). a.user.own) told.1, own_rises l.alone),
     )

@@ -10,17 +10,17 @@ step-requires c = omega (arith, ap (λ (a : TracedUser). a.user.own) c.in_ok-beg
 
 pub unreachable-requires : goal.unreachable-requires
 unreachable-requires c =
-    let told = waits_told c.in_ok-begun.begun _ _ c.in_ok-asked.ensures c.in_default.is in
+    let told = waits_told c.in_ok-begun.begun _ _ c.in_ok-step.ensures c.in-Waits.is in
     true≢false (sym (ap (λ (a : TracedUser). can_step a.user) c.in_ok-begun.ensures ∙ begun_can c.args.deck.now c.args.lines.now) ∙ told.0)
 
 pub go-requires : goal.go-requires
 go-requires c =
-    let told = went_told c.in_ok-begun.begun _ _ c.in_ok-asked.ensures c.in-Went.is in
+    let told = went_told c.in_ok-begun.begun _ _ c.in_ok-step.ensures c.in-Went.is in
     let none = ap (λ (a : TracedUser). a.user.own) c.in_ok-begun.ensures ∙ begun_own c.args.deck.now c.args.lines.now in
     omega (arith, asked_own c.in_ok-begun.begun c.in-Went.asked none told.1)
 
 pub returns-clause-early : goal.returns-clause-early
 returns-clause-early c =
-    let told = went_told c.in_ok-begun.begun _ _ c.in_ok-asked.ensures c.in-Went.is in
+    let told = went_told c.in_ok-begun.begun _ _ c.in_ok-step.ensures c.in-Went.is in
     let none = ap (λ (a : TracedUser). a.user.own) c.in_ok-begun.ensures ∙ begun_own c.args.deck.now c.args.lines.now in
     if_then c.go.result (early_of c.in-Went.asked (asked_own c.in_ok-begun.begun c.in-Went.asked none told.1)) c.go.ensures.gone

@@ -2,7 +2,7 @@ use Rattle.std.proofs.Common.{◌≡◌, ◌+◌, ◌++◌, ◌∙◌, ℕ, [], 
 use Rattle.picture_model.specs.Folds.{cut_of}
 use Rattle.picture_model.specs.Drawing.{drawn}
 use Rattle.text_writer.proofs.Added.{◌⨾◌, adds_is, adds_none}
-use Rattle.schedule_chart.proofs.Texts.{one_more, none_left}
+use Rattle.schedule_figures.proofs.Texts.{one_more, none_left}
 use Rattle.schedule_drawing.proofs.Drawn.{drawn_next, drawn_none}
 use Rattle.schedule_drawing.proofs.layer.add_layer.Goals as goal
 

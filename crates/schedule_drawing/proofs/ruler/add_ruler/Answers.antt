@@ -1,7 +1,7 @@
 use Rattle.std.proofs.Common.{◌≡◌, ◌+◌, ◌-◌, ◌*◌, ◌/◌, ◌++◌, ℕ, [], suc, ap, arith}
 use Rattle.picture_model.specs.Drawing.{ruler, ruler_drawn, ruler_mark}
 use Rattle.text_writer.proofs.Added.{◌⨾◌, adds_is, adds_none}
-use Rattle.schedule_chart.proofs.Texts.{one_more, none_left}
+use Rattle.schedule_figures.proofs.Texts.{one_more, none_left}
 use Rattle.schedule_drawing.proofs.Drawn.{ruler_next, ruler_none}
 use Rattle.schedule_drawing.proofs.ruler.add_ruler.Goals as goal
 

@@ -1,9 +1,9 @@
 use Rattle.std.proofs.Common.{◌+◌, ◌-◌, ◌++◌, [], refl}
 use Rattle.picture_model.specs.Cores.{owner_in}
 use Rattle.picture_model.specs.CorePanel.{place_drawn, places_drawn}
-use Rattle.schedule_chart.specs.Maps.{users_of}
+use Rattle.schedule_figures.specs.Maps.{users_of}
 use Rattle.text_writer.proofs.Added.{◌⨾◌, adds_is, adds_none}
-use Rattle.schedule_chart.proofs.Texts.{one_more, none_left}
+use Rattle.schedule_figures.proofs.Texts.{one_more, none_left}
 use Rattle.schedule_drawing.proofs.Panel.{places_next, places_none}
 use Rattle.schedule_drawing.proofs.stretch.add_places.Goals as goal
 

@@ -1,7 +1,7 @@
 use Rattle.std.proofs.Common.{◌≡◌, ◌++◌, ◌-◌, ℕ, List}
 use Rattle.picture_model.specs.Cores.{owner_in}
 use Rattle.picture_model.specs.CorePanel.{places_drawn}
-use Rattle.schedule_chart.specs.Maps.{users_of}
+use Rattle.schedule_figures.specs.Maps.{users_of}
 use Rattle.text_writer.specs.Writing.{Adds}
 use Rattle.schedule_drawing.proofs.stretch.add_places.Given as goal
 

@@ -1,7 +1,7 @@
 use Rattle.std.proofs.Common.{◌+◌, ◌++◌, [], drop, refl}
 use Rattle.picture_model.specs.Drawing.{user_row, user_rows}
 use Rattle.text_writer.proofs.Added.{◌⨾◌, adds_is, adds_none}
-use Rattle.schedule_chart.proofs.Texts.{one_more, none_left}
+use Rattle.schedule_figures.proofs.Texts.{one_more, none_left}
 use Rattle.schedule_drawing.proofs.Drawn.{users_next, users_none}
 use Rattle.schedule_drawing.proofs.wait.add_users.Goals as goal
 

@@ -5,7 +5,7 @@ use Rattle.picture_model.specs.Requests.{track_after}
 use Rattle.picture_model.specs.Folds.{cut_of}
 use Rattle.picture_model.specs.Drawing.{wait_drawn, waits_drawn}
 use Rattle.text_writer.proofs.Added.{◌⨾◌, adds_is, adds_none}
-use Rattle.schedule_chart.proofs.Texts.{one_more, none_left}
+use Rattle.schedule_figures.proofs.Texts.{one_more, none_left}
 use Rattle.schedule_drawing.proofs.Drawn.{waits_next, waits_none}
 use Rattle.schedule_drawing.proofs.wait.add_waits.Goals as goal
 

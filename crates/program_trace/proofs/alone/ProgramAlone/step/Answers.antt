@@ -9,21 +9,21 @@ use Rattle.program_trace.proofs.alone.ProgramAlone.step.Goals as goal
 
 pub invariant_of-result-2 : goal.invariant_of-result-2
 invariant_of-result-2 c = (
-  ap (λ (core : List ℕ). length core) c.in_ok-core.ensures ∙ settled_length c.in-Some.step.ending c.blocks-2.result c.step_beside.new.core
+  ap (λ (core : List ℕ). length core) c.in-Ok-settled.ensures ∙ settled_length c.in-Some.step.ending c.blocks-2.result c.step_beside.new.core
       ∙ ap (λ (b : ℕ). 256 * b) c.blocks-2.ensures.value,
-  c.in_ok-step.ensures.account,
-  c.in_ok-step.ensures.quotas.0,
-  c.in_ok-step.ensures.quotas.1,
+  c.in-Ok.ensures.account,
+  c.in-Ok.ensures.quotas.0,
+  c.in-Ok.ensures.quotas.1,
 )
 
 pub returns : goal.returns
 returns c =
     let old = c.self.inside in
     let new = c.step_beside.new in
-    went_by c.in-Some.step c.own-now.result old.session new.session old.core new.core c.in_ok-core.core old.files.files new.files.files old.common.files new.common.files c.args.self
+    went_by c.in-Some.step c.own-now.result old.session new.session old.core new.core c.in-Ok-settled.core old.files.files new.files.files old.common.files new.common.files c.args.self
     (subst
     (λ (o : Option Step). IsTurnBeside o c.own-now.result old.session new.session (stored old.core old.files.files) (stored new.core new.files.files) old.common.files new.common.files)
-    c.in-Some.is c.in_ok-step.ensures.turn)
+    c.in-Some.is c.in-Ok.ensures.turn)
     c.own-now.ensures
-    (c.in_ok-core.ensures ∙ ap (λ (b : ℕ). core_after c.in-Some.step.ending b new.core) c.blocks-2.ensures.value)
+    (c.in-Ok-settled.ensures ∙ ap (λ (b : ℕ). core_after c.in-Some.step.ending b new.core) c.blocks-2.ensures.value)
     c.self.view_is

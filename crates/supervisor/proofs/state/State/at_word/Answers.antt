@@ -2,7 +2,7 @@ use Rattle.std.proofs.Common.{◌≡◌, ◌<◌, ◌≤◌, ◌∷◌, [], ℕ,
 use Rattle.ctss_types.specs.declared.script.Account.{Account}
 use Rattle.time_sharing.specs.System.{On, LineTaken, Refused}
 use Rattle.user_model.specs.User.{User}
-use Rattle.system_model.specs.Round.{check, account_in, account_with}
+use Rattle.system_model.specs.World.{check, account_in, account_with}
 use Rattle.system_model.specs.Run.{Run}
 use Rattle.system_model.specs.Cases.{heard, login_taken, user_at}
 use Rattle.system_model.proofs.CaseLaws.{wrong_word, already_on, logs_in}

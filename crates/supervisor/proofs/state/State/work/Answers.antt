@@ -37,17 +37,17 @@ returns-clause-works g c =
     let is : seen has.places c.count_ticks.new.self ≡ passed n c.args.v p old =
     ap (λ (q : Places). seen q c.count_ticks.new.self) c.advance-ticks.ensures.advanced.worked.places ∙ c.count_ticks.ensures had.places
     ∙ (λ j. elapsed n c.args.v (with_users old (set users (place j) p) old.system.entries)) ∙ elapsed_is n c.args.v p old in
-    let most : n ≤ c.args.most = c.advance-ticks.ensures.most in
+    let most : n ≤ c.args.stretch.most = c.advance-ticks.ensures.most in
     let are : c.count_ticks.new.self.sessions.items ≡ with_user u p users = ap (λ (r : Run). r.system.users) (c.count_ticks.ensures had.places) ∙ elapsed_users c.advance-ticks.result c.args.v _ ∙ ap (λ (k : ℕ). set users k p) place in
     let ticks = c.advance-ticks.ensures in
     record {
       many =
-          does_many c.args.limit n c.args.next.level (record { user = c.args.next.user; left = c.args.next.left; since = since_in (chosen old.system.plan.levels) }) c.args.v p old (seen has.places c.count_ticks.new.self) had has window after.core
+          does_many c.args.stretch.limit n c.args.next.level (record { user = c.args.next.user; left = c.args.next.left; since = since_in (chosen old.system.plan.levels) }) c.args.v p old (seen has.places c.count_ticks.new.self) had has window after.core
           c.requires.first.user c.requires.first.serves c.requires.first.first c.requires.first.mine
           (λ h. let k = c.requires.spare.left in omega (arith, k, most))
           (let k = c.requires.spare.up in omega (arith, k, most))
           (let k = c.requires.spare.quiet in omega (arith, k, most))
-          c.args.still c.requires.spare.low (let k = c.requires.spare.still in omega (arith, k, most))
+          c.args.stretch.still c.requires.spare.low (let k = c.requires.spare.still in omega (arith, k, most))
           (ap not (ap (is_loaded had.places u) (sym (c.requires.going.held.tied.has u c.requires.first.user.some c.requires.first.user.within)) ∙ c.requires.loaded))
           (subst (λ (q : User). HaveGone n q p window.core after.core) (sym same) c.advance-ticks.ensures.gone)
           is
@@ -81,6 +81,6 @@ returns-clause-ready g c = λ fewer.
     let is : seen has.places c.count_ticks.new.self ≡ passed n c.args.v p old =
     ap (λ (q : Places). seen q c.count_ticks.new.self) c.advance-ticks.ensures.advanced.worked.places ∙ c.count_ticks.ensures had.places
     ∙ (λ j. elapsed n c.args.v (with_users old (set users (place j) p) old.system.entries)) ∙ elapsed_is n c.args.v p old in
-    served_next c.args.limit c.args.most n c.args.next.level (record { user = c.args.next.user; left = c.args.next.left; since = since_in (chosen old.system.plan.levels) }) c.args.v p c.args.still old (seen has.places c.count_ticks.new.self) has
+    served_next c.args.stretch.limit c.args.stretch.most n c.args.next.level (record { user = c.args.next.user; left = c.args.next.left; since = since_in (chosen old.system.plan.levels) }) c.args.v p c.args.stretch.still old (seen has.places c.count_ticks.new.self) has
     is (grind (arith, nat_tests, fewer)) c.requires.first.first c.requires.first.mine c.requires.spare.quiet c.requires.spare.low c.requires.spare.still
     ((λ j. is_loaded (c.advance-ticks.ensures.advanced.worked.places j) u (size_of (c.advance-ticks.ensures.advanced.worked.sizes j) u)) ∙ c.requires.loaded)

@@ -1,6 +1,6 @@
 use Rattle.std.specs.Prelude.{Err, Result}
 use Rattle.std.proofs.Common.{◌≡◌, ◌≤◌, ◌+◌, ◌*◌, ℕ, Bool, List, refl, sym, ◌∙◌, ap, subst, take, drop, arith}
-use Rattle.common_file.specs.Applied.{IsApplied}
+use Rattle.file_map.specs.Applied.{IsApplied}
 use Rattle.ctss_types.specs.declared.fault.StepFault.{StepFault}
 use Rattle.ctss_types.specs.declared.fault.StepFault.TheVariants.{Disk, NoMemory}
 use Rattle.ctss_types.specs.declared.file.FileBody.{FileBody}

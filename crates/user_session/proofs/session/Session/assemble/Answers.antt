@@ -11,8 +11,7 @@ use Rattle.user_session.proofs.Enters.{ok_map}
 use Rattle.user_session.proofs.session.Session.assemble.Goals as goal
 
 pub returns-in-Ok-Deck-clause-row : goal.returns-in-Ok-Deck-clause-row
-returns-in-Ok-Deck-clause-row g c =
-    let core = g.M.MemoryPort.words c.args.core.now in
+returns-in-Ok-Deck-clause-row g c = λ core size.
     let told = c.in_ok-words.ensures.answer in
     let reads = c.in_ok-words.ensures.reads in
     let tells = reads.uses.telling (λ e. cc) in
@@ -28,11 +27,10 @@ returns-in-Ok-Deck-clause-row g c =
       now = ap (λ (b : Bool). known b h.0) (sym tells) ∙ h.1;
       does = rw (deck_put c.args.name (got (cards_name c.args.name) told.0) c.as_slice.result.now (in_store (stored core told.0) c.args.self.now).inner 1 c.args.now made, sym c.deck_name.ensures) h.2;
     })
-    (c.put_file.ensures.row told.0 are)
+    (c.put_file.ensures.row core told.0 size are)
 
 pub returns-in-Ok-Module-clause-row : goal.returns-in-Ok-Module-clause-row
-returns-in-Ok-Module-clause-row g c =
-    let core = g.M.MemoryPort.words c.args.core.now in
+returns-in-Ok-Module-clause-row g c = λ core size.
     let told = c.in_ok-words.ensures.answer in
     let reads = c.in_ok-words.ensures.reads in
     let tells = reads.uses.telling (λ e. cc) in
@@ -48,4 +46,4 @@ returns-in-Ok-Module-clause-row g c =
       now = ap (λ (b : Bool). known b h.0) (sym tells) ∙ h.1;
       does = rw (relocatable_put c.args.name (got (cards_name c.args.name) told.0) c.as_slice-in-Ok-Module.result.now (in_store (stored core told.0) c.args.self.now).inner 1 c.args.now made, sym c.module_name.ensures) h.2;
     })
-    (c.put_file-in-Ok-Module.ensures.row told.0 are)
+    (c.put_file-in-Ok-Module.ensures.row core told.0 size are)

@@ -1,6 +1,7 @@
 use Rattle.std.proofs.Common.{◌≡◌, ◌∙◌, Ok, Err, refl, sym, ap}
 use Rattle.program_model.specs.Calls.{call_of}
 use Rattle.user_model.specs.User.{User}
+use Rattle.user_session.specs.Stores.{stored}
 use Rattle.user_session.proofs.Enters.{entered, no_disk, ok_map, on_err, over_map, over_these}
 use Rattle.user_session.proofs.session.Session.enter_apart.Goals as goal
 
@@ -9,7 +10,7 @@ returns-in_ok-refuse-in-Err-clause-turn g c =
     let core = g.M.MemoryPort.words c.args.core.now in
     let call : call_of c.args.self.now.inner.regs core c.args.name ≡ Err c.in-Err.fault = ap (λ (u : User). call_of u.inner.regs core c.args.name) (sym c.self.view_is) ∙ sym c.in-Err.ensures.value in
     let are = g.met.P.FilePort.is_known c.args.files.now c.requires.own.usable in
-    over_these _ _ _ _ are are (entered _ c.args.now c.args.self.now _ _ _ c.args.name (Err c.in-Err.fault) c.requires.ready.works c.requires.ready.filled c.requires.ready.unbroken c.requires.at c.requires.ready.on call (c.in_ok-refuse-in-Err.ensures.row (g.P.FilePort.files c.args.files.now)))
+    over_these _ _ _ _ are are (entered _ c.args.now c.args.self.now _ _ _ c.args.name (Err c.in-Err.fault) c.requires.ready.works c.requires.ready.filled c.requires.ready.unbroken c.requires.at c.requires.ready.on call (c.in_ok-refuse-in-Err.ensures.row (stored core (g.P.FilePort.files c.args.files.now)) c.args.now c.requires.can.size))
 
 pub returns-in-Ok-clause-turn : goal.returns-in-Ok-clause-turn
 returns-in-Ok-clause-turn g c =

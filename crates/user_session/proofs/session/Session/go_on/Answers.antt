@@ -11,15 +11,15 @@ use Rattle.user_session.proofs.session.Session.go_on.Goals as goal
 
 pub enter-requires-clause-ready : goal.enter-requires-clause-ready
 enter-requires-clause-ready g c =
-    let e = at_entry _ _ _ _ _ _ _ c.in-Entry.is (c.in_ok-step.ensures.does []) in
+    let e = at_entry _ _ _ _ _ _ _ c.in-Entry.is (c.in_ok-step.ensures.does [] c.args.now) in
     subst IsAtInstruction (sym e.same) c.requires.ready
 
 pub enter-requires-clause-at : goal.enter-requires-clause-at
-enter-requires-clause-at g c = let e = at_entry _ _ _ _ _ _ _ c.in-Entry.is (c.in_ok-step.ensures.does []) in (λ j. step_of (e.same j).inner.regs (e.store j).core) ∙ e.at
+enter-requires-clause-at g c = let e = at_entry _ _ _ _ _ _ _ c.in-Entry.is (c.in_ok-step.ensures.does [] c.args.now) in (λ j. step_of (e.same j).inner.regs (e.store j).core) ∙ e.at
 
 pub enter-requires-clause-can : goal.enter-requires-clause-can
 enter-requires-clause-can g c =
-    let e = at_entry _ _ _ _ _ _ _ c.in-Entry.is (c.in_ok-step.ensures.does []) in
+    let e = at_entry _ _ _ _ _ _ _ c.in-Entry.is (c.in_ok-step.ensures.does [] c.args.now) in
     record {
       size = ap (λ (s : Stored). length s.core) e.store ∙ c.requires.can.size ∙ ap (λ (u : User). 256 * u.inner.blocks) (sym e.same);
       fits = subst (λ (u : User). u.own < 2 ^ 64 - 1) (sym e.same) c.requires.can.fits;
@@ -28,11 +28,11 @@ enter-requires-clause-can g c =
 pub returns-in-Done-clause-turn : goal.returns-in-Done-clause-turn
 returns-in-Done-clause-turn g c =
     let are = g.met.P.FilePort.is_known c.args.files.now c.requires.own.usable in
-    over_these _ _ _ _ are are (at_step _ _ _ _ _ _ _ c.in-Done.is (c.in_ok-step.ensures.does (g.P.FilePort.files c.args.files.now)))
+    over_these _ _ _ _ are are (at_step _ _ _ _ _ _ _ c.in-Done.is (c.in_ok-step.ensures.does (g.P.FilePort.files c.args.files.now) c.args.now))
 
 pub returns-in-Entry-clause-turn : goal.returns-in-Entry-clause-turn
 returns-in-Entry-clause-turn g c =
-    let e = at_entry _ _ _ _ _ _ _ c.in-Entry.is (c.in_ok-step.ensures.does []) in
+    let e = at_entry _ _ _ _ _ _ _ c.in-Entry.is (c.in_ok-step.ensures.does [] c.args.now) in
     let tells = g.P.FilePort.tells c.args.files.now in
     let files = g.P.FilePort.files c.args.files.now in
     let after = stored (g.M.MemoryPort.words c.enter.new.core) (g.P.FilePort.files c.enter.new.files) in
@@ -41,7 +41,7 @@ returns-in-Entry-clause-turn g c =
 
 pub returns-in-Entry-clause-leaves : goal.returns-in-Entry-clause-leaves
 returns-in-Entry-clause-leaves g c =
-    let e = at_entry _ _ _ _ _ _ _ c.in-Entry.is (c.in_ok-step.ensures.does []) in
+    let e = at_entry _ _ _ _ _ _ _ c.in-Entry.is (c.in_ok-step.ensures.does [] c.args.now) in
     record {
       account = c.enter.ensures.leaves.account ∙ c.in_ok-step.ensures.user.account;
       err = subst (λ (u : User). OnErr c.enter.result (c.enter.new.self ≡ u)) e.same c.enter.ensures.leaves.err;

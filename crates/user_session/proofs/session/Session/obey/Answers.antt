@@ -1,5 +1,6 @@
-use Rattle.std.proofs.Common.{refl}
+use Rattle.std.proofs.Common.{refl, rules}
 use Rattle.user_model.proofs.CoreLaws.{recut_same}
+use Rattle.user_session.specs.Stores.{stored}
 use Rattle.user_session.proofs.Enters.{over_these}
 use Rattle.user_session.proofs.session.Session.obey.Goals as goal
 
@@ -11,12 +12,12 @@ returns-in_ok-say_why-in-BadArguments-clause-row g c =
 pub returns-in_ok-start-in-Start-clause-row : goal.returns-in_ok-start-in-Start-clause-row
 returns-in_ok-start-in-Start-clause-row g c =
     let are = g.met.P.FilePort.is_known c.args.files.now c.requires.own.usable in
-    rw c.in-Start.is (over_these _ _ _ _ are are (c.in_ok-start-in-Start.ensures.row (g.P.FilePort.files c.args.files.now)))
+    rw c.in-Start.is (over_these _ _ _ _ are are (c.in_ok-start-in-Start.ensures.row (stored (g.M.MemoryPort.words c.args.core.now) (g.P.FilePort.files c.args.files.now)) c.requires.can.size))
 
 pub returns-in_ok-tell_registers-in-Registers-clause-row : goal.returns-in_ok-tell_registers-in-Registers-clause-row
 returns-in_ok-tell_registers-in-Registers-clause-row g c =
     let are = g.met.P.FilePort.is_known c.args.files.now c.requires.own.usable in
-    rw c.in-Registers.is (over_these _ _ _ _ are are (c.in_ok-tell_registers-in-Registers.ensures.row (g.P.FilePort.files c.args.files.now)))
+    rw c.in-Registers.is (over_these _ _ _ _ are are (c.in_ok-tell_registers-in-Registers.ensures.row (stored (g.M.MemoryPort.words c.args.core.now) (g.P.FilePort.files c.args.files.now)) c.requires.can.size))
 
 pub returns-in_ok-tell_word-in-WordAt-clause-row : goal.returns-in_ok-tell_word-in-WordAt-clause-row
 returns-in_ok-tell_word-in-WordAt-clause-row g c =
@@ -26,4 +27,7 @@ returns-in_ok-tell_word-in-WordAt-clause-row g c =
 pub returns-in_ok-open_debugger-in-Debug-clause-row : goal.returns-in_ok-open_debugger-in-Debug-clause-row
 returns-in_ok-open_debugger-in-Debug-clause-row g c =
     let are = g.met.P.FilePort.is_known c.args.files.now c.requires.own.usable in
-    rw c.in-Debug.is (over_these _ _ _ _ are are (c.in_ok-open_debugger-in-Debug.ensures.row (g.P.FilePort.files c.args.files.now)))
+    rw c.in-Debug.is (over_these _ _ _ _ are are (c.in_ok-open_debugger-in-Debug.ensures.row (stored (g.M.MemoryPort.words c.args.core.now) (g.P.FilePort.files c.args.files.now)) c.requires.can.size))
+
+pub returns-in-Logout-clause-row : goal.returns-in-Logout-clause-row
+returns-in-Logout-clause-row g c = let row = c.log_out.ensures.row (g.M.MemoryPort.words c.args.core.now) in search rules

@@ -12,13 +12,13 @@ pub returns-in-Look-clause-row : goal.returns-in-Look-clause-row
 returns-in-Look-clause-row g c = λ s fs is. rw c.in-Look.is (c.look_at.ensures.row s fs is)
 
 pub returns-in-Regs-clause-row : goal.returns-in-Regs-clause-row
-returns-in-Regs-clause-row g c = λ s fs is. rw c.in-Regs.is (c.look_at_registers.ensures.row s fs is)
+returns-in-Regs-clause-row g c = λ s fs is. rw c.in-Regs.is (c.look_at_registers.ensures.row _ c.requires.can.size s fs is)
 
 pub returns-in-Set-clause-row : goal.returns-in-Set-clause-row
 returns-in-Set-clause-row g c = λ s fs is. rw c.in-Set.is (c.set_word.ensures.row s fs is)
 
 pub returns-in-End-clause-row : goal.returns-in-End-clause-row
-returns-in-End-clause-row g c = λ s fs is. rw c.in-End.is (c.end_debugger.ensures.row s fs is)
+returns-in-End-clause-row g c = λ s fs is. rw c.in-End.is (c.end_debugger.ensures.row _ c.requires.can.size s fs is)
 
 pub returns-in-Bad-clause-row : goal.returns-in-Bad-clause-row
 returns-in-Bad-clause-row g c = λ s fs is.

@@ -8,16 +8,16 @@ use Rattle.user_session.proofs.Knowing.{put_known}
 use Rattle.user_session.proofs.session.Session.put_file.Goals as goal
 
 pub returns-in-Ok-clause-row : goal.returns-in-Ok-clause-row
-returns-in-Ok-clause-row g c = λ fs are.
+returns-in-Ok-clause-row g c = λ core fs size are.
     let tells = g.P.FilePort.tells c.args.files.now in
     let quota = g.P.FilePort.quota c.args.files.now in
     let told : known_of tells (put c.args.name c.args.words.now quota fs) ≡ Ok (g.P.FilePort.files c.put.new.self) =
     sym (put_known tells c.args.name c.args.words.now quota fs) ∙ ap (λ (gs : List FileBody). known_of tells (put c.args.name c.args.words.now quota gs)) are ∙ c.in-Ok.ensures.left in
     let k = known_done tells (put c.args.name c.args.words.now quota fs) (g.P.FilePort.files c.put.new.self) told in
-    (k.0, k.2, rw (ap (λ (q : ℕ). put c.args.name c.args.words.now q fs) (sym c.requires.own.quota) ∙ k.1) (refl, search rules, recut_same _ _ c.requires.can.size, refl, refl, refl, refl))
+    (k.0, k.2, rw (ap (λ (q : ℕ). put c.args.name c.args.words.now q fs) (sym c.requires.own.quota) ∙ k.1) (refl, search rules, recut_same _ _ size, refl, refl, refl, refl))
 
 pub returns-in-Err-Refused-clause-row : goal.returns-in-Err-Refused-clause-row
-returns-in-Err-Refused-clause-row g c = λ fs are.
+returns-in-Err-Refused-clause-row g c = λ core fs size are.
     let tells = g.P.FilePort.tells c.args.files.now in
     let quota = g.P.FilePort.quota c.args.files.now in
     let files = g.P.FilePort.files c.args.files.now in
@@ -27,5 +27,5 @@ returns-in-Err-Refused-clause-row g c = λ fs are.
       fs,
       are ∙ sym change.1,
       rw (ap (λ (q : ℕ). put c.args.name c.args.words.now q fs) (sym c.requires.own.quota) ∙ known_refused tells (put c.args.name c.args.words.now quota fs) c.in-Err-Refused.refusal told)
-          (refl, search rules, recut_same _ _ c.requires.can.size, refl, refl, refl, refl),
+          (refl, search rules, recut_same _ _ size, refl, refl, refl, refl),
     )

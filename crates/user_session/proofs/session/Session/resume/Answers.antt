@@ -4,13 +4,11 @@ use Rattle.user_session.proofs.Enters.{over_read}
 use Rattle.user_session.proofs.session.Session.resume.Goals as goal
 
 pub returns-in_ok-begin-in-Ok-clause-row : goal.returns-in_ok-begin-in-Ok-clause-row
-returns-in_ok-begin-in-Ok-clause-row g c =
-    let core = g.M.MemoryPort.words c.args.core.now in
+returns-in_ok-begin-in-Ok-clause-row g c = λ core size.
     let told = c.in_ok-blocks.ensures.answer in
     over_read _ core core (g.P.FilePort.files c.args.files.now) _ _ (c.in_ok-blocks.ensures.reads.files (λ e. cc)) (told.0, told.1, rw (sym told.2 ∙ c.in-Ok.is) (refl, search rules, refl, refl, refl, refl, refl))
 
 pub returns-in_ok-say-in-Err-clause-row : goal.returns-in_ok-say-in-Err-clause-row
-returns-in_ok-say-in-Err-clause-row g c =
-    let core = g.M.MemoryPort.words c.args.core.now in
+returns-in_ok-say-in-Err-clause-row g c = λ core size.
     let told = c.in_ok-blocks.ensures.answer in
-    over_read _ core core (g.P.FilePort.files c.args.files.now) _ _ (c.in_ok-blocks.ensures.reads.files (λ e. cc)) (told.0, told.1, rw (sym told.2 ∙ c.in-Err.is) (refl, search rules, recut_same _ _ c.requires.can.size, refl, refl, refl, refl))
+    over_read _ core core (g.P.FilePort.files c.args.files.now) _ _ (c.in_ok-blocks.ensures.reads.files (λ e. cc)) (told.0, told.1, rw (sym told.2 ∙ c.in-Err.is) (refl, search rules, recut_same _ _ size, refl, refl, refl, refl))

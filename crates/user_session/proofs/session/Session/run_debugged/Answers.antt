@@ -14,7 +14,7 @@ returns-then-is_at_break-clause-turn g c =
     let are = g.met.P.FilePort.is_known c.args.files.now c.requires.own.usable in
     over_these _ _ _ _ are are
     (break_turn c.args.now c.args.self.now _ _ _ _ _ c.requires.works c.requires.filled (sym c.is_at_break.ensures ∙ c.if-is_at_break.true) c.requires.on
-    (c.in_ok-broken.ensures.row (g.P.FilePort.files c.args.files.now)))
+    (c.in_ok-broken.ensures.row (stored (g.M.MemoryPort.words c.args.core.now) (g.P.FilePort.files c.args.files.now)) c.requires.can.size))
 
 pub returns-in-Done-clause-turn : goal.returns-in-Done-clause-turn
 returns-in-Done-clause-turn g c =

@@ -1,6 +1,6 @@
 use Rattle.std.proofs.Common.{◌≡◌, Ok}
 use Rattle.file_model.specs.Files.{got}
-use Rattle.cmd_files.specs.Lines.{lines_got}
+use Rattle.cmd_program.specs.Lines.{lines_got}
 use Rattle.user_model.specs.Commands.{command_file}
 use Rattle.user_model.specs.User.{in_store}
 use Rattle.user_session.specs.Stores.{stored}
@@ -9,8 +9,7 @@ use Rattle.user_session.proofs.Enters.{over_read}
 use Rattle.user_session.proofs.session.Session.run_file.Goals as goal
 
 pub returns-in_ok-done-in-Ok-clause-row : goal.returns-in_ok-done-in-Ok-clause-row
-returns-in_ok-done-in-Ok-clause-row g c =
-    let core = g.M.MemoryPort.words c.args.core.now in
+returns-in_ok-done-in-Ok-clause-row g c = λ core size.
     let told = c.in_ok-lines.ensures.answer in
     let read : Ok c.as_slice.result.now ≡ lines_got (got (command_file c.args.name) told.0) =
     (let a = c.in-Ok.is in let w = c.as_slice.ensures in let d = told.2 in cc) in
@@ -18,5 +17,5 @@ returns-in_ok-done-in-Ok-clause-row g c =
       told.0,
       told.1,
       rw (lines_fed (got (command_file c.args.name) told.0) c.as_slice.result.now (in_store (stored core told.0) c.args.self.now).inner _ 1 c.args.now read)
-          (c.in_ok-done-in-Ok.ensures.row told.0),
+          (c.in_ok-done-in-Ok.ensures.row (stored core told.0) size),
     )

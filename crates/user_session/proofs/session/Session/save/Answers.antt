@@ -20,7 +20,7 @@ returns-clause-row g c =
     let words : c.deref.result.now ≡ saved c.args.self.now.inner.blocks c.args.self.now.inner.regs core =
     c.deref.ensures.value ∙ c.in_ok-words.ensures ∙ ap (λ (u : User). saved u.inner.blocks u.inner.regs core) c.self.view_is in
     let named = subst (λ (name : NamePair). IfOk c.put_file.result (λ s. OfSome tells left (λ (has : List FileBody).
-    DidPut c.args.line name c.deref.result.now s.ending s.clock c.args.now c.args.self.now c.put_file.new.self (stored core files) (stored core has)))) c.saved_name.ensures (c.put_file.ensures.row files are) in
+    DidPut c.args.line name c.deref.result.now s.ending s.clock c.args.now c.args.self.now c.put_file.new.self (stored core files) (stored core has)))) c.saved_name.ensures (c.put_file.ensures.row core files c.requires.can.size are) in
     let said = subst (λ (ws : List ℕ). IfOk c.put_file.result (λ s. OfSome tells left (λ (has : List FileBody).
     DidPut c.args.line (saved_name c.args.name) ws s.ending s.clock c.args.now c.args.self.now c.put_file.new.self (stored core files) (stored core has)))) words named in
     ok_map _ _ c.put_file.result (λ s h. over_all _ _ _ _ are (h.0, h.1, rw dormant h.2)) said

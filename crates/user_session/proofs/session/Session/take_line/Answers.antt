@@ -15,7 +15,7 @@ pub returns-in_ok-typed-in-Some-input-clause-turn : goal.returns-in_ok-typed-in-
 returns-in_ok-typed-in-Some-input-clause-turn g c =
     over_map _ _ _ _ _
     (λ (had : List FileBody) (has : List FileBody) row. input_turn c.args.now c.args.self.now _ _ _ c.in-Some.line c.in-Some-input.name _ _ c.requires.works c.requires.shut (ap (λ (u : User). u.inner.input) (sym c.self.view_is) ∙ c.in-Some-input.is) (sym c.in-Some.ensures) c.requires.on row)
-    c.in_ok-typed-in-Some-input.ensures.row
+    (c.in_ok-typed-in-Some-input.ensures.row _ c.requires.can.size)
 
 pub returns-in_ok-turn-in-None-clause-turn : goal.returns-in_ok-turn-in-None-clause-turn
 returns-in_ok-turn-in-None-clause-turn g c =

@@ -29,16 +29,13 @@ returns-then-works-clause-step g c = λ op asks.
     let core = g.M.MemoryPort.words c.args.core.now in
     let is = asks_anywhere (step_of c.args.self.now.inner.regs core) core [] asks.had c.args.self.now
     ∙ (asked_filled (in_store (stored core asks.had) c.args.self.now) op (sym c.works.ensures ∙ c.if-works.true) asks.makes).2 in
-    record { had = asks.had; has = asks.had; was = asks.was; now = asks.was; does = c.entry_replied.ensures.step op asks.had is }
+    record { had = asks.had; has = asks.had; was = asks.was; now = asks.was; does = c.entry_replied.ensures.step op asks.had c.args.now is }
 
 pub unreachable-requires : goal.unreachable-requires
 unreachable-requires g c =
     let first = asked_first (in_store (stored (g.M.MemoryPort.words c.args.core.now) c.requires.asks.1.had) c.args.self.now) (sym c.works.ensures ∙ c.if-works.false) c.requires.asks.1.can in
     let none : None ≡ Some first.0 = c.in_default.ensures ∙ first.1 in
     cc
-
-pub copy_replied-requires-clause-on : goal.copy_replied-requires-clause-on
-copy_replied-requires-clause-on g c = asked_on (in_store (stored (g.M.MemoryPort.words c.args.core.now) c.requires.asks.1.had) c.args.self.now) c.requires.asks.1.can
 
 pub returns-clause-step : goal.returns-clause-step
 returns-clause-step g c = λ op asks.
@@ -55,4 +52,4 @@ returns-clause-step g c = λ op asks.
       now = row.1;
       does = command_took c.args.now c.args.reply.now c.args.self.now c.copy_replied.new.self (stored core asks.had) (stored core row.0) c.in-Some.line c.command_of.result op s idle asked.0 asked.1 (sym c.in-Some.ensures) (sym c.command_of.ensures) (asked_on p asks.can) (makes, row.2);
     })
-    (c.copy_replied.ensures.row asks.had asks.was)
+    (c.copy_replied.ensures.row core asks.had c.requires.can.size asks.was)

@@ -11,8 +11,7 @@ use Rattle.user_session.proofs.Enters.{over_done, over_refused}
 use Rattle.user_session.proofs.session.Session.type_line.Goals as goal
 
 pub returns-in-Ok-clause-row : goal.returns-in-Ok-clause-row
-returns-in-Ok-clause-row g c =
-    let core = g.M.MemoryPort.words c.args.core.now in
+returns-in-Ok-clause-row g c = λ core size.
     let tells = g.P.FilePort.tells c.args.files.now in
     let quota = g.P.FilePort.quota c.args.files.now in
     let files = g.P.FilePort.files c.args.files.now in
@@ -22,11 +21,10 @@ returns-in-Ok-clause-row g c =
     let is : known_of tells told ≡ Ok (g.P.FilePort.files c.append.new.self) =
     ap (λ (q : ℕ). known_of tells (appended c.args.name (words_of_line 14 c.args.line) q files)) (sym c.requires.own.quota)
     ∙ ap (λ (ws : List ℕ). known_of tells (appended c.args.name ws quota files)) (sym c.line_words.ensures) ∙ c.in-Ok.ensures.left in
-    over_done tells core core files _ told _ are is (λ has done. rw (none, done) (refl, search rules, recut_same _ _ c.requires.can.size, refl, refl, refl, refl))
+    over_done tells core core files _ told _ are is (λ has done. rw (none, done) (refl, search rules, recut_same _ _ size, refl, refl, refl, refl))
 
 pub returns-in-Err-Refused-clause-row : goal.returns-in-Err-Refused-clause-row
-returns-in-Err-Refused-clause-row g c =
-    let core = g.M.MemoryPort.words c.args.core.now in
+returns-in-Err-Refused-clause-row g c = λ core size.
     let tells = g.P.FilePort.tells c.args.files.now in
     let quota = g.P.FilePort.quota c.args.files.now in
     let files = g.P.FilePort.files c.args.files.now in
@@ -36,4 +34,4 @@ returns-in-Err-Refused-clause-row g c =
     let refused : appended c.args.name (words_of_line 14 c.args.line) c.args.self.now.inner.account.tracks files ≡ Err c.in-Err-Refused.refusal =
     ap (λ (q : ℕ). appended c.args.name (words_of_line 14 c.args.line) q files) (sym c.requires.own.quota)
     ∙ ap (λ (ws : List ℕ). appended c.args.name ws quota files) (sym c.line_words.ensures) ∙ change.0 in
-    over_refused tells core core files _ _ are change.1 (rw (none, refused) (refl, search rules, recut_same _ _ c.requires.can.size, refl, refl, refl, refl))
+    over_refused tells core core files _ _ are change.1 (rw (none, refused) (refl, search rules, recut_same _ _ size, refl, refl, refl, refl))

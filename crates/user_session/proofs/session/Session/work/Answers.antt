@@ -1,4 +1,4 @@
-use Rattle.std.proofs.Common.{◌≡◌, List}
+use Rattle.std.proofs.Common.{List}
 use Rattle.ctss_types.specs.declared.file.FileBody.{FileBody}
 use Rattle.user_session.proofs.Enters.{ok_map, over_map, ran_alone, unbroken}
 use Rattle.user_session.specs.Stores.{stored}

@@ -1,6 +1,0 @@
-use Rattle.std.proofs.Common.{◌≡◌, take}
-use Rattle.std.specs.Str.Parse.{digits_value}
-use Rattle.card_fields.proofs.value.Given as goal
-
-abbrev pub invariant-digits : goal.invariant-digits
-invariant-digits l = l.n ≡ digits_value 10 (take l.b-index l.field)

@@ -1,4 +1,0 @@
-use Rattle.command_lines.proofs.runcom.made.+word_at.Given as goal
-
-abbrev pub decreases-word_at : goal.decreases-word_at
-decreases-word_at l = l.number

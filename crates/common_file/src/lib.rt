@@ -1,8 +1,0 @@
-//! Operations on the common files: a directory that all users share.
-#![tactic(auto)]
-
-mod operation;
-mod reads;
-mod writes;
-
-pub use operation::apply;

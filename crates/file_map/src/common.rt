@@ -1,0 +1,6 @@
+//! Operations on the common files: a directory that all users share.
+mod operation;
+mod reads;
+mod writes;
+
+pub use operation::apply;

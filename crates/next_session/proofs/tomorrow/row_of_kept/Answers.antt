@@ -1,5 +1,0 @@
-use Rattle.next_session.proofs.RowsComputed as laws
-use Rattle.next_session.proofs.tomorrow.row_of_kept.Goals as goal
-
-pub returns : goal.returns
-returns c = laws.row_of_kept

@@ -1,4 +1,0 @@
-pub mod Families
-pub mod LogicFamilies
-pub mod IndexFamilies
-pub mod Does

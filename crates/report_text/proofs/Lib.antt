@@ -1,4 +1,0 @@
-pub mod Lines
-pub mod Right
-pub mod Accounts
-pub mod Entries

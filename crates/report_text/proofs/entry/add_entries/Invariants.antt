@@ -1,8 +1,0 @@
-use Rattle.std.proofs.Common.{take}
-use Rattle.std.specs.List.{flat_map}
-use Rattle.text_model.specs.Report.{entry_text}
-use Rattle.text_writer.specs.Writing.{Adds}
-use Rattle.report_text.proofs.entry.add_entries.Given as goal
-
-abbrev pub invariant-loop-entry : goal.invariant-loop-entry
-invariant-loop-entry g l = Adds g.K.Sink (flat_map entry_text (take l.entry-index l.entries)) l.fn.out l.out

@@ -1,5 +1,0 @@
-use Rattle.text_writer.proofs.Added.{◌⨾◌}
-use Rattle.schedule_chart.proofs.chart.add_head.Goals as goal
-
-pub returns : goal.returns
-returns g c = ((c.add_number.ensures ⨾ c.add.ensures) ⨾ c.end_line.ensures) ⨾ c.line.ensures

@@ -1,8 +1,0 @@
-use Rattle.schedule_chart.proofs.Painted.{row_text}
-use Rattle.text_writer.proofs.Added.{adds_is}
-use Rattle.schedule_chart.proofs.rows.add_served_row.Goals as goal
-
-pub returns : goal.returns
-returns g c =
-    adds_is (row_text c.args.columns.each c.args.columns.count _ c.served_row.result c.add_cells.ensures.size c.args.columns.few c.served_row.ensures)
-    c.add_cells.ensures.text

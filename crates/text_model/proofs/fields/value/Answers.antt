@@ -1,0 +1,17 @@
+use Rattle.std.proofs.Common.{arith}
+use Rattle.text_model.proofs.FieldDigits.{front_below, digit_between, next_value}
+use Rattle.text_model.proofs.fields.value.Goals as goal
+
+pub overflow_mul-n : goal.overflow_mul-n
+overflow_mul-n c = omega (arith, front_below 10 8 c.args.field.now c.digits.b-index (omega arith) (omega arith) c.requires.digits c.requires.length c.digits-test.true)
+
+pub overflow_add-n : goal.overflow_add-n
+overflow_add-n c =
+    omega (
+      arith,
+      front_below 10 8 c.args.field.now c.digits.b-index (omega arith) (omega arith) c.requires.digits c.requires.length c.digits-test.true,
+      digit_between 10 c.args.field.now c.digits.b-index c.requires.digits c.digits-test.true,
+    )
+
+pub digits-preserved : goal.digits-preserved
+digits-preserved c = omega (arith, next_value 10 c.args.field.now c.digits.b-index (omega arith) c.requires.digits c.digits-test.true)

@@ -24,19 +24,19 @@ abbrev pub acc_right : Acc37 → ℕ → Acc37
 acc_right a n = record { negative = a.negative; magnitude = right n a.magnitude }
 
 -- the accumulator's 37 positions joined with the multiplier-quotient's 35 without its sign
-abbrev pub joined : Acc37 → ℕ → ℕ
-joined a q = a.magnitude * 2 ^ 35 + magnitude_of q
+abbrev pub registers_joined : Acc37 → ℕ → ℕ
+registers_joined a q = a.magnitude * 2 ^ 35 + magnitude_of q
 
 abbrev pub parted : Bool → ℕ → Bool → Shifted
 parted negative x overflow = record { acc = record { negative = negative; magnitude = x / 2 ^ 35 }; mq = word_of negative (x % 2 ^ 35); overflow = overflow }
 
 -- the long left shift, which gives both the multiplier-quotient's sign; P stands at place 70
 abbrev pub long_left : Acc37 → ℕ → ℕ → Shifted
-long_left a q n = parted (is_minus q) (left 72 n (joined a q)) (passes 70 n (joined a q))
+long_left a q n = parted (is_minus q) (left 72 n (registers_joined a q)) (passes 70 n (registers_joined a q))
 
 -- the long right shift, which gives both the accumulator's sign
 abbrev pub long_right : Acc37 → ℕ → ℕ → Shifted
-long_right a q n = parted a.negative (right n (joined a q)) false
+long_right a q n = parted a.negative (right n (registers_joined a q)) false
 
 -- the accumulator's 37 positions joined with all 36 of the multiplier-quotient
 abbrev pub all_joined : Acc37 → ℕ → ℕ

@@ -1,7 +1,7 @@
 //! Shifts of the accumulator and the multiplier-quotient, as the machine's reference manual has them. Counts are 0 to
 //! 255. Bits that leave the register are lost, and zeros come in.
 ghost use Rattle.std.specs.Prelude.{◌≡◌, ◌+◌, ◌*◌, ◌/◌, ◌%◌, ◌^◌, ◌<◌, ◌≤◌};
-ghost use Rattle.arith36.specs.Shift.{left, right, passes, joined, parted, acc_left, acc_right, long_left, long_right, all_joined, all_parted, logical_left, logical_right, turned};
+ghost use Rattle.arith36.specs.Shift.{left, right, passes, registers_joined, parted, acc_left, acc_right, long_left, long_right, all_joined, all_parted, logical_left, logical_right, turned};
 
 use crate::Sum;
 use word36::{Acc, Word};
@@ -58,7 +58,7 @@ fn enters(x: u128, place: u8, n: u8) -> bool
 
 /// The accumulator without its sign, joined with the multiplier-quotient without its sign.
 fn join(a: Acc, q: Word) -> u128
-    ensures value { result ≡ joined a q }
+    ensures value { result ≡ registers_joined a q }
     ensures below { result < 2 ^ 72 }
 {
     u128::from(a.magnitude()) << 35 | u128::from(q.magnitude())

@@ -5,6 +5,7 @@ use Rattle.std.proofs.Common.{◌≡◌, ◌≢◌, ℕ, zero, suc, ◌+◌, ◌
 use Rattle.std.proofs.lemmas.Bool.{cases_Bool, false≢true}
 use Rattle.std.proofs.lemmas.Bool.Decides.{nat_tests}
 use Rattle.std.proofs.lemmas.List.{length-map, length-take, take_all, get_or-set_same, get_or-set_other}
+use Rattle.faults.specs.Faults.{one_further}
 use Rattle.console_link.specs.declared.link.Accepted.{Accepted}
 use Rattle.console_link.specs.declared.link.Accepted.TheVariants as accepted
 use Rattle.console_link.specs.declared.link.LinkGot.{LinkGot}
@@ -13,7 +14,7 @@ use Rattle.console_link.specs.declared.link.LinkTook.{LinkTook}
 use Rattle.console_link.specs.declared.memory.LinkCall.TheVariants as kind
 use Rattle.console_link.specs.declared.memory.Peer.{Peer}
 use Rattle.console_link.specs.Links.{Done, DidOpen, DidAccept, DidRead, DidWrite, DidClose, DidWait, Did, Counted, Rises, IsFresh, IsOver, accepts, names, is_failed, not_yet, is_none, is_accept, call_of, with_call, numbers_after, open_after, passed_after, nothing_passed, got_failed, got_waits, took_failed, took_waits}
-use Rattle.console_link.specs.Memory.{ConnectionState, LinkState, connection_at, no_connection, after_read, after_write, with_open, next, next_if, count_given, counts_of_connection, passed_of, memory_seen, numbers_below, link_after_read, link_after_write, link_after_close, after_open, open_fails, is_listed, accept_answer, connection_of, after_wait, wait_fails, after_accept, OverAtEnd}
+use Rattle.console_link.specs.Memory.{ConnectionState, LinkState, connection_at, no_connection, after_read, after_write, with_open, next_if, count_given, counts_of_connection, passed_of, memory_seen, numbers_below, link_after_read, link_after_write, link_after_close, after_open, open_fails, is_listed, accept_answer, connection_of, after_wait, wait_fails, after_accept, OverAtEnd}
 use Rattle.console_link.specs.Fields.{Changes, IsNew, AreCounts, IsListening}
 use Rattle.console_link.proofs.Muted.{is_of, not_of, nat_eq-self}
 
@@ -265,7 +266,7 @@ pub accept_did : (s s' : LinkState) (answer : Accepted) → IsListening s → an
 accept_did s s' answer is answers state =
     subst (λ (x : LinkState). Did (DidAccept answer) (memory_seen s) (memory_seen x)) (sym state)
     (subst (λ (a : Accepted). Did (DidAccept a) (memory_seen s) (memory_seen (after_accept a s))) (sym answers)
-    (accept_by s is (is_listed s.fails kind.Accept (next s.accepts)) (is_listed s.not_ready kind.Accept (next s.accepts)) (nat_lt s.accepted (length s.connections)) (ltb-true s.accepted (length s.connections))))
+    (accept_by s is (is_listed s.fails kind.Accept (one_further s.accepts)) (is_listed s.not_ready kind.Accept (one_further s.accepts)) (nat_lt s.accepted (length s.connections)) (ltb-true s.accepted (length s.connections))))
 
 -- connections that nothing was done with
 

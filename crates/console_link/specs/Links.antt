@@ -80,10 +80,10 @@ GotFits got.NotYet room = Unit {0}
 GotFits got.Failed room = Unit {0}
 
 -- the bytes that a write took, of its piece
-abbrev pub taken : LinkTook → List ℕ → List ℕ
-taken (took.Bytes n) piece = take n piece
-taken took.NotYet piece = []
-taken took.Failed piece = []
+abbrev pub bytes_taken : LinkTook → List ℕ → List ℕ
+bytes_taken (took.Bytes n) piece = take n piece
+bytes_taken took.NotYet piece = []
+bytes_taken took.Failed piece = []
 
 abbrev pub TookFits : LinkTook → ℕ → Type 0
 TookFits (took.Bytes n) size = (1 ≤ n) × (n ≤ size)

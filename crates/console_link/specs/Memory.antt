@@ -1,6 +1,7 @@
 -- claim: a link in memory, as contracts see it, and what its calls answer and make of it.
-use Rattle.std.specs.Prelude.{◌≡◌, ℕ, zero, suc, ◌+◌, ◌-◌, ◌^◌, min, Bool, true, false, ◌&&◌, nat_eq, nat_le, nat_lt, if◌then◌else◌, List, [], ◌∷◌, ◌++◌, length, take, get_or, set, map, Option, None, Some}
+use Rattle.std.specs.Prelude.{◌≡◌, ℕ, zero, suc, ◌+◌, ◌-◌, min, Bool, true, false, ◌&&◌, nat_eq, nat_le, nat_lt, if◌then◌else◌, List, [], ◌∷◌, ◌++◌, length, take, get_or, set, map, Option, None, Some}
 use Rattle.std.specs.List.{list_any, flat_map}
+use Rattle.faults.specs.Faults.{one_further}
 use Rattle.console_link.specs.declared.link.Accepted.{Accepted}
 use Rattle.console_link.specs.declared.link.Accepted.TheVariants as accepted
 use Rattle.console_link.specs.declared.link.LinkGot.{LinkGot}
@@ -24,12 +25,8 @@ abbrev pub calls_told : Option CallList → List CallMade
 calls_told None = []
 calls_told (Some calls) = calls.made
 
--- one more, up to the end of a u64
-abbrev pub next : ℕ → ℕ
-next n = min (n + 1) (2 ^ 64 - 1)
-
 abbrev pub next_if : Bool → ℕ → ℕ
-next_if b n = if b then next n else n
+next_if b n = if b then one_further n else n
 
 -- One connection: all bytes that its peer sends, how many of them were taken, the places where its pieces end, whether the peer
 -- ends it, whether it is open, the bytes sent to the peer and the room for them, how often it was read and written, and its counts.
@@ -95,7 +92,7 @@ count_given got.Failed = 0
 abbrev pub after_read : LinkGot → ConnectionState → ConnectionState
 after_read answer c = record c {
   at = c.at + count_given answer;
-  reads = next c.reads;
+  reads = one_further c.reads;
   faults = next_if (got_failed answer) c.faults;
   read_waits = next_if (got_waits answer) c.read_waits;
 }
@@ -110,7 +107,7 @@ write_answer fails waits c size =
 abbrev pub after_write : LinkTook → List ℕ → ConnectionState → ConnectionState
 after_write answer bytes c = record c {
   sent = c.sent ++ bytes;
-  writes = next c.writes;
+  writes = one_further c.writes;
   faults = next_if (took_failed answer) c.faults;
   write_waits = next_if (took_waits answer) c.write_waits;
 }
@@ -177,22 +174,22 @@ is_listed list call number = list_any (λ (a : LinkAt). same_call a.call call &&
 
 -- a call of the listener alone
 abbrev pub open_fails : LinkState → Bool
-open_fails s = is_listed s.fails kind.Open (next s.opens)
+open_fails s = is_listed s.fails kind.Open (one_further s.opens)
 
 abbrev pub after_open : ℕ → LinkState → LinkState
-after_open port s = record s { opens = next s.opens; faults = next_if (open_fails s) s.faults; calls = with_call s.calls (made.Open port (open_fails s)) }
+after_open port s = record s { opens = one_further s.opens; faults = next_if (open_fails s) s.faults; calls = with_call s.calls (made.Open port (open_fails s)) }
 
 abbrev pub wait_fails : LinkState → Bool
-wait_fails s = is_listed s.fails kind.Wait (next s.rests)
+wait_fails s = is_listed s.fails kind.Wait (one_further s.rests)
 
 abbrev pub after_wait : ℕ → LinkState → LinkState
-after_wait millis s = record s { rests = next s.rests; faults = next_if (wait_fails s) s.faults; calls = with_call s.calls (made.Wait millis (wait_fails s)) }
+after_wait millis s = record s { rests = one_further s.rests; faults = next_if (wait_fails s) s.faults; calls = with_call s.calls (made.Wait millis (wait_fails s)) }
 
 -- what the next accept answers: the peers in order
 abbrev pub accept_answer : LinkState → Accepted
 accept_answer s =
-    if is_listed s.fails kind.Accept (next s.accepts) then accepted.Failed
-    else (if is_listed s.not_ready kind.Accept (next s.accepts) then accepted.NotYet
+    if is_listed s.fails kind.Accept (one_further s.accepts) then accepted.Failed
+    else (if is_listed s.not_ready kind.Accept (one_further s.accepts) then accepted.NotYet
     else (if nat_lt s.accepted (length s.connections) then accepted.New s.accepted else accepted.NotYet))
 
 abbrev pub opened_new : Option ℕ → List ConnectionState → List ConnectionState
@@ -207,7 +204,7 @@ abbrev pub after_accept : Accepted → LinkState → LinkState
 after_accept answer s = record s {
   connections = opened_new (new_of answer) s.connections;
   accepted = accepted_new (new_of answer) s.accepted;
-  accepts = next s.accepts;
+  accepts = one_further s.accepts;
   faults = next_if (accept_failed answer) s.faults;
   waits = next_if (accept_waits answer) s.waits;
   calls = with_call s.calls (made.Accept answer);
@@ -216,14 +213,14 @@ after_accept answer s = record s {
 -- a call of one connection
 abbrev pub link_read_answer : ℕ → ℕ → LinkState → LinkGot
 link_read_answer id room s =
-    read_answer (is_listed s.fails (kind.Read id) (next (connection_at s id).reads)) (is_listed s.not_ready (kind.Read id) (next (connection_at s id).reads)) (connection_at s id) room
+    read_answer (is_listed s.fails (kind.Read id) (one_further (connection_at s id).reads)) (is_listed s.not_ready (kind.Read id) (one_further (connection_at s id).reads)) (connection_at s id) room
 
 abbrev pub link_after_read : ℕ → LinkGot → LinkState → LinkState
 link_after_read id answer s = record s { connections = set s.connections id (after_read answer (connection_at s id)); calls = with_call s.calls (made.Read id answer) }
 
 abbrev pub link_write_answer : ℕ → ℕ → LinkState → LinkTook
 link_write_answer id size s =
-    write_answer (is_listed s.fails (kind.Write id) (next (connection_at s id).writes)) (is_listed s.not_ready (kind.Write id) (next (connection_at s id).writes)) (connection_at s id) size
+    write_answer (is_listed s.fails (kind.Write id) (one_further (connection_at s id).writes)) (is_listed s.not_ready (kind.Write id) (one_further (connection_at s id).writes)) (connection_at s id) size
 
 abbrev pub link_after_write : ℕ → LinkTook → List ℕ → LinkState → LinkState
 link_after_write id answer bytes s = record s { connections = set s.connections id (after_write answer bytes (connection_at s id)); calls = with_call s.calls (made.Write id answer) }

@@ -1,6 +1,6 @@
 //! One connection in memory.
 ghost use Rattle.std.specs.Prelude.{◌≡◌, ◌<◌, ◌≤◌, ◌++◌, IfOk, length, take, drop};
-ghost use Rattle.console_link.specs.Links.{given, taken, GotFits, TookFits};
+ghost use Rattle.console_link.specs.Links.{given, bytes_taken, GotFits, TookFits};
 ghost use Rattle.console_link.specs.Memory.{connection_of, cut_of as first_cut, count_given, read_answer, write_answer, after_read, after_write, with_open, OverAtEnd};
 ghost use Rattle.console_link.specs.Fields.{AreCounts};
 
@@ -142,7 +142,7 @@ impl Connection {
         requires { 0 < length bytes.now }
         ensures amount { TookFits result (length bytes.now) }
         ensures answer { result ≡ write_answer fails waits self.old (length bytes.now) }
-        ensures state { self.new ≡ after_write result (taken result bytes.now) self.old }
+        ensures state { self.new ≡ after_write result (bytes_taken result bytes.now) self.old }
         ensures counts { AreCounts self.old }
     {
         self.writes = self.writes.saturating_add(1);

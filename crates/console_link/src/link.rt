@@ -1,6 +1,6 @@
 //! What a server may ask of a link, and what it may count on.
 ghost use Rattle.std.specs.Prelude.{◌≡◌, ◌<◌, ℕ, true, length, is_err};
-ghost use Rattle.console_link.specs.Links.{LinkSeen, Did, DidOpen, DidAccept, DidRead, DidWrite, DidClose, DidWait, given, taken, GotFits, TookFits};
+ghost use Rattle.console_link.specs.Links.{LinkSeen, Did, DidOpen, DidAccept, DidRead, DidWrite, DidClose, DidWait, given, bytes_taken, GotFits, TookFits};
 
 use std::error::Error;
 use std::fmt;
@@ -82,7 +82,7 @@ pub trait Link {
         requires open { (seen self.old).is_open id ≡ true }
         requires some { 0 < length bytes.now }
         ensures amount { TookFits result (length bytes.now) }
-        ensures did { Did (DidWrite id result (taken result bytes.now)) (seen self.old) (seen self.new) };
+        ensures did { Did (DidWrite id result (bytes_taken result bytes.now)) (seen self.old) (seen self.new) };
 
     /// Ends a connection.
     fn close(&mut self, id: u32)

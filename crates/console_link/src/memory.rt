@@ -1,7 +1,7 @@
 //! A link in memory, which fails and is not ready where it is told to.
 ghost use Rattle.std.specs.Prelude.{◌≡◌, ◌<◌, ◌≤◌, ◌^◌, ◌&&◌, nat_eq, true, length, take, drop, is_err, IfOk};
 ghost use Rattle.console_link.specs.Fields.{AreCounts, IsListening};
-ghost use Rattle.console_link.specs.Links.{Did, DidOpen, DidAccept, DidRead, DidWrite, DidClose, DidWait, given, taken, GotFits, TookFits};
+ghost use Rattle.console_link.specs.Links.{Did, DidOpen, DidAccept, DidRead, DidWrite, DidClose, DidWait, given, bytes_taken, GotFits, TookFits};
 ghost use Rattle.console_link.specs.Memory.{LinkState, link_of, is_listed as is_named, same_call as are_same, memory_seen, open_fails, after_open, wait_fails, after_wait, accept_answer, after_accept, link_read_answer, link_after_read, link_write_answer, link_after_write, link_after_close, connection_at, count_given, after_read, OverAtEnd, calls_told};
 
 use crate::connection::Connection;
@@ -209,7 +209,7 @@ impl MemoryLink {
         requires some { 0 < length bytes.now }
         ensures amount { TookFits result (length bytes.now) }
         ensures answer { result ≡ link_write_answer id (length bytes.now) self.old }
-        ensures state { self.new ≡ link_after_write id result (taken result bytes.now) self.old }
+        ensures state { self.new ≡ link_after_write id result (bytes_taken result bytes.now) self.old }
         ensures counts { AreCounts (connection_at self.old id) }
     {
         let number = self.connections[id as usize].writes().saturating_add(1);
@@ -269,8 +269,9 @@ impl Link for MemoryLink {
         requires some { 0 < length bytes.now }
         ensures amount { TookFits result (length bytes.now) }
         ensures answer { result ≡ link_write_answer id (length bytes.now) self.old }
-        ensures state { self.new ≡ link_after_write id result (taken result bytes.now) self.old }
-        ensures did { Did (DidWrite id result (taken result bytes.now)) (memory_seen self.old) (memory_seen self.new) }
+        ensures state { self.new ≡ link_after_write id result (bytes_taken result bytes.now) self.old }
+        ensures did { Did (DidWrite id result (bytes_taken result bytes.now)) (memory_seen self.old)
+            (memory_seen self.new) }
     {
         self.write_next(id, bytes)
     }

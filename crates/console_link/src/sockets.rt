@@ -1,6 +1,6 @@
 //! A link over sockets.
 ghost use Rattle.std.specs.Prelude.{◌≡◌, ◌<◌, ◌≤◌, ℕ, true, false, length, vec_len, is_err, OnOk, IfOk};
-ghost use Rattle.console_link.specs.Links.{Did, DidOpen, DidAccept, DidRead, DidWrite, DidClose, DidWait, given, taken, GotFits, TookFits};
+ghost use Rattle.console_link.specs.Links.{Did, DidOpen, DidAccept, DidRead, DidWrite, DidClose, DidWait, given, bytes_taken, GotFits, TookFits};
 
 use crate::link::{Accepted, Failed, Link, LinkGot, LinkTook};
 use faults::NoMemory;

@@ -174,7 +174,7 @@ IsCause serve.Drum a b p q = Rose p.drum_faults q.drum_faults
 IsCause serve.Disk a b p q = Rose p.disk_faults q.disk_faults
 IsCause serve.NoMemory a b p q = Unit {0}
 
--- behind a turn a fault of the listener, the drum or the disk is one whose count rose, and the listener's hasn't fallen
+-- after a turn a fault of the listener, the drum or the disk is one whose count rose, and the listener's hasn't fallen
 pub record CountsFaults (result : Result Unit ServeFault) (link_had link_has : LinkSeen) (core_had core_has : CoreSeen)
     : Type 0 where
   pub cause : IfErr result (λ fault. IsCause fault link_had link_has core_had core_has)

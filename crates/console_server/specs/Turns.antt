@@ -215,7 +215,7 @@ pub record TurnAnswers : Type 0 where
   pub heard : List HeardOf
   pub told : List Told
 
--- the seats while the turn goes on: behind the accepts, behind the reads
+-- the seats while the turn goes on: after the accepts, after the reads
 abbrev pub seats_to_read : List (List ℕ) → Desk → TurnAnswers → List (Option Talk)
 seats_to_read texts desk turn = seated texts desk.seats turn.accepts
 

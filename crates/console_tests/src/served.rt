@@ -1,7 +1,7 @@
 //! Someone at a socket, whom a server serves over a run. What else connections send and consoles show are cases of run_cases.
 ghost use Rattle.std.specs.Prelude.{◌≡◌, false, IfOk};
-ghost use Rattle.drum_slots.specs.Kept.{Serves};
-ghost use Rattle.track_store.specs.Tracks.{Serves as Holds};
+ghost use Rattle.drum_slots.specs.Kept.{ServesSlots};
+ghost use Rattle.track_store.specs.Tracks.{ServesTracks};
 ghost use Rattle.text_model.specs.Lawful.{IsLawful};
 
 use crate::links::{gets, opened};
@@ -88,8 +88,8 @@ fn over_media<D: Medium, F: Medium, L: Link>(
     link: &mut L,
 ) -> Result<(), Fail>
     requires lawful { IsLawful script.now }
-    requires drum { Serves (D.contents drum.old) (D.record_count drum.old) (D.words_each drum.old) 3840 }
-    requires disk { Holds (F.contents disk.old) (F.record_count disk.old) (F.words_each disk.old) 10000 }
+    requires drum { ServesSlots (D.contents drum.old) (D.record_count drum.old) (D.words_each drum.old) 3840 }
+    requires disk { ServesTracks (F.contents disk.old) (F.record_count disk.old) (F.words_each disk.old) 10000 }
 {
     let new = NewRun::new(alloc, script)?;
     let Begun { run, wrote } = begin(new, script, drum, disk);

@@ -1,7 +1,7 @@
 //! Users' images over core and drum. What a drum that fails or gives other words comes to is a case of run_cases.
 ghost use Rattle.std.specs.Prelude.{◌≡◌, ◌≢◌, ◌<◌, ◌≤◌, ◌+◌, ℕ, length};
 ghost use Rattle.core_bank.specs.Bank.{AreWords, block_at};
-ghost use Rattle.drum_slots.specs.Kept.{Serves};
+ghost use Rattle.drum_slots.specs.Kept.{ServesSlots};
 ghost use Rattle.drum_slots.specs.Table.{records_of};
 ghost use Rattle.onion_swap.specs.Places.{base_of};
 ghost use Rattle.image_map.specs.Blocks.{first};
@@ -123,12 +123,12 @@ fn does<D: Medium>(
 ) -> Result<bool, DrumFault>
     requires quotas { image.old.tables.kept.slots.quotas.items ≡ quotas.now }
     requires words { AreWords image.old.bank }
-    requires serves { Serves (D.contents image.old.tables.kept.drum.now)
+    requires serves { ServesSlots (D.contents image.old.tables.kept.drum.now)
         (D.record_count image.old.tables.kept.drum.now)
         (D.words_each image.old.tables.kept.drum.now) (records_of image.old.tables.kept.slots) }
     ensures same { image.new.tables.kept.drum.ghost_name ≡ image.old.tables.kept.drum.ghost_name }
     ensures words { AreWords image.new.bank }
-    ensures serves { Serves (D.contents image.new.tables.kept.drum.now)
+    ensures serves { ServesSlots (D.contents image.new.tables.kept.drum.now)
         (D.record_count image.new.tables.kept.drum.now)
         (D.words_each image.new.tables.kept.drum.now) (records_of image.new.tables.kept.slots) }
     ensures quotas { image.new.tables.kept.slots.quotas ≡ image.old.tables.kept.slots.quotas }
@@ -174,7 +174,7 @@ fn runs<D: Medium>(
 ) -> Result<(), DrumFault>
     requires quotas { image.old.tables.kept.slots.quotas.items ≡ quotas.now }
     requires words { AreWords image.old.bank }
-    requires serves { Serves (D.contents image.old.tables.kept.drum.now)
+    requires serves { ServesSlots (D.contents image.old.tables.kept.drum.now)
         (D.record_count image.old.tables.kept.drum.now)
         (D.words_each image.old.tables.kept.drum.now) (records_of image.old.tables.kept.slots) }
     ensures same { image.new.tables.kept.drum.ghost_name ≡ image.old.tables.kept.drum.ghost_name }
@@ -206,7 +206,7 @@ static IN_TURN: [Step; 15] = [
 
 /// Tries loads of three users over a drum.
 fn loads_in_turn<D: Medium>(rt: &impl Abort, alloc: Global, drum: &mut D) -> Result<(), Fail>
-    requires { Serves (D.contents drum.old) (D.record_count drum.old) (D.words_each drum.old) 160 }
+    requires { ServesSlots (D.contents drum.old) (D.record_count drum.old) (D.words_each drum.old) 160 }
 {
     let mut image = Image::new(alloc, drum, 160, &[64, 64, 32])?;
     assert!(rt; runs(rt, &mut image, &[0, 64, 64, 32], &IN_TURN) == Ok(()));

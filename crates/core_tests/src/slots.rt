@@ -1,6 +1,6 @@
 ghost use Rattle.std.specs.Prelude.{◌≡◌, ◌<◌, ◌^◌};
 ghost use Rattle.medium.specs.Medium.{AreWords};
-ghost use Rattle.drum_slots.specs.Kept.{Serves};
+ghost use Rattle.drum_slots.specs.Kept.{ServesSlots};
 ghost use Rattle.drum_slots.specs.Table.{records_of};
 
 use crate::rows::holds;
@@ -51,10 +51,10 @@ fn does<D: Medium>(
     step: Step,
 )
     requires quotas { table.old.slots.quotas.items ≡ quotas.now }
-    requires serves { Serves (D.contents table.old.drum.now) (D.record_count table.old.drum.now)
+    requires serves { ServesSlots (D.contents table.old.drum.now) (D.record_count table.old.drum.now)
         (D.words_each table.old.drum.now) (records_of table.old.slots) }
     ensures same { table.new.drum.ghost_name ≡ table.old.drum.ghost_name }
-    ensures serves { Serves (D.contents table.new.drum.now) (D.record_count table.new.drum.now)
+    ensures serves { ServesSlots (D.contents table.new.drum.now) (D.record_count table.new.drum.now)
         (D.words_each table.new.drum.now) (records_of table.new.slots) }
     ensures count { D.record_count table.new.drum.now ≡ D.record_count table.old.drum.now }
     ensures quotas { table.new.slots.quotas ≡ table.old.slots.quotas }
@@ -86,10 +86,10 @@ fn does<D: Medium>(
 /// Does these steps.
 fn runs<D: Medium>(rt: &impl Abort, table: &mut SlotTable<'_, D>, quotas: &[u8], steps: &[Step])
     requires quotas { table.old.slots.quotas.items ≡ quotas.now }
-    requires serves { Serves (D.contents table.old.drum.now) (D.record_count table.old.drum.now)
+    requires serves { ServesSlots (D.contents table.old.drum.now) (D.record_count table.old.drum.now)
         (D.words_each table.old.drum.now) (records_of table.old.slots) }
     ensures same { table.new.drum.ghost_name ≡ table.old.drum.ghost_name }
-    ensures serves { Serves (D.contents table.new.drum.now) (D.record_count table.new.drum.now)
+    ensures serves { ServesSlots (D.contents table.new.drum.now) (D.record_count table.new.drum.now)
         (D.words_each table.new.drum.now) (records_of table.new.slots) }
     ensures count { D.record_count table.new.drum.now ≡ D.record_count table.old.drum.now }
 {

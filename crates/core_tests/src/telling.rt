@@ -1,6 +1,6 @@
 //! A drum in memory that keeps a list of its calls.
 ghost use Rattle.std.specs.Prelude.{◌≡◌, length, IfOk};
-ghost use Rattle.drum_slots.specs.Kept.{Serves};
+ghost use Rattle.drum_slots.specs.Kept.{ServesSlots};
 ghost use Rattle.medium.specs.MediumState.{rows_told};
 
 use faults::NoMemory;
@@ -25,7 +25,7 @@ pub(crate) struct TellingDrum {
 impl TellingDrum {
     /// So many records of 256 words, of which no call was made.
     pub(crate) fn new(alloc: Global, count: u16) -> Result<TellingDrum, NoMemory>
-        ensures { IfOk result (λ drum. Serves (rows_told drum.records) (length drum.records.contents)
+        ensures { IfOk result (λ drum. ServesSlots (rows_told drum.records) (length drum.records.contents)
             drum.records.words_each count) }
     {
         let records = MemoryMedium::new(alloc, count, 256, &[], &[], 0)?;

@@ -2,7 +2,7 @@
 ghost use Rattle.std.specs.Prelude.{◌≡◌, ◌<◌, not, true, false};
 ghost use Rattle.opcode_table.specs.Table.{kind_of};
 ghost use Rattle.machine_model.specs.Fixed.{fixed_row};
-ghost use Rattle.machine_model.specs.Results.{Goes};
+ghost use Rattle.machine_model.specs.Results.{DoesNotHalt};
 ghost use Rattle.word36.specs.Bits.{is_minus, magnitude_of};
 ghost use Rattle.arith36.specs.Arith.{sum_of, product_of};
 ghost use Rattle.machine_model.specs.Fixed.{round, with_left, with_tag, with_prefix};
@@ -48,7 +48,7 @@ pub fn load_or_store<M: MemoryPort>(regs: &mut Regs, core: &mut M, i: &Instr, y:
     requires family { is_load_or_store i.now.op ≡ true }
     requires place { IsAtPlace i.now y regs.old }
     ensures does { DoesRow fixed_row i.now y result regs.old regs.new (M.words core.old) (M.words core.new) }
-    ensures goes { Goes result }
+    ensures goes { DoesNotHalt result }
     ensures keeps { M.Keeps core.old core.new }
 {
     match i.op {
@@ -107,7 +107,7 @@ pub fn store_part<M: MemoryPort>(regs: &mut Regs, core: &mut M, i: &Instr, y: u1
     requires family { is_part_store i.now.op ≡ true }
     requires place { IsAtPlace i.now y regs.old }
     ensures does { DoesRow fixed_row i.now y result regs.old regs.new (M.words core.old) (M.words core.new) }
-    ensures goes { Goes result }
+    ensures goes { DoesNotHalt result }
     ensures keeps { M.Keeps core.old core.new }
 {
     match i.op {
@@ -172,7 +172,7 @@ pub fn sum<M: MemoryPort>(regs: &mut Regs, core: &mut M, i: &Instr, y: u16) -> O
     requires family { is_sum i.now.op ≡ true }
     requires place { IsAtPlace i.now y regs.old }
     ensures does { DoesRow fixed_row i.now y result regs.old regs.new (M.words core.old) (M.words core.new) }
-    ensures goes { Goes result }
+    ensures goes { DoesNotHalt result }
     ensures keeps { M.Keeps core.old core.new }
 {
     match i.op {
@@ -218,7 +218,7 @@ pub fn product<M: MemoryPort>(regs: &mut Regs, core: &mut M, i: &Instr, y: u16) 
     requires family { is_product i.now.op ≡ true }
     requires place { IsAtPlace i.now y regs.old }
     ensures does { DoesRow fixed_row i.now y result regs.old regs.new (M.words core.old) (M.words core.new) }
-    ensures goes { Goes result }
+    ensures goes { DoesNotHalt result }
     ensures keeps { M.Keeps core.old core.new }
 {
     match i.op {
@@ -292,7 +292,7 @@ pub fn test<M: MemoryPort>(regs: &mut Regs, core: &mut M, i: &Instr, y: u16) -> 
     requires family { is_test i.now.op ≡ true }
     requires place { IsAtPlace i.now y regs.old }
     ensures does { DoesRow fixed_row i.now y result regs.old regs.new (M.words core.old) (M.words core.new) }
-    ensures goes { Goes result }
+    ensures goes { DoesNotHalt result }
     ensures keeps { M.Keeps core.old core.new }
 {
     match i.op {
@@ -341,7 +341,7 @@ pub fn change<M: MemoryPort>(regs: &mut Regs, core: &mut M, i: &Instr, y: u16) -
     requires family { is_change i.now.op ≡ true }
     requires place { IsAtPlace i.now y regs.old }
     ensures does { DoesRow fixed_row i.now y result regs.old regs.new (M.words core.old) (M.words core.new) }
-    ensures goes { Goes result }
+    ensures goes { DoesNotHalt result }
     ensures keeps { M.Keeps core.old core.new }
 {
     match i.op {

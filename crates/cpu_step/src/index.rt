@@ -2,7 +2,7 @@
 ghost use Rattle.std.specs.Prelude.{◌≡◌, ◌<◌, ◌^◌, true};
 ghost use Rattle.opcode_table.specs.Table.{kind_of};
 ghost use Rattle.machine_model.specs.Index.{index_row};
-ghost use Rattle.machine_model.specs.Results.{Goes};
+ghost use Rattle.machine_model.specs.Results.{DoesNotHalt};
 ghost use Rattle.machine_model.specs.Step.{complement, acc_address, acc_decrement, is_greater};
 ghost use Rattle.cpu_step.specs.IndexFamilies.{is_index_load, is_index_store, is_transfer, is_count, is_stop};
 ghost use Rattle.cpu_step.specs.Does.{IsAtPlace, DoesRow};
@@ -56,7 +56,7 @@ pub fn load_index<M: MemoryPort>(regs: &mut Regs, core: &mut M, i: &Instr, y: u1
     requires family { is_index_load i.now.op ≡ true }
     requires place { IsAtPlace i.now y regs.old }
     ensures does { DoesRow index_row i.now y result regs.old regs.new (M.words core.old) (M.words core.new) }
-    ensures goes { Goes result }
+    ensures goes { DoesNotHalt result }
     ensures keeps { M.Keeps core.old core.new }
 {
     match i.op {
@@ -132,7 +132,7 @@ pub fn store_index<M: MemoryPort>(regs: &mut Regs, core: &mut M, i: &Instr, y: u
     requires family { is_index_store i.now.op ≡ true }
     requires place { IsAtPlace i.now y regs.old }
     ensures does { DoesRow index_row i.now y result regs.old regs.new (M.words core.old) (M.words core.new) }
-    ensures goes { Goes result }
+    ensures goes { DoesNotHalt result }
     ensures keeps { M.Keeps core.old core.new }
 {
     match i.op {
@@ -202,7 +202,7 @@ pub fn transfer<M: MemoryPort>(regs: &mut Regs, core: &mut M, i: &Instr, y: u16)
     requires family { is_transfer i.now.op ≡ true }
     requires place { IsAtPlace i.now y regs.old }
     ensures does { DoesRow index_row i.now y result regs.old regs.new (M.words core.old) (M.words core.new) }
-    ensures goes { Goes result }
+    ensures goes { DoesNotHalt result }
     ensures keeps { M.Keeps core.old core.new }
 {
     match i.op {
@@ -261,7 +261,7 @@ pub fn count<M: MemoryPort>(regs: &mut Regs, core: &mut M, i: &Instr, y: u16) ->
     requires family { is_count i.now.op ≡ true }
     requires place { IsAtPlace i.now y regs.old }
     ensures does { DoesRow index_row i.now y result regs.old regs.new (M.words core.old) (M.words core.new) }
-    ensures goes { Goes result }
+    ensures goes { DoesNotHalt result }
     ensures keeps { M.Keeps core.old core.new }
 {
     match i.op {
@@ -308,7 +308,7 @@ pub fn pass<M: MemoryPort>(regs: &mut Regs, core: &mut M, i: &Instr, y: u16) -> 
     requires family { i.now.op ≡ Op.Nop }
     requires place { IsAtPlace i.now y regs.old }
     ensures does { DoesRow index_row i.now y result regs.old regs.new (M.words core.old) (M.words core.new) }
-    ensures goes { Goes result }
+    ensures goes { DoesNotHalt result }
     ensures keeps { M.Keeps core.old core.new }
 {
     regs.skip(1);

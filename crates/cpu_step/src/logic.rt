@@ -3,7 +3,7 @@ ghost use Rattle.std.specs.Prelude.{◌≡◌, ◌<◌, ◌*◌, ◌^◌, bit_an
 ghost use Rattle.opcode_table.specs.Table.{kind_of};
 ghost use Rattle.opcode_table.specs.Words.{HasFields};
 ghost use Rattle.machine_model.specs.Logic.{logic_row};
-ghost use Rattle.machine_model.specs.Results.{Goes};
+ghost use Rattle.machine_model.specs.Results.{DoesNotHalt};
 ghost use Rattle.arith36.specs.Shift.{acc_left, long_left, long_right, logical_left, logical_right};
 ghost use Rattle.machine_model.specs.Logic.{count_of};
 ghost use Rattle.machine_model.specs.Step.{past, with_sum, with_shifted, with_logic};
@@ -49,7 +49,7 @@ pub fn load_or_store<M: MemoryPort>(regs: &mut Regs, core: &mut M, i: &Instr, y:
     requires family { is_load_or_store i.now.op ≡ true }
     requires place { IsAtPlace i.now y regs.old }
     ensures does { DoesRow logic_row i.now y result regs.old regs.new (M.words core.old) (M.words core.new) }
-    ensures goes { Goes result }
+    ensures goes { DoesNotHalt result }
     ensures keeps { M.Keeps core.old core.new }
 {
     match i.op {
@@ -93,7 +93,7 @@ pub fn combine<M: MemoryPort>(regs: &mut Regs, core: &mut M, i: &Instr, y: u16) 
     requires family { is_combination i.now.op ≡ true }
     requires place { IsAtPlace i.now y regs.old }
     ensures does { DoesRow logic_row i.now y result regs.old regs.new (M.words core.old) (M.words core.new) }
-    ensures goes { Goes result }
+    ensures goes { DoesNotHalt result }
     ensures keeps { M.Keeps core.old core.new }
 {
     match i.op {
@@ -164,7 +164,7 @@ pub fn shift<M: MemoryPort>(regs: &mut Regs, core: &mut M, i: &Instr, y: u16) ->
     requires family { is_shift i.now.op ≡ true }
     requires place { IsAtPlace i.now y regs.old }
     ensures does { DoesRow logic_row i.now y result regs.old regs.new (M.words core.old) (M.words core.new) }
-    ensures goes { Goes result }
+    ensures goes { DoesNotHalt result }
     ensures keeps { M.Keeps core.old core.new }
 {
     match i.op {
@@ -221,7 +221,7 @@ pub fn indicate<M: MemoryPort>(regs: &mut Regs, core: &mut M, i: &Instr, y: u16)
     requires family { is_of_accumulator i.now.op ≡ true }
     requires place { IsAtPlace i.now y regs.old }
     ensures does { DoesRow logic_row i.now y result regs.old regs.new (M.words core.old) (M.words core.new) }
-    ensures goes { Goes result }
+    ensures goes { DoesNotHalt result }
     ensures keeps { M.Keeps core.old core.new }
 {
     match i.op {
@@ -269,7 +269,7 @@ pub fn indicate_by_word<M: MemoryPort>(regs: &mut Regs, core: &mut M, i: &Instr,
     requires family { is_of_word i.now.op ≡ true }
     requires place { IsAtPlace i.now y regs.old }
     ensures does { DoesRow logic_row i.now y result regs.old regs.new (M.words core.old) (M.words core.new) }
-    ensures goes { Goes result }
+    ensures goes { DoesNotHalt result }
     ensures keeps { M.Keeps core.old core.new }
 {
     match i.op {
@@ -321,7 +321,7 @@ pub fn indicate_by_half<M: MemoryPort>(regs: &mut Regs, core: &mut M, i: &Instr,
     requires family { is_of_half i.now.op ≡ true }
     requires place { IsAtPlace i.now y regs.old }
     ensures does { DoesRow logic_row i.now y result regs.old regs.new (M.words core.old) (M.words core.new) }
-    ensures goes { Goes result }
+    ensures goes { DoesNotHalt result }
     ensures keeps { M.Keeps core.old core.new }
 {
     match i.op {

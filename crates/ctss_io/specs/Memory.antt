@@ -1,11 +1,12 @@
 -- proof: a source and a sink in memory, as contracts see them, and what each call makes of them.
 use Rattle.std.specs.Prelude.{ℕ, Bool, ◌-◌, min, nat_eq, nat_le, if◌then◌else◌, List, ◌++◌, length, take, drop}
 use Rattle.std.specs.List.{list_any}
+use Rattle.faults.specs.Faults.{one_further}
 use Rattle.ctss_io.specs.declared.outside.Got.{Got}
 use Rattle.ctss_io.specs.declared.outside.Got.TheVariants as got
 use Rattle.ctss_io.specs.declared.outside.Took.{Took}
 use Rattle.ctss_io.specs.declared.outside.Took.TheVariants as took
-use Rattle.ctss_io.specs.Outside.{next, taken, faults_after_got, faults_after_took}
+use Rattle.ctss_io.specs.Outside.{bytes_taken, faults_after_got, faults_after_took}
 
 -- a source in memory
 pub record SourceState : Type 0 where
@@ -35,7 +36,7 @@ pub record SinkState : Type 0 where
 
 -- whether the next call is one of those that fail
 abbrev pub fails_next : List ℕ → ℕ → Bool
-fails_next fails calls = list_any (λ n. nat_eq n (next calls)) fails
+fails_next fails calls = list_any (λ n. nat_eq n (one_further calls)) fails
 
 -- how many bytes the next read gives, where it gives any
 abbrev pub piece_of : SourceState → ℕ → ℕ
@@ -58,7 +59,7 @@ abbrev pub source_after : SourceState → Got → SourceState
 source_after s answer =
     record s {
       left = drop (count_given answer) s.left;
-      calls = next s.calls;
+      calls = one_further s.calls;
       faults = faults_after_got answer s.faults;
     }
 
@@ -80,7 +81,7 @@ answer_of_put s size =
 abbrev pub sink_after : SinkState → List ℕ → Took → SinkState
 sink_after s piece answer =
     record s {
-      held = s.held ++ taken answer piece;
-      calls = next s.calls;
+      held = s.held ++ bytes_taken answer piece;
+      calls = one_further s.calls;
       faults = faults_after_took answer s.faults;
     }

@@ -1,14 +1,11 @@
 -- claim: what the answers of a source and of a sink say.
-use Rattle.std.specs.Prelude.{◌≡◌, ℕ, ◌+◌, ◌-◌, ◌^◌, ◌≤◌, min, List, [], ◌++◌, take, Option, None, Some}
+use Rattle.std.specs.Prelude.{◌≡◌, ℕ, ◌≤◌, List, [], ◌++◌, take, Option, None, Some}
 pub use Rattle.faults.specs.Faults.{Rose}
+use Rattle.faults.specs.Faults.{one_further}
 use Rattle.ctss_io.specs.declared.outside.Got.{Got}
 use Rattle.ctss_io.specs.declared.outside.Got.TheVariants as got
 use Rattle.ctss_io.specs.declared.outside.Took.{Took}
 use Rattle.ctss_io.specs.declared.outside.Took.TheVariants as took
-
--- one more, up to the end of a u64
-abbrev pub next : ℕ → ℕ
-next n = min (n + 1) (2 ^ 64 - 1)
 
 -- these bytes, and then what is left, where that is told
 abbrev pub prepended : List ℕ → Option (List ℕ) → Option (List ℕ)
@@ -33,9 +30,9 @@ GotFits got.End room = Unit {0}
 GotFits got.Failed room = Unit {0}
 
 -- the bytes that a put took, of its piece
-abbrev pub taken : Took → List ℕ → List ℕ
-taken (took.Bytes n) piece = take n piece
-taken took.Failed piece = []
+abbrev pub bytes_taken : Took → List ℕ → List ℕ
+bytes_taken (took.Bytes n) piece = take n piece
+bytes_taken took.Failed piece = []
 
 -- a put that took bytes took at least one, and no more than the piece has
 abbrev pub TookFits : Took → ℕ → Type 0
@@ -51,9 +48,9 @@ IsAtEnd (Some rest) = rest ≡ []
 abbrev pub faults_after_got : Got → ℕ → ℕ
 faults_after_got (got.Bytes n) faults = faults
 faults_after_got got.End faults = faults
-faults_after_got got.Failed faults = next faults
+faults_after_got got.Failed faults = one_further faults
 
 -- the count of faults after a put with this answer, where a failed put counts one
 abbrev pub faults_after_took : Took → ℕ → ℕ
 faults_after_took (took.Bytes n) faults = faults
-faults_after_took took.Failed faults = next faults
+faults_after_took took.Failed faults = one_further faults

@@ -1,6 +1,6 @@
 //! A source and a sink in memory, which fail where they are told to.
 ghost use Rattle.std.specs.Prelude.{◌≡◌, ◌<◌, ◌≤◌, [], length, IfOk};
-ghost use Rattle.ctss_io.specs.Outside.{Rose, prepended, after, given, GotFits, taken, TookFits, IsAtEnd};
+ghost use Rattle.ctss_io.specs.Outside.{Rose, prepended, after, given, GotFits, bytes_taken, TookFits, IsAtEnd};
 ghost use Rattle.ctss_io.specs.Memory.{answer_of_read, source_after, buffer_after, answer_of_put, sink_after};
 
 use crate::outside::{Got, Sink, Source, Took};
@@ -182,7 +182,7 @@ impl Sink for MemorySink {
     fn put(&mut self, bytes: &[u8]) -> Took
         requires { 0 < length bytes.now }
         ensures amount { TookFits result (length bytes.now) }
-        ensures moved { Some self.new.held ≡ after (Some self.old.held) (taken result bytes.now) }
+        ensures moved { Some self.new.held ≡ after (Some self.old.held) (bytes_taken result bytes.now) }
         ensures faults_grow { self.old.faults ≤ self.new.faults }
         ensures cause { result ≡ Took.Failed → Rose self.old.faults self.new.faults }
 

@@ -1,6 +1,6 @@
 //! A source and a sink of bytes, as a program is handed them.
 ghost use Rattle.std.specs.Prelude.{◌≡◌, ◌<◌, ◌≤◌, ℕ, List, Option, length};
-ghost use Rattle.ctss_io.specs.Outside.{Rose, prepended, after, given, GotFits, taken, TookFits, IsAtEnd};
+ghost use Rattle.ctss_io.specs.Outside.{Rose, prepended, after, given, GotFits, bytes_taken, TookFits, IsAtEnd};
 
 /// What a read gave.
 #[derive(Clone, Copy, Debug, PartialEq, Eq)]
@@ -58,7 +58,7 @@ pub trait Sink {
     fn put(&mut self, bytes: &[u8]) -> Took
         requires { 0 < length bytes.now }
         ensures amount { TookFits result (length bytes.now) }
-        ensures moved { held self.new ≡ after (held self.old) (taken result bytes.now) }
+        ensures moved { held self.new ≡ after (held self.old) (bytes_taken result bytes.now) }
         ensures faults_grow { faults self.old ≤ faults self.new }
         ensures cause { result ≡ Took.Failed → Rose (faults self.old) (faults self.new) };
 }

@@ -1,7 +1,7 @@
 //! The standard streams as a source and a sink.
 ghost use Rattle.std.specs.Prelude.{◌≡◌, ◌<◌, ◌≤◌, length};
 ghost use Rattle.std.specs.Io.KnownBytes.{Consumes, Appends, IsAtEnd};
-ghost use Rattle.ctss_io.specs.Outside.{Rose, GotFits, given, faults_after_got, TookFits, taken, faults_after_took};
+ghost use Rattle.ctss_io.specs.Outside.{Rose, GotFits, given, faults_after_got, TookFits, bytes_taken, faults_after_took};
 
 use crate::outside::{Got, Sink, Source, Took};
 use std::io::{ErrorKind, Read, Write};
@@ -115,7 +115,7 @@ impl<W: Write> Sink for StdSink<W> {
 
         // Where the writer knows its bytes, as one in memory does, they come through as they are.
         ensures bytes { Appends (W.contents self.old.inner) (W.contents self.new.inner)
-            (taken result bytes.now) }
+            (bytes_taken result bytes.now) }
     {
         for _ in 0..TRIES {
             match self.writer.write(bytes) {

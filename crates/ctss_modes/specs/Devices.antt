@@ -35,5 +35,5 @@ output_seen g output = record { held = g.held output; faults = g.faults output }
 abbrev pub devices : InputSeen → OutputSeen → MediaSeen → LinkSeen → DevicesSeen
 devices input output media link = record { input = input; output = output; media = media; link = link }
 
-abbrev pub seen : {S K D F : Type 0} → InputGhosts S → OutputGhosts K → MediumGhosts D → MediumGhosts F → S → K → D → F → LinkSeen → DevicesSeen
-seen s k d f input output drum disk link = devices (input_seen s input) (output_seen k output) (media_seen d f drum disk) link
+abbrev pub devices_seen : {S K D F : Type 0} → InputGhosts S → OutputGhosts K → MediumGhosts D → MediumGhosts F → S → K → D → F → LinkSeen → DevicesSeen
+devices_seen s k d f input output drum disk link = devices (input_seen s input) (output_seen k output) (media_seen d f drum disk) link

@@ -1,9 +1,9 @@
 //! One call for all modes.
 ghost use Rattle.std.specs.Prelude.{◌≤◌};
-ghost use Rattle.drum_slots.specs.Kept.{Serves};
-ghost use Rattle.track_store.specs.Tracks.{Serves as Holds};
+ghost use Rattle.drum_slots.specs.Kept.{ServesSlots};
+ghost use Rattle.track_store.specs.Tracks.{ServesTracks};
 ghost use Rattle.ctss_modes.specs.Answer.{IsAnswer};
-ghost use Rattle.ctss_modes.specs.Devices.{seen};
+ghost use Rattle.ctss_modes.specs.Devices.{devices_seen};
 ghost use Rattle.ctss_modes.specs.Modes.{turns_asked};
 
 use crate::asm::asm;
@@ -30,11 +30,12 @@ pub fn run_mode<S: Source, K: Sink, D: Medium, F: Medium, L: Link>(
     link: &mut L,
 ) -> Outcome
     requires turns { turns_asked asked ≤ 100000 }
-    requires drum { Serves (D.contents drum.old) (D.record_count drum.old) (D.words_each drum.old) 3840 }
-    requires disk { Holds (F.contents disk.old) (F.record_count disk.old) (F.words_each disk.old) 10000 }
+    requires drum { ServesSlots (D.contents drum.old) (D.record_count drum.old) (D.words_each drum.old) 3840 }
+    requires disk { ServesTracks (F.contents disk.old) (F.record_count disk.old) (F.words_each disk.old) 10000 }
     ensures { IsAnswer asked
-        (seen S.Source K.Sink D.Medium F.Medium input.old output.old drum.old disk.old (L.seen link.old))
-        (seen S.Source K.Sink D.Medium F.Medium input.new output.new drum.new disk.new (L.seen link.new)) result }
+        (devices_seen S.Source K.Sink D.Medium F.Medium input.old output.old drum.old disk.old (L.seen link.old))
+        (devices_seen S.Source K.Sink D.Medium F.Medium input.new output.new drum.new disk.new
+        (L.seen link.new)) result }
 {
     let Some(mode) = asked else {
         return refuse_words(alloc, output);

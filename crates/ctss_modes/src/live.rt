@@ -3,12 +3,12 @@ ghost use Rattle.std.specs.Prelude.{◌≤◌, ◌∷◌, []};
 ghost use Rattle.faults.specs.Faults.{WhereTold};
 ghost use Rattle.text_model.specs.Lawful.{IsLawful};
 ghost use Rattle.script_read.specs.Bases.{base_of};
-ghost use Rattle.drum_slots.specs.Kept.{Serves};
-ghost use Rattle.track_store.specs.Tracks.{Serves as Holds};
+ghost use Rattle.drum_slots.specs.Kept.{ServesSlots};
+ghost use Rattle.track_store.specs.Tracks.{ServesTracks};
 ghost use Rattle.live_run.specs.Media.{media_seen};
 ghost use Rattle.ctss_modes.specs.Outcomes.{IsOneOf};
 ghost use Rattle.ctss_modes.specs.Modes.{IsSpelled};
-ghost use Rattle.ctss_modes.specs.Devices.{InputSeen, output_seen, devices, seen};
+ghost use Rattle.ctss_modes.specs.Devices.{InputSeen, output_seen, devices, devices_seen};
 ghost use Rattle.ctss_modes.specs.Statuses.{EndsFor, AnswersFor};
 ghost use Rattle.ctss_modes.specs.Top.{HasCause, IsSilent, statuses_live};
 
@@ -36,8 +36,8 @@ fn host<K: Sink, D: Medium, F: Medium, L: Link>(
 ) -> Outcome
     requires turns { listening.turns ≤ 100000 }
     requires lawful { IsLawful base }
-    requires drum { Serves (D.contents drum.old) (D.record_count drum.old) (D.words_each drum.old) 3840 }
-    requires disk { Holds (F.contents disk.old) (F.record_count disk.old) (F.words_each disk.old) 10000 }
+    requires drum { ServesSlots (D.contents drum.old) (D.record_count drum.old) (D.words_each drum.old) 3840 }
+    requires disk { ServesTracks (F.contents disk.old) (F.record_count disk.old) (F.words_each disk.old) 10000 }
     ensures status { IsOneOf result.status (0 ∷ 4 ∷ 5 ∷ 6 ∷ 7 ∷ 8 ∷ []) }
     ensures ends { (was now : InputSeen) → IsSpelled (Mode.Serve listening.port listening.turns) was.left now.left base
         → EndsFor (Mode.Serve listening.port listening.turns)
@@ -83,12 +83,12 @@ pub(crate) fn serve_consoles<S: Source, K: Sink, D: Medium, F: Medium, L: Link>(
     link: &mut L,
 ) -> Outcome
     requires turns { listening.turns ≤ 100000 }
-    requires drum { Serves (D.contents drum.old) (D.record_count drum.old) (D.words_each drum.old) 3840 }
-    requires disk { Holds (F.contents disk.old) (F.record_count disk.old) (F.words_each disk.old) 10000 }
+    requires drum { ServesSlots (D.contents drum.old) (D.record_count drum.old) (D.words_each drum.old) 3840 }
+    requires disk { ServesTracks (F.contents disk.old) (F.record_count disk.old) (F.words_each disk.old) 10000 }
     ensures status { IsOneOf result.status (0 ∷ 2 ∷ 3 ∷ 4 ∷ 5 ∷ 6 ∷ 7 ∷ 8 ∷ []) }
     ensures answers { AnswersFor (Mode.Serve listening.port listening.turns)
-        (seen S.Source K.Sink D.Medium F.Medium input.old sink.old drum.old disk.old (L.seen link.old))
-        (seen S.Source K.Sink D.Medium F.Medium input.new sink.new drum.new disk.new (L.seen link.new)) result }
+        (devices_seen S.Source K.Sink D.Medium F.Medium input.old sink.old drum.old disk.old (L.seen link.old))
+        (devices_seen S.Source K.Sink D.Medium F.Medium input.new sink.new drum.new disk.new (L.seen link.new)) result }
     ensures statuses { WhereTold (S.left input.old) (λ bytes. IsOneOf result.status (statuses_live (base_of bytes))) }
 {
     let bytes = match read_bytes(alloc, input) {

@@ -7,13 +7,13 @@ ghost use Rattle.text_model.specs.Report.{report_of};
 ghost use Rattle.text_model.specs.Reading.{script_of};
 ghost use Rattle.text_model.specs.Lawful.{IsLawful};
 ghost use Rattle.text_writer.specs.Writing.{Adds};
-ghost use Rattle.drum_slots.specs.Kept.{Serves};
-ghost use Rattle.track_store.specs.Tracks.{Serves as Holds};
+ghost use Rattle.drum_slots.specs.Kept.{ServesSlots};
+ghost use Rattle.track_store.specs.Tracks.{ServesTracks};
 ghost use Rattle.live_run.specs.Media.{media_seen};
 ghost use Rattle.console_link.specs.Links.{LinkSeen};
 ghost use Rattle.ctss_modes.specs.Outcomes.{bare, IsOneOf};
 ghost use Rattle.ctss_modes.specs.Modes.{TextOfRun, replays, text_for};
-ghost use Rattle.ctss_modes.specs.Devices.{InputSeen, output_seen, devices, seen};
+ghost use Rattle.ctss_modes.specs.Devices.{InputSeen, output_seen, devices, devices_seen};
 ghost use Rattle.ctss_modes.specs.Statuses.{Performs, AnswersFor};
 ghost use Rattle.ctss_modes.specs.Top.{statuses_for};
 
@@ -147,8 +147,8 @@ pub fn perform<T: RunText, K: Sink, D: Medium, F: Medium>(
     disk: &mut F,
 ) -> Outcome
     requires lawful { IsLawful script.now }
-    requires drum { Serves (D.contents drum.old) (D.record_count drum.old) (D.words_each drum.old) 3840 }
-    requires disk { Holds (F.contents disk.old) (F.record_count disk.old) (F.words_each disk.old) 10000 }
+    requires drum { ServesSlots (D.contents drum.old) (D.record_count drum.old) (D.words_each drum.old) 3840 }
+    requires disk { ServesTracks (F.contents disk.old) (F.record_count disk.old) (F.words_each disk.old) 10000 }
     ensures { Performs (T.bytes text.now) script.now
         (media_seen D.Medium F.Medium drum.old disk.old) (media_seen D.Medium F.Medium drum.new disk.new)
         (output_seen K.Sink sink.old) (output_seen K.Sink sink.new) result }
@@ -171,12 +171,12 @@ pub(crate) fn replay<S: Source, K: Sink, D: Medium, F: Medium>(
     disk: &mut F,
 ) -> Outcome
     requires mode { replays mode ≡ true }
-    requires drum { Serves (D.contents drum.old) (D.record_count drum.old) (D.words_each drum.old) 3840 }
-    requires disk { Holds (F.contents disk.old) (F.record_count disk.old) (F.words_each disk.old) 10000 }
+    requires drum { ServesSlots (D.contents drum.old) (D.record_count drum.old) (D.words_each drum.old) 3840 }
+    requires disk { ServesTracks (F.contents disk.old) (F.record_count disk.old) (F.words_each disk.old) 10000 }
     ensures status { IsOneOf result.status (0 ∷ 2 ∷ 3 ∷ 4 ∷ 5 ∷ 6 ∷ 8 ∷ []) }
     ensures answers { (link : LinkSeen) → AnswersFor mode
-        (seen S.Source K.Sink D.Medium F.Medium script.old sink.old drum.old disk.old link)
-        (seen S.Source K.Sink D.Medium F.Medium script.new sink.new drum.new disk.new link) result }
+        (devices_seen S.Source K.Sink D.Medium F.Medium script.old sink.old drum.old disk.old link)
+        (devices_seen S.Source K.Sink D.Medium F.Medium script.new sink.new drum.new disk.new link) result }
     ensures statuses { WhereTold (S.left script.old) (λ bytes. IsOneOf result.status (statuses_for (script_of bytes))) }
 {
     let bytes = match read_bytes(alloc, script) {
@@ -200,8 +200,8 @@ pub(crate) fn load<K: Sink, D: Medium, F: Medium>(
     drum: &mut D,
     disk: &mut F,
 ) -> Outcome
-    requires drum { Serves (D.contents drum.old) (D.record_count drum.old) (D.words_each drum.old) 3840 }
-    requires disk { Holds (F.contents disk.old) (F.record_count disk.old) (F.words_each disk.old) 10000 }
+    requires drum { ServesSlots (D.contents drum.old) (D.record_count drum.old) (D.words_each drum.old) 3840 }
+    requires disk { ServesTracks (F.contents disk.old) (F.record_count disk.old) (F.words_each disk.old) 10000 }
     ensures status { IsOneOf result.status (0 ∷ 4 ∷ 5 ∷ 6 ∷ 8 ∷ []) }
     ensures answers { (input : InputSeen) (link : LinkSeen) → AnswersFor (Mode.Load n)
         (devices input (output_seen K.Sink sink.old) (media_seen D.Medium F.Medium drum.old disk.old) link)

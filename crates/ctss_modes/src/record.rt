@@ -1,10 +1,10 @@
 //! The record of a script, over drum and disk.
 ghost use Rattle.std.specs.Prelude.{◌≡◌, IfOk, OnOk, OnErr};
 ghost use Rattle.std.specs.List.{All};
-ghost use Rattle.drum_slots.specs.Kept.{Serves};
-ghost use Rattle.track_store.specs.Tracks.{Serves as Holds};
+ghost use Rattle.drum_slots.specs.Kept.{ServesSlots};
+ghost use Rattle.track_store.specs.Tracks.{ServesTracks};
 ghost use Rattle.track_directories.specs.Tables.{disk_of};
-ghost use Rattle.image_map.specs.Image.{state, seen};
+ghost use Rattle.image_map.specs.Image.{state, drum_seen};
 ghost use Rattle.plan_model.specs.Loads.{Places, no_places};
 ghost use Rattle.text_model.specs.Lawful.{IsLawful};
 ghost use Rattle.time_sharing.specs.System.{Timed};
@@ -41,7 +41,7 @@ pub fn give_all(supervisor: &mut Supervisor, events: &[Timed]) -> Result<(), NoM
     Ok(())
 }
 
-/// A supervisor and what lies behind its users' sessions, behind the run of its script, and how that ended.
+/// A supervisor and what lies behind its users' sessions, after the run of its script, and how that ended.
 #[derive(Drop)]
 pub struct ScriptRun<'a, 'd, D: Medium, F: Medium> {
     pub supervisor: Supervisor,
@@ -59,9 +59,9 @@ pub fn run_script<'a, 'd, D: Medium, F: Medium>(
 ) -> ScriptRun<'a, 'd, D, F>
     requires new { IsNew script.now new }
     requires lawful { IsLawful script.now }
-    requires drum { Serves (D.contents drum.old) (D.record_count drum.old) (D.words_each drum.old) 3840 }
-    requires disk { Holds (F.contents disk.old) (F.record_count disk.old) (F.words_each disk.old) 10000 }
-    ensures drum { (state result.behind.cores).drum.name ≡ (seen D.Medium drum.entry).name }
+    requires drum { ServesSlots (D.contents drum.old) (D.record_count drum.old) (D.words_each drum.old) 3840 }
+    requires disk { ServesTracks (F.contents disk.old) (F.record_count disk.old) (F.words_each disk.old) 10000 }
+    ensures drum { (state result.behind.cores).drum.name ≡ (drum_seen D.Medium drum.entry).name }
     ensures disk { (disk_of result.behind.files).ghost_name ≡ disk.entry.ghost_name }
     ensures usable { Lasts result.ended
         (⟦<Behind<'a, 'd, D, F> as user_cores::Backing>⟧.Usable result.behind) }
@@ -111,8 +111,8 @@ pub fn record_script<D: Medium, F: Medium>(
     disk: &mut F,
 ) -> Result<Played, NoMemory>
     requires lawful { IsLawful script.now }
-    requires drum { Serves (D.contents drum.old) (D.record_count drum.old) (D.words_each drum.old) 3840 }
-    requires disk { Holds (F.contents disk.old) (F.record_count disk.old) (F.words_each disk.old) 10000 }
+    requires drum { ServesSlots (D.contents drum.old) (D.record_count drum.old) (D.words_each drum.old) 3840 }
+    requires disk { ServesTracks (F.contents disk.old) (F.record_count disk.old) (F.words_each disk.old) 10000 }
     ensures played { IfOk result (IsPlayed script.now (media_seen D.Medium F.Medium drum.old disk.old)
         (media_seen D.Medium F.Medium drum.new disk.new)) }
     ensures spent { OnErr result (HasSpent script.now (media_seen D.Medium F.Medium drum.old disk.old)

@@ -128,10 +128,7 @@ pub next_bases_are_lawful : NextBasesAreLawful
 next_bases_are_lawful script lawful holds =
     record {
       range = base_range script lawful holds;
-      level = lawful.level;
-      quantum = lawful.quantum;
-      disk = lawful.disk;
-      age = lawful.age;
+      params = lawful.params;
       fits = lawful.fits;
       accounts = lawful.accounts;
       differ = lawful.differ;

@@ -16,7 +16,6 @@ use Rattle.program_model.specs.Lines.{words_of_line}
 use Rattle.text_model.specs.declared.cause.ScriptCause.{ScriptCause}
 use Rattle.text_model.specs.declared.cause.ScriptCause.TheVariants.{NotACard, TimeFalls, UnknownNumber, OverLimit, DrumSmall, DiskSmall, NoEnd, TooLong}
 use Rattle.text_model.specs.declared.cause.ScriptRefusal.{ScriptRefusal}
-use Rattle.text_model.specs.declared.card.ParamCard.{ParamCard}
 use Rattle.text_model.specs.declared.card.UserCard.{UserCard}
 use Rattle.text_model.specs.declared.card.FileCard.{FileCard}
 use Rattle.text_model.specs.declared.card.EventCard.{EventCard}
@@ -73,8 +72,8 @@ formed d f (Some c) h = h c
 -- each kind of card
 
 -- PARAM adds no event
-params_grow : (d : Draft) (c : ParamCard) → Grows d (with_params d c)
-params_grow d c = unless d _ OverLimit _ (unless d _ DiskSmall _ (same_events d _ refl))
+params_grow : (d : Draft) (p : Params) → Grows d (with_params d p)
+params_grow d p = unless d _ OverLimit _ (unless d _ DiskSmall _ (same_events d _ refl))
 
 -- USER adds none
 account_grows : (d : Draft) (p : Params) (c : UserCard) → Grows d (with_account d p c)

@@ -4,13 +4,13 @@
 #![tactic(auto)]
 
 ghost use Rattle.std.specs.Prelude.{◌≡◌, ◌∷◌, [], Some, true};
-ghost use Rattle.drum_slots.specs.Kept.{Serves};
-ghost use Rattle.track_store.specs.Tracks.{Serves as Holds};
+ghost use Rattle.drum_slots.specs.Kept.{ServesSlots};
+ghost use Rattle.track_store.specs.Tracks.{ServesTracks};
 ghost use Rattle.text_model.specs.Words.{mode_of};
 ghost use Rattle.ctss_modes.specs.Outcomes.{IsOneOf};
 ghost use Rattle.ctss_modes.specs.Modes.{ModeAsked, runs_script};
 ghost use Rattle.ctss_modes.specs.Asm.{DeckIsWritten};
-ghost use Rattle.ctss_modes.specs.Devices.{seen};
+ghost use Rattle.ctss_modes.specs.Devices.{devices_seen};
 ghost use Rattle.ctss_modes.specs.Top.{IsRun, RunIsStopped, RunLosesFiles, IsRefusal, HasCause, LeavesUnasked, IsCutOff, IsSilent, SpendsFor};
 ghost use Rattle.ctss_modes.specs.Top.{IsAllowed, NothingFailed, IsComplete};
 
@@ -40,55 +40,65 @@ pub fn run_ctss<S: Source, K: Sink, D: Medium, F: Medium, L: Link>(
     disk: &mut F,
     link: &mut L,
 ) -> Outcome
-    requires drum { Serves (D.contents drum.old) (D.record_count drum.old) (D.words_each drum.old) 3840 }
-    requires disk { Holds (F.contents disk.old) (F.record_count disk.old) (F.words_each disk.old) 10000 }
+    requires drum { ServesSlots (D.contents drum.old) (D.record_count drum.old) (D.words_each drum.old) 3840 }
+    requires disk { ServesTracks (F.contents disk.old) (F.record_count disk.old) (F.words_each disk.old) 10000 }
     ensures headline { (mode : ModeAsked) → mode_of words.now ≡ Some mode → runs_script mode ≡ true
         → result.status ≡ 0 → IsRun mode
-        (seen S.Source K.Sink D.Medium F.Medium input.old output.old drum.old disk.old (L.seen link.old))
-        (seen S.Source K.Sink D.Medium F.Medium input.new output.new drum.new disk.new (L.seen link.new)) result }
+        (devices_seen S.Source K.Sink D.Medium F.Medium input.old output.old drum.old disk.old (L.seen link.old))
+        (devices_seen S.Source K.Sink D.Medium F.Medium input.new output.new drum.new disk.new
+        (L.seen link.new)) result }
     ensures deck { mode_of words.now ≡ Some Mode.Asm → result.status ≡ 0
-        → DeckIsWritten (seen S.Source K.Sink D.Medium F.Medium input.old output.old drum.old disk.old
+        → DeckIsWritten (devices_seen S.Source K.Sink D.Medium F.Medium input.old output.old drum.old disk.old
         (L.seen link.old))
-        (seen S.Source K.Sink D.Medium F.Medium input.new output.new drum.new disk.new (L.seen link.new)) result }
+        (devices_seen S.Source K.Sink D.Medium F.Medium input.new output.new drum.new disk.new
+        (L.seen link.new)) result }
     ensures refusals { IsRefusal words.now
-        (seen S.Source K.Sink D.Medium F.Medium input.old output.old drum.old disk.old (L.seen link.old))
-        (seen S.Source K.Sink D.Medium F.Medium input.new output.new drum.new disk.new (L.seen link.new)) result }
+        (devices_seen S.Source K.Sink D.Medium F.Medium input.old output.old drum.old disk.old (L.seen link.old))
+        (devices_seen S.Source K.Sink D.Medium F.Medium input.new output.new drum.new disk.new
+        (L.seen link.new)) result }
 
     // The faults: only where the object's count rose.
     ensures causes { HasCause
-        (seen S.Source K.Sink D.Medium F.Medium input.old output.old drum.old disk.old (L.seen link.old))
-        (seen S.Source K.Sink D.Medium F.Medium input.new output.new drum.new disk.new (L.seen link.new)) result }
+        (devices_seen S.Source K.Sink D.Medium F.Medium input.old output.old drum.old disk.old (L.seen link.old))
+        (devices_seen S.Source K.Sink D.Medium F.Medium input.new output.new drum.new disk.new
+        (L.seen link.new)) result }
     ensures cut_off { result.status ≡ 4 → IsCutOff words.now
-        (seen S.Source K.Sink D.Medium F.Medium input.old output.old drum.old disk.old (L.seen link.old))
-        (seen S.Source K.Sink D.Medium F.Medium input.new output.new drum.new disk.new (L.seen link.new)) result }
+        (devices_seen S.Source K.Sink D.Medium F.Medium input.old output.old drum.old disk.old (L.seen link.old))
+        (devices_seen S.Source K.Sink D.Medium F.Medium input.new output.new drum.new disk.new
+        (L.seen link.new)) result }
 
     // With drum or disk that failed nothing is written, and the run is that of whole steps; with a read or a listener that failed
     // and where memory lacked nothing is written, and drum and link were called as far as the run came.
     ensures stopped { result.status ≡ 5 → RunIsStopped words.now
-        (seen S.Source K.Sink D.Medium F.Medium input.old output.old drum.old disk.old (L.seen link.old))
-        (seen S.Source K.Sink D.Medium F.Medium input.new output.new drum.new disk.new (L.seen link.new)) result }
+        (devices_seen S.Source K.Sink D.Medium F.Medium input.old output.old drum.old disk.old (L.seen link.old))
+        (devices_seen S.Source K.Sink D.Medium F.Medium input.new output.new drum.new disk.new
+        (L.seen link.new)) result }
     ensures lost { result.status ≡ 6 → RunLosesFiles words.now
-        (seen S.Source K.Sink D.Medium F.Medium input.old output.old drum.old disk.old (L.seen link.old))
-        (seen S.Source K.Sink D.Medium F.Medium input.new output.new drum.new disk.new (L.seen link.new)) result }
+        (devices_seen S.Source K.Sink D.Medium F.Medium input.old output.old drum.old disk.old (L.seen link.old))
+        (devices_seen S.Source K.Sink D.Medium F.Medium input.new output.new drum.new disk.new
+        (L.seen link.new)) result }
     ensures silent { IsOneOf result.status (3 ∷ 7 ∷ 8 ∷ []) → IsSilent result.status
-        (seen S.Source K.Sink D.Medium F.Medium input.old output.old drum.old disk.old (L.seen link.old))
-        (seen S.Source K.Sink D.Medium F.Medium input.new output.new drum.new disk.new (L.seen link.new)) result }
+        (devices_seen S.Source K.Sink D.Medium F.Medium input.old output.old drum.old disk.old (L.seen link.old))
+        (devices_seen S.Source K.Sink D.Medium F.Medium input.new output.new drum.new disk.new
+        (L.seen link.new)) result }
     ensures spent { IsOneOf result.status (7 ∷ 8 ∷ []) → (mode : ModeAsked) → mode_of words.now ≡ Some mode
-        → SpendsFor mode (seen S.Source K.Sink D.Medium F.Medium input.old output.old drum.old disk.old
+        → SpendsFor mode (devices_seen S.Source K.Sink D.Medium F.Medium input.old output.old drum.old disk.old
         (L.seen link.old))
-        (seen S.Source K.Sink D.Medium F.Medium input.new output.new drum.new disk.new (L.seen link.new)) }
+        (devices_seen S.Source K.Sink D.Medium F.Medium input.new output.new drum.new disk.new (L.seen link.new)) }
     ensures apart { LeavesUnasked words.now
-        (seen S.Source K.Sink D.Medium F.Medium input.old output.old drum.old disk.old (L.seen link.old))
-        (seen S.Source K.Sink D.Medium F.Medium input.new output.new drum.new disk.new (L.seen link.new)) }
+        (devices_seen S.Source K.Sink D.Medium F.Medium input.old output.old drum.old disk.old (L.seen link.old))
+        (devices_seen S.Source K.Sink D.Medium F.Medium input.new output.new drum.new disk.new (L.seen link.new)) }
     ensures allowed { IsAllowed words.now
-        (seen S.Source K.Sink D.Medium F.Medium input.old output.old drum.old disk.old (L.seen link.old)) result }
+        (devices_seen S.Source K.Sink D.Medium F.Medium input.old output.old drum.old disk.old
+        (L.seen link.old)) result }
 
     // Where nothing failed, the answer is the one that words and bytes define, or want of memory.
     ensures complete { NothingFailed
-        (seen S.Source K.Sink D.Medium F.Medium input.old output.old drum.old disk.old (L.seen link.old))
-        (seen S.Source K.Sink D.Medium F.Medium input.new output.new drum.new disk.new (L.seen link.new))
+        (devices_seen S.Source K.Sink D.Medium F.Medium input.old output.old drum.old disk.old (L.seen link.old))
+        (devices_seen S.Source K.Sink D.Medium F.Medium input.new output.new drum.new disk.new (L.seen link.new))
         → IsComplete words.now
-        (seen S.Source K.Sink D.Medium F.Medium input.old output.old drum.old disk.old (L.seen link.old)) result }
+        (devices_seen S.Source K.Sink D.Medium F.Medium input.old output.old drum.old disk.old
+        (L.seen link.old)) result }
 {
     match words.mode() {
         Ok(asked) => run_mode(alloc, asked, input, output, drum, disk, link),

@@ -94,12 +94,13 @@ impl EventKind {
     }
 }
 
-/// An entry of the schedule. What definitions and code say of entries, they say of those that they name: any other is no load, no
-/// service and no operation, and adds nothing. Ticks are those at which a thing began; `user` and `own` (own steps) are 0 where the
-/// console had no session; `ran` counts ticks; `level` is the one that a user is served at, or that it has risen to. The operation
-/// on common files, which is large and rare, lies apart, so that each entry takes 48 bytes.
+/// An entry of the schedule. A variant's comment is what its line of the report has: the word, and the fields in order.
+/// What definitions and code say of entries, they say of those that they name: any other is no load, no service and no
+/// operation, and adds nothing. `user` and `own` (own steps) are 0 where the console had no session. The operation on
+/// common files, which is large and rare, lies apart, so that each entry takes 48 bytes.
 #[derive(Clone, Debug, PartialEq, Eq, Drop)]
 pub enum Entry {
+    /// `TAKEN`: tick, console, DIAL LINE QUIT HANG or SPENT, user, the user's steps so far.
     Taken {
         tick: u64,
         console: u8,
@@ -107,20 +108,24 @@ pub enum Entry {
         user: u8,
         own: u64,
     },
+    /// `LOGIN`: tick, console, user.
     Login {
         tick: u64,
         console: u8,
         user: u8,
     },
+    /// `REFUSED`: tick, console, cause.
     Refused {
         tick: u64,
         console: u8,
         cause: u8,
     },
+    /// `IDLE`: the ticks from and until which nobody had anything to do.
     Idle {
         from: u64,
         until: u64,
     },
+    /// `SWAP`: tick at which it began, user, blocks dumped, read and cleared.
     Swap {
         tick: u64,
         user: u8,
@@ -128,11 +133,13 @@ pub enum Entry {
         read: u8,
         fresh: u8,
     },
+    /// `RISE`: tick, user, the level that it has risen to.
     Rise {
         tick: u64,
         user: u8,
         level: u8,
     },
+    /// `SERVE`: tick at which it began, user, level, ticks, why it ended.
     Serve {
         tick: u64,
         user: u8,
@@ -140,10 +147,12 @@ pub enum Entry {
         ran: u64,
         cause: Cause,
     },
+    /// `CLOCK`: the tick that was told, user.
     Clock {
         answer: u64,
         user: u8,
     },
+    /// `SHARED`: user, STAT READ WRITE DELETE PUT or GET, 0 or the refusal.
     Common {
         user: u8,
         op: Apart<CommonOp>,

@@ -1,16 +1,22 @@
 use crate::{ConsoleNo, LineText, OwnedFiles, Sequence};
 use word36::Word;
 
-/// What the PARAM card says: words of a level, ticks of a quantum, ticks of a moved block, records of the drum,
-/// tracks of the disk, tracks of the common directory, ticks after which a user that waits rises (0: never).
+/// The numbers of the machine, as the PARAM card has them in order.
 #[derive(Clone, Copy, Debug, PartialEq, Eq)]
 pub struct Params {
+    /// Words of a level (a program of fewer enters level 0).
     pub wq: u32,
+    /// Ticks of level 0's time, which doubles with each level.
     pub quantum: u64,
+    /// Ticks for each block to or from the drum.
     pub swap: u64,
+    /// Records of the drum, a block each.
     pub drum: u16,
+    /// Tracks of the disk.
     pub disk: u16,
+    /// Tracks that the common files may take.
     pub common: u16,
+    /// Ticks after which a user that waits rises (with 0 nobody does).
     pub age: u64,
 }
 

@@ -1,13 +1,15 @@
 //! The table of commands: what a line asks for, and in which state of a program commands on a stopped one are done. The definitions
 //! are `Requests` and `Commands` of user_model.
-ghost use Rattle.std.specs.Prelude.{◌≡◌, ◌≤◌, ◌∷◌, [], length, drop, nat_eq, nat_le, true, MatchOption, None, Some};
+ghost use Rattle.std.specs.Prelude.{◌≡◌, ◌∷◌, [], length, drop, nat_eq, nat_le, MatchOption, None, Some};
 ghost use Rattle.std.specs.List.{list_all};
 ghost use Rattle.std.specs.Option.{unwrap_or};
 ghost use Rattle.ctss_types.specs.Words.{words_of};
-ghost use Rattle.user_model.specs.Requests.{word_name, file_in, digit_in, alone, rename_of, chmode_of, is_octal_digit, octal_from, place_in, post_mortem_of, copy_by, linking_of, run_of, commands, command_named, command_of};
+ghost use Rattle.program_model.specs.Octals.{octal_in};
+ghost use Rattle.user_model.specs.Requests.{word_name, digit_in, alone, rename_of, chmode_of, post_mortem_of, copy_by, linking_of, run_of, commands, command_named, command_of};
 ghost use Rattle.user_model.specs.Commands.{is_dormant};
 ghost use Rattle.dialogue.specs.Words.{file_first, one_name, one_file};
 
+use crate::octals::octal_in;
 use ctss_types::{FileName, LineText, first_word, name_word};
 use program_model::ProgramState;
 use user_model::Command;
@@ -220,34 +222,10 @@ fn are_short(text: &[u8]) -> bool
 
 /// A word of one to five octal digits as a place.
 fn place_in(word: &[u8]) -> Option<u16>
-    ensures { result ≡ place_in word.now }
+    ensures { result ≡ octal_in 5 word.now }
 {
-    if 1 <= word.len() && word.len() <= 5 && are_octal(word) {
-        Some(octal_value(word))
-    } else {
-        None
-    }
-}
-
-/// Whether all are octal digits.
-fn are_octal(word: &[u8]) -> bool
-    ensures { result ≡ list_all is_octal_digit word.now }
-{
-    word.iter().all(|digit| 48 <= *digit && *digit <= 55)
-}
-
-/// The number that at most five octal digits spell.
-#[tactic(auto, using(crate::proofs::Places::places))]
-fn octal_value(word: &[u8]) -> u16
-    requires digits { list_all is_octal_digit word.now ≡ true }
-    requires few { length word.now ≤ 5 }
-    ensures { result ≡ octal_from 0 word.now }
-{
-    let mut place = 0;
-    'digits: for digit in word {
-        place = 8 * place + u16::from(*digit - b'0');
-    }
-    place
+    let place = octal_in(word, 5)?;
+    Some(place as u16)
 }
 
 /// A word of one digit as its value.

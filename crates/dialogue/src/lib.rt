@@ -19,6 +19,7 @@ pub mod command_table;
 pub mod fap_debug;
 pub mod line_buffer;
 mod notes;
+mod octals;
 pub mod runcom;
 pub mod session_text;
 

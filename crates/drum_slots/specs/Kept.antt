@@ -27,7 +27,7 @@ abbrev pub ChangesCopy : Option (List (Option (List ℕ))) → Option (List (Opt
 ChangesCopy old new k = (ws : List ℕ) × (new ≡ with_copy old k (Some ws))
 
 -- a drum with this many records of this many words serves slots in so many records
-pub record Serves (contents : Option (List (List ℕ))) (count each records : ℕ) : Type 0 where
+pub record ServesSlots (contents : Option (List (List ℕ))) (count each records : ℕ) : Type 0 where
   pub shape : HasShape contents count
   pub within : records ≤ count
   pub whole : each ≡ 256

@@ -4,14 +4,14 @@ use Rattle.std.specs.declared.result.Result.{Result}
 use Rattle.faults.specs.Faults.{Rose}
 use Rattle.medium.specs.Medium.{read_call, write_call, with_call}
 use Rattle.medium.specs.declared.medium.Medium.{Ghosts}
-use Rattle.drum_slots.specs.Kept.{with_copy, HasCopy, ChangesCopy, Serves}
+use Rattle.drum_slots.specs.Kept.{with_copy, HasCopy, ChangesCopy, ServesSlots}
 use Rattle.drum_slots.specs.Table.{slots_of, free_of, records_of, next_of, place_of, record_of, copies_in}
 use Rattle.drum_slots.specs.declared.table.SlotTable.{SlotTable}
 
 module _ {D : Type 0} (g : Ghosts D) where
   -- the drum serves the slots
   abbrev pub IsServed : SlotTable D → Type 0
-  IsServed t = Serves (g.contents t.drum.now) (g.record_count t.drum.now) (g.words_each t.drum.now) (records_of t.slots)
+  IsServed t = ServesSlots (g.contents t.drum.now) (g.record_count t.drum.now) (g.words_each t.drum.now) (records_of t.slots)
 
   -- A call of the drum leaves, done or not: the same drum of as many records, which serves the slots, and users' quotas. The count of
   -- the drum's faults doesn't fall. Where the call failed, each block has the record that it had, and the count rose.

@@ -1,7 +1,7 @@
 //! Blocks of users, kept on a drum that is handed in.
 ghost use Rattle.std.specs.Prelude.{◌≡◌, ◌≢◌, ◌<◌, ◌≤◌, ◌↔◌, ℕ, ◌∷◌, length, sum, None, replicate, IfOk, IsTrue, IsSome, true};
 ghost use Rattle.medium.specs.Medium.{AreWords};
-ghost use Rattle.drum_slots.specs.Kept.{Serves};
+ghost use Rattle.drum_slots.specs.Kept.{ServesSlots};
 ghost use Rattle.drum_slots.specs.Moves.{IsServed, PutsBlock, GetsBlock};
 ghost use Rattle.drum_slots.specs.Slots.{slot_of};
 ghost use Rattle.drum_slots.specs.Table.{slots_of, free_of, records_of, quota_in, place_of, record_of};
@@ -59,7 +59,7 @@ impl<'a, D: Medium> SlotTable<'a, D> {
         quotas: &[u8],
     ) -> Result<SlotTable<'a, D>, NoMemory>
         requires fits { sum quotas.now ≤ records }
-        requires serves { Serves (D.contents drum.old) (D.record_count drum.old)
+        requires serves { ServesSlots (D.contents drum.old) (D.record_count drum.old)
             (D.words_each drum.old) records }
         ensures same { IfOk result (λ t. t.drum.ghost_name ≡ drum.entry.ghost_name) }
         ensures now { IfOk result (λ t. t.drum.now ≡ drum.old) }

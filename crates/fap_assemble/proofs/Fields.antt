@@ -6,7 +6,7 @@ use Rattle.fap_model.specs.Terms.{Signed, begins_literal, expression, literal_wo
 use Rattle.fap_model.specs.Statements as says
 use Rattle.fap_model.specs.Places.{value_of}
 use Rattle.fap_assemble.specs.declared.field.Address.TheVariants.{Plain, Literal}
-use Rattle.fap_assemble.specs.Fields.{address_said, said, joined}
+use Rattle.fap_assemble.specs.Fields.{address_said, said, fields_joined}
 
 literal_by_case : (text : List ℕ) (b : ℕ) (c : Bool) → nat_eq b 61 ≡ c
     → says.literal_at (says.address_of (b ∷ text)) ≡ (if c then literal_word text else None)
@@ -47,7 +47,7 @@ address_seen names place (b ∷ text) = address_case names place text b (nat_eq 
 
 all_three : (names : List (ℕ × ℕ)) (place : ℕ) (a : Option says.Address) (t d : Option (List Signed))
     → option_map (said names place) (option_and_then (λ x. option_and_then (λ tag. option_map (λ decrement. says.placed x tag decrement) d) t) a)
-    ≡ joined (option_map (address_said names place) a) (option_map (λ ts. value_of names place ts) t) (option_map (λ ts. value_of names place ts) d)
+    ≡ fields_joined (option_map (address_said names place) a) (option_map (λ ts. value_of names place ts) t) (option_map (λ ts. value_of names place ts) d)
 all_three names place None t d = refl
 all_three names place (Some a) None d = refl
 all_three names place (Some a) (Some t) None = refl
@@ -55,7 +55,7 @@ all_three names place (Some a) (Some t) (Some d) = refl
 
 pub joined_parts : (names : List (ℕ × ℕ)) (place most : ℕ) (items : List (List ℕ)) → length items ≤ most
     → option_map (said names place) (says.parts_of most items)
-    ≡ joined (option_map (address_said names place) (says.address_of (get_or items 0 []))) (option_map (λ ts. value_of names place ts) (expression (get_or items 1 [])))
+    ≡ fields_joined (option_map (address_said names place) (says.address_of (get_or items 0 []))) (option_map (λ ts. value_of names place ts) (expression (get_or items 1 [])))
     (option_map (λ ts. value_of names place ts) (expression (get_or items 2 [])))
 joined_parts names place most items h =
     let few : nat_le (length items) most ≡ true = grind (arith, nat_tests) in

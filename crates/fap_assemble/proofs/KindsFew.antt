@@ -13,7 +13,7 @@ use Rattle.fap_model.specs.Statements as says
 use Rattle.fap_model.specs.Places.{or_zero, max_place, value_in}
 use Rattle.link_model.specs.Weights.{weight_of, externs_in, added_kind, plain_kind, address_kind, is_light, most_weight, kind_of}
 use Rattle.link_model.specs.Moves.{Moved, without_org, moved_behind}
-use Rattle.link_model.specs.ModuleCards.{Relocated, is_marked, field_symbol, has_operation, with_named, named_by, seen, rel_fault, entry_fault, extern_fault, extern_fault_of, plain_fault, module_fault, module_faults_from}
+use Rattle.link_model.specs.ModuleCards.{Relocated, is_marked, field_symbol, has_operation, with_named, named_by, symbols_seen, rel_fault, entry_fault, extern_fault, extern_fault_of, plain_fault, module_fault, module_faults_from}
 use Rattle.fap_assemble.specs.Judging.{one_if}
 use Rattle.fap_assemble.proofs.Lookup.{index_within}
 use Rattle.fap_assemble.proofs.Follows.{no_entry}
@@ -83,7 +83,7 @@ extern_by a b d = if a then 4 else (if b || d then 5 else 0)
 
 of_case : (m : Moved) (before : List (List ℕ)) (name : Option ℕ) → extern_fault_of m before name ≡ 0 → count_by (has_operation (codes "EXTERN")) before < 32766
 of_case m before None h = absurd (omega (arith, h))
-of_case m before (Some name) h = by (not (is_none (value_in (seen m before).symbols name))) (nat_le max_place m.known.place) (nat_le 32766 (count_by (has_operation (codes "EXTERN")) before)) refl h
+of_case m before (Some name) h = by (not (is_none (value_in (symbols_seen m before).symbols name))) (nat_le max_place m.known.place) (nat_le 32766 (count_by (has_operation (codes "EXTERN")) before)) refl h
   where
     by : (a b d : Bool) → nat_le 32766 (count_by (has_operation (codes "EXTERN")) before) ≡ d → extern_by a b d ≡ 0
         → count_by (has_operation (codes "EXTERN")) before < 32766

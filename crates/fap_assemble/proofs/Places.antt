@@ -9,7 +9,7 @@ use Rattle.fap_model.specs.declared.types.Operation.TheVariants.{Machine as mach
 use Rattle.fap_model.specs.Statements as says
 use Rattle.fap_model.specs.Places.{Known, value_in, term_value, with_term, value_from, value_of, field_is_wrong, field_is_defined, count_of, size_of, fault_with, early_fault, looks_back}
 use Rattle.fap_model.specs.Places.{said as said_by}
-use Rattle.fap_assemble.specs.Fields.{said, known_at, is_wrong, is_defined, number, count, size, fault}
+use Rattle.fap_assemble.specs.Fields.{said, known_at, is_wrong, is_defined, number, count, word_count_at, fault}
 
 pub wrong_is : (names : List (ℕ × ℕ)) (k : Known) (f : Option says.Field) → is_wrong (option_map (said names k.place) f) ≡ field_is_wrong names k f
 wrong_is names k None = refl
@@ -96,7 +96,7 @@ pub early_fault_is : (symbols : List (ℕ × ℕ)) (visible place : ℕ) (o : Op
     → fault 0 false (known_at symbols visible place) o card (option_map (said (take visible symbols) place) (says.field_for o card)) ≡ early_fault (known_at symbols visible place) o card
 early_fault_is symbols visible place o card = fault_is (take visible symbols) 0 false (known_at symbols visible place) o card (says.field_for o card) (λ h. refl)
 
-pub size_is : (k : Known) (o : Operation) (f : Option says.Field) → size o k.place (option_map (said k.symbols k.place) f) ≡ size_of o k f
+pub size_is : (k : Known) (o : Operation) (f : Option says.Field) → word_count_at o k.place (option_map (said k.symbols k.place) f) ≡ size_of o k f
 size_is k (machine o) f = refl
 size_is k pze f = refl
 size_is k bss f = rw (count_is k.symbols k bss f (λ h. refl)) refl

@@ -34,8 +34,8 @@ said names place says.nothing = Nothing
 said names place (says.value ts) = Value (value_of names place ts)
 said names place (says.words ws) = Words ws
 
-abbrev pub joined : Option Address → Option (Option ℕ) → Option (Option ℕ) → Option Said
-joined a tag decrement = option_and_then (λ x. option_and_then (λ t. option_map (λ d. Placed x t d) decrement) tag) a
+abbrev pub fields_joined : Option Address → Option (Option ℕ) → Option (Option ℕ) → Option Said
+fields_joined a tag decrement = option_and_then (λ x. option_and_then (λ t. option_map (λ d. Placed x t d) decrement) tag) a
 
 abbrev pub IsShort : Option ℕ → Type 0
 IsShort v = IfSome v (λ n. n < 2 ^ 15)
@@ -96,10 +96,10 @@ count end s = 0
 abbrev pub fitting : ℕ → ℕ → ℕ
 fitting place n = if nat_le (place + n) max_place then n else 0
 
-abbrev pub size : Operation → ℕ → Option Said → ℕ
-size (machine o) place s = 1
-size pze place s = 1
-size o place s = fitting place (count o s)
+abbrev pub word_count_at : Operation → ℕ → Option Said → ℕ
+word_count_at (machine o) place s = 1
+word_count_at pze place s = 1
+word_count_at o place s = fitting place (count o s)
 
 -- what of a card is at fault whatever its field says
 abbrev pub is_misshapen : Operation → List ℕ → Bool

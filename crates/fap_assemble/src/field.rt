@@ -5,7 +5,7 @@ ghost use Rattle.fap_model.specs.Statements.{address_of, parts_of, field_for, li
 ghost use Rattle.fap_model.specs.Decks.{literal_by};
 ghost use Rattle.fap_model.specs.Places.{value_of};
 ghost use Rattle.fap_assemble.specs.Names.{names_in};
-ghost use Rattle.fap_assemble.specs.Fields.{address_said, said, joined, HasShortAddress, HasShortValues, IsShort, is_wrong, address_is_defined, is_defined, number, data_words};
+ghost use Rattle.fap_assemble.specs.Fields.{address_said, said, fields_joined, HasShortAddress, HasShortValues, IsShort, is_wrong, address_is_defined, is_defined, number, data_words};
 ghost use Rattle.fap_assemble.specs.declared.field.Said.TheVariants.{Words};
 
 use crate::expression::value;
@@ -92,7 +92,7 @@ fn joined(
     requires address { IfSome address HasShortAddress }
     requires tag { IfSome tag IsShort }
     requires decrement { IfSome decrement IsShort }
-    ensures value { result ≡ joined address tag decrement }
+    ensures value { result ≡ fields_joined address tag decrement }
     ensures short { IfSome result HasShortValues }
 {
     Some(Said::Placed {

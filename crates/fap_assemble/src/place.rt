@@ -4,7 +4,7 @@ ghost use Rattle.fap_model.specs.Statements.{field_for};
 ghost use Rattle.fap_model.specs.Places.{takes_flag, is_equ, symbol_is_known, max_place, early_fault, size_of, next_place, symbol_value, known_behind};
 ghost use Rattle.fap_model.specs.Places.{said as said_by};
 ghost use Rattle.fap_model.specs.Decks.{operation_in, size_by};
-ghost use Rattle.fap_assemble.specs.Fields.{known_at, known_in, count, fitting, size, is_misshapen, least, fault_known, fault, said_or};
+ghost use Rattle.fap_assemble.specs.Fields.{known_at, known_in, count, fitting, word_count_at, is_misshapen, least, fault_known, fault, said_or};
 ghost use Rattle.fap_assemble.specs.Steps.{definition, place_by, value_by, new_symbols};
 
 use crate::field::{Said, data_words, is_defined, is_wrong, number, read};
@@ -77,7 +77,7 @@ fn fitting(place: u64, words: usize) -> u64
 /// How many words a card takes or reserves, where they end by the last place or don't depend on the field.
 fn size(op: Operation, place: u64, said: &Option<Said>) -> u64
     requires { place < 2 ^ 40 }
-    ensures value { result ≡ size op place said.now }
+    ensures value { result ≡ word_count_at op place said.now }
     ensures within { place + result ≤ max 32768 (place + 1) }
 {
     match op {

@@ -2,7 +2,7 @@
 use Rattle.std.specs.Prelude.{Bool, true, false, Option, None}
 use Rattle.std.proofs.Common.{◌≡◌, ℕ, ◌+◌, ◌≤◌, List, length, refl, sym, ◌∙◌, ap, subst, arith}
 use Rattle.faults.specs.Faults.{WhereTold}
-use Rattle.track_store.specs.Tracks.{count_taken, Serves}
+use Rattle.track_store.specs.Tracks.{count_taken, ServesTracks}
 use Rattle.track_store.specs.Words.{record_at}
 use Rattle.file_tracks.specs.Stored.{occurs, IsDirectory, StandBeside, LeavesOthers}
 use Rattle.file_tracks.specs.Directories.{IsOne}
@@ -70,7 +70,7 @@ frees_both one two = record {
 }
 
 -- a disk that serves still does
-pub serves_still : (o o' : Option (List (List ℕ))) (count count' each each' n n' : ℕ) → Serves o count each n → o' ≡ o → count' ≡ count → each' ≡ each → n' ≡ n → Serves o' count' each' n'
+pub serves_still : (o o' : Option (List (List ℕ))) (count count' each each' n n' : ℕ) → ServesTracks o count each n → o' ≡ o → count' ≡ count → each' ≡ each → n' ≡ n → ServesTracks o' count' each' n'
 serves_still o o' count count' each each' n n' h same counts eachs many =
-    subst (λ (p : Option (List (List ℕ))). Serves p count' each' n') (sym same)
-    (subst (λ (k : ℕ). Serves o k each' n') (sym counts) (subst (λ (k : ℕ). Serves o count k n') (sym eachs) (subst (λ (k : ℕ). Serves o count each k) (sym many) h)))
+    subst (λ (p : Option (List (List ℕ))). ServesTracks p count' each' n') (sym same)
+    (subst (λ (k : ℕ). ServesTracks o k each' n') (sym counts) (subst (λ (k : ℕ). ServesTracks o count k n') (sym eachs) (subst (λ (k : ℕ). ServesTracks o count each k) (sym many) h)))

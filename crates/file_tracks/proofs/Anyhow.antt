@@ -6,7 +6,7 @@ use Rattle.std.proofs.lemmas.List.{length-replicate}
 use Rattle.std.proofs.lemmas.Bool.{cases_eq}
 use Rattle.faults.specs.Faults.{WhereTold}
 use Rattle.track_store.proofs.Taken.{taken_below}
-use Rattle.track_store.specs.Words.{record_at, joined}
+use Rattle.track_store.specs.Words.{record_at, tracks_joined}
 use Rattle.file_model.specs.Files.{tracks_of_words}
 use Rattle.file_tracks.specs.Places.{count_in}
 use Rattle.file_tracks.specs.Stored.{occurs, IsWhole, IsDirectory, MayBe}
@@ -41,8 +41,8 @@ module _ (told : Option (List (List ℕ))) (taken : List Bool) (quota used : ℕ
 
   -- contents in which these tracks of the files hold the words that were read
   pub any_span : (ts span : List ℕ) → ((t : ℕ) → count_in t ts ≤ occurs t fs) → length span ≡ 432 * length ts
-      → WhereTold told (λ r. span ≡ joined r ts)
-      → (contents : List (List ℕ)) × (MayBe told contents × (All (IsWhole contents) fs × (joined contents ts ≡ span)))
+      → WhereTold told (λ r. span ≡ tracks_joined r ts)
+      → (contents : List (List ℕ)) × (MayBe told contents × (All (IsWhole contents) fs × (tracks_joined contents ts ≡ span)))
   any_span ts span among len given = by_told told refl
     where
       nothing : List (List ℕ)
@@ -60,7 +60,7 @@ module _ (told : Option (List (List ℕ))) (taken : List Bool) (quota used : ℕ
         | inr more ↦ whole_rows nothing ts span once inside len t (some (count_in t ts) more)
       ]
 
-      by_told : (o : Option (List (List ℕ))) → told ≡ o → (contents : List (List ℕ)) × (MayBe o contents × (All (IsWhole contents) fs × (joined contents ts ≡ span)))
+      by_told : (o : Option (List (List ℕ))) → told ≡ o → (contents : List (List ℕ)) × (MayBe o contents × (All (IsWhole contents) fs × (tracks_joined contents ts ≡ span)))
       by_told None is = (set_all nothing ts span, (tt, (λ j f k t h. row_there t (let o = occurs_at t fs j f k in omega (arith, o, h)), joined_same nothing ts span once inside len)))
       by_told (Some r) is = (
         r,
@@ -68,7 +68,7 @@ module _ (told : Option (List (List ℕ))) (taken : List Bool) (quota used : ℕ
           refl,
           (
             subst (λ (x : Option (List (List ℕ))). WhereTold x (λ contents. All (IsWhole contents) fs)) is usable.whole,
-            sym (subst (λ (x : Option (List (List ℕ))). WhereTold x (λ r. span ≡ joined r ts)) is given),
+            sym (subst (λ (x : Option (List (List ℕ))). WhereTold x (λ r. span ≡ tracks_joined r ts)) is given),
           ),
         ),
       )

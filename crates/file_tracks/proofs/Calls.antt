@@ -11,8 +11,8 @@ use Rattle.file_map.specs.Known.{known_of}
 use Rattle.medium.specs.declared.medium.Medium.{Ghosts}
 use Rattle.track_store.specs.declared.store.TrackStore.{TrackStore}
 use Rattle.file_tracks.specs.Stored.{files_on, IsDirectory}
-use Rattle.file_tracks.specs.Seen.{tells_of, seen}
-use Rattle.file_tracks.specs.Kept.{IsPort, Goes}
+use Rattle.file_tracks.specs.Seen.{tells_of, files_seen}
+use Rattle.file_tracks.specs.Kept.{IsPort, CallsLeave}
 use Rattle.file_tracks.specs.Tracked.{Tracked, tracked, files_in, Writes, Frees, Retells, KeepsTracks}
 use Rattle.file_tracks.specs.declared.table.TrackTable.{TrackTable}
 use Rattle.file_tracks.proofs.Refusals.{reaches}
@@ -36,7 +36,7 @@ module _ (s s' : Tracked) (d d' : TrackTable) (failed failed' : Bool) (usable : 
       let r = w.ready ok in
       record { directory = r.directory; serves = r.serves; small = r.small; well = not_yes failed' (result ≡ Err Disk) fault ok }
 
-  pub writes_goes : (failed' ≡ false → ¬ IsErrOf result Disk) → Goes s.contents s'.contents s.taken s'.taken s.faults s'.faults d d' failed failed'
+  pub writes_goes : (failed' ≡ false → ¬ IsErrOf result Disk) → CallsLeave s.contents s'.contents s.taken s'.taken s.faults s'.faults d d' failed failed'
   writes_goes fine = record { quota = w.quota; rises = w.faults; after = λ well. (usable.well, w.after (fine well)) }
 
 -- a call that takes no track and gives none back, and writes none
@@ -53,7 +53,7 @@ module _ {F : Type 0} (g : Ghosts F) (a b : TrackStore F) (d : TrackTable) (fail
   }
 
   pub reads_goes : (failed' ≡ false → ¬ IsErrOf result Disk)
-      → Goes (tracked g a).contents (tracked g b).contents (tracked g a).taken (tracked g b).taken (tracked g a).faults (tracked g b).faults d d failed failed'
+      → CallsLeave (tracked g a).contents (tracked g b).contents (tracked g a).taken (tracked g b).taken (tracked g a).faults (tracked g b).faults d d failed failed'
   reads_goes fine = record {
     quota = refl;
     rises = k.faults;
@@ -66,7 +66,7 @@ module _ {F : Type 0} (g : Ghosts F) (a b : TrackStore F) (d d' : TrackTable) (f
   pub frees_left : (P : List FileBody → List FileBody → Type 0) → ((contents : List (List ℕ)) → P (files_on contents d.files.items) (files_on contents d'.files.items)) → P (files_in (tracked g a) d) (files_in (tracked g b) d')
   frees_left P h =
       let same = ap g.contents now in
-      subst (λ (o : Option (List (List ℕ))). P (files_in (tracked g a) d) (seen o d'.files.items)) (sym same)
+      subst (λ (o : Option (List (List ℕ))). P (files_in (tracked g a) d) (files_seen o d'.files.items)) (sym same)
       (with_both P (tracked g a).contents (tracked g a).taken (tracked g b).taken d.quota d.used d'.quota d'.used d.files.items d'.files.items usable.directory
       (subst (λ (o : Option (List (List ℕ))). IsDirectory o (tracked g b).taken d'.quota d'.used d'.files.items) same f.on) f.after.many h)
 
@@ -78,7 +78,7 @@ module _ {F : Type 0} (g : Ghosts F) (a b : TrackStore F) (d d' : TrackTable) (f
     well = usable.well;
   }
 
-  pub frees_goes : Goes (tracked g a).contents (tracked g b).contents (tracked g a).taken (tracked g b).taken (tracked g a).faults (tracked g b).faults d d' failed failed
+  pub frees_goes : CallsLeave (tracked g a).contents (tracked g b).contents (tracked g a).taken (tracked g b).taken (tracked g a).faults (tracked g b).faults d d' failed failed
   frees_goes = record { quota = f.quota; rises = le_of_eq (ap g.faults (sym now)); after = λ well. (usable.well, f.after) }
 
 -- a call of the table alone

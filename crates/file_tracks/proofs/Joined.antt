@@ -3,7 +3,7 @@ use Rattle.std.specs.Prelude.{Some, Bool, take, drop, if◌then◌else◌, slice
 use Rattle.std.proofs.Common.{◌≡◌, ◌≢◌, ℕ, suc, ◌+◌, ◌-◌, ◌*◌, ◌<◌, ◌≤◌, List, [], ◌∷◌, ◌++◌, length, refl, sym, ◌∙◌, ap, arith, length-set, length-drop, length-append, append_assoc, get_or-set_same, get_or-set_other, eq-eqb, ne_eqb, inl, inr}
 use Rattle.std.proofs.lemmas.Bool.{cases_eq}
 use Rattle.std.proofs.lemmas.List.{take-append-drop, nil_from_length, length-take-le}
-use Rattle.track_store.specs.Words.{record_at, joined, with_words}
+use Rattle.track_store.specs.Words.{record_at, tracks_joined, with_words}
 use Rattle.file_tracks.specs.Places.{count_in}
 
 -- records with words written into these tracks
@@ -32,7 +32,7 @@ other_row contents (x ∷ ts) ws t h =
     other_row (slice_set contents x (take 432 ws)) ts (drop 432 ws) t (omega (arith, k, h))
     ∙ get_or-set_other contents x t (take 432 ws) [] (λ e. not_head x t ts h (sym e))
 
-pub joined_other : (contents contents' : List (List ℕ)) (ts : List ℕ) → ((t : ℕ) → 1 ≤ count_in t ts → record_at contents' t ≡ record_at contents t) → joined contents' ts ≡ joined contents ts
+pub joined_other : (contents contents' : List (List ℕ)) (ts : List ℕ) → ((t : ℕ) → 1 ≤ count_in t ts → record_at contents' t ≡ record_at contents t) → tracks_joined contents' ts ≡ tracks_joined contents ts
 joined_other contents contents' [] h = refl
 joined_other contents contents' (x ∷ ts) h =
     let here = head_here x ts in
@@ -49,14 +49,14 @@ rest_len_too : (k n : ℕ) → k ≡ 432 * suc n → k - 432 ≡ 432 * n
 rest_len_too k n e = omega arith
 
 pub joined_same : (contents : List (List ℕ)) (ts ws : List ℕ) → ((t : ℕ) → count_in t ts ≤ 1) → ((t : ℕ) → 1 ≤ count_in t ts → t < length contents) → length ws ≡ 432 * length ts
-    → joined (set_all contents ts ws) ts ≡ ws
+    → tracks_joined (set_all contents ts ws) ts ≡ ws
 joined_same contents [] ws once within len = sym (nil_from_length ws len)
 joined_same contents (x ∷ ts) ws once within len =
     let here = head_here x ts in
     let inside : x < length contents = within x (omega (arith, here)) in
     let first : record_at (set_all contents (x ∷ ts) ws) x ≡ take 432 ws =
     other_row (slice_set contents x (take 432 ws)) ts (drop 432 ws) x (rest_once x ts once) ∙ get_or-set_same contents x (take 432 ws) [] inside in
-    let more : joined (set_all contents (x ∷ ts) ws) ts ≡ drop 432 ws =
+    let more : tracks_joined (set_all contents (x ∷ ts) ws) ts ≡ drop 432 ws =
     joined_same (slice_set contents x (take 432 ws)) ts (drop 432 ws)
     (λ t. let a = once t in let b = in_rest x t ts in omega (arith, a, b))
     (λ t some. let a = within t (let b = in_rest x t ts in omega (arith, b, some)) in let l = length-set contents x (take 432 ws) in omega (arith, a, l))
@@ -81,16 +81,16 @@ whole_rows contents (x ∷ ts) ws once within len t some = elim (cases_eq t x) [
       (length-drop 432 ws ∙ rest_len_too (length ws) (length ts) len) t (omega (arith, there, some))
 ]
 
-pub joined-append : (contents : List (List ℕ)) (ts us : List ℕ) → joined contents (ts ++ us) ≡ joined contents ts ++ joined contents us
+pub joined-append : (contents : List (List ℕ)) (ts us : List ℕ) → tracks_joined contents (ts ++ us) ≡ tracks_joined contents ts ++ tracks_joined contents us
 joined-append contents [] us = refl
-joined-append contents (t ∷ ts) us = ap (λ (ws : List ℕ). record_at contents t ++ ws) (joined-append contents ts us) ∙ sym (append_assoc (record_at contents t) (joined contents ts) (joined contents us))
+joined-append contents (t ∷ ts) us = ap (λ (ws : List ℕ). record_at contents t ++ ws) (joined-append contents ts us) ∙ sym (append_assoc (record_at contents t) (tracks_joined contents ts) (tracks_joined contents us))
 
 -- whole tracks have 432 words each
-pub joined-length : (contents : List (List ℕ)) (ts : List ℕ) → ((t : ℕ) → 1 ≤ count_in t ts → length (record_at contents t) ≡ 432) → length (joined contents ts) ≡ 432 * length ts
+pub joined-length : (contents : List (List ℕ)) (ts : List ℕ) → ((t : ℕ) → 1 ≤ count_in t ts → length (record_at contents t) ≡ 432) → length (tracks_joined contents ts) ≡ 432 * length ts
 joined-length contents [] h = refl
 joined-length contents (x ∷ ts) h =
     let here = head_here x ts in
     let a = h x (omega (arith, here)) in
     let b = joined-length contents ts (λ t some. h t (let k = in_rest x t ts in omega (arith, k, some))) in
-    let c = length-append (record_at contents x) (joined contents ts) in
+    let c = length-append (record_at contents x) (tracks_joined contents ts) in
     omega (arith, a, b, c)

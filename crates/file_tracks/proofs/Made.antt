@@ -15,7 +15,7 @@ use Rattle.file_map.proofs.Operations.{fits, over}
 use Rattle.file_map.proofs.Tracks.{tracks-cons}
 use Rattle.track_store.specs.Tracks.{count_taken}
 use Rattle.track_store.proofs.Taken.{taken_below}
-use Rattle.track_store.specs.Words.{record_at, joined, with_words}
+use Rattle.track_store.specs.Words.{record_at, tracks_joined, with_words}
 use Rattle.file_tracks.specs.Places.{count_in, bit}
 use Rattle.file_tracks.specs.Stored.{body_on, files_on, occurs, used_by, HasTracks, HasMode, IsWhole, MayBe, IsDirectory, StandBeside, LeavesOthers}
 use Rattle.file_tracks.specs.declared.table.Filed.{Filed}
@@ -74,7 +74,7 @@ module _ (contents : List (List ℕ)) (taken taken' : List Bool) (fs : List File
   not_new : (t : ℕ) → 1 ≤ occurs t fs → count_in t g.tracks.items ≡ 0
   not_new t some = let a = bits t in let b = bit_le taken' t in let c = once t in omega (arith, a, b, c, some)
 
-  new_words : joined after g.tracks.items ≡ padded
+  new_words : tracks_joined after g.tracks.items ≡ padded
   new_words = joined_same contents g.tracks.items padded new_once new_within long
 
   pub made_elsewhere : (others : ℕ → ℕ) → ((t : ℕ) → others t + occurs t fs ≡ bit taken t) → (t : ℕ) → 1 ≤ others t → record_at after t ≡ record_at contents t

@@ -3,21 +3,21 @@ use Rattle.std.specs.Prelude.{take, drop}
 use Rattle.std.proofs.Common.{◌≡◌, ℕ, ◌+◌, ◌-◌, ◌*◌, ◌/◌, ◌<◌, ◌≤◌, List, ◌++◌, length, sym, ◌∙◌, ap, arith, length-take, length-drop}
 use Rattle.std.proofs.lemmas.List.{take-append-drop, take-take, drop-take, take-append-le, drop-append-le}
 use Rattle.std.proofs.Math.Seq.{drop-append-add}
-use Rattle.track_store.specs.Words.{record_at, joined}
+use Rattle.track_store.specs.Words.{record_at, tracks_joined}
 use Rattle.file_tracks.specs.Places.{count_in}
 use Rattle.file_tracks.proofs.Joined.{joined-append, joined-length}
 use Rattle.file_tracks.proofs.Changes.{count_take, count_drop}
 
 pub read_part : (contents : List (List ℕ)) (ts : List ℕ) (w place count from to r : ℕ) → ((t : ℕ) → 1 ≤ count_in t ts → length (record_at contents t) ≡ 432) → w ≤ 432 * length ts → place + count ≤ w
     → place ≡ 432 * from + r → r < 432 → to ≡ (place + count + 431) / 432
-    → take count (drop r (joined contents (take (to - from) (drop from ts)))) ≡ take count (drop place (take w (joined contents ts)))
+    → take count (drop r (tracks_joined contents (take (to - from) (drop from ts)))) ≡ take count (drop place (take w (tracks_joined contents ts)))
 read_part contents ts w place count from to r whole enough inside at small last =
-    let ja : List ℕ = joined contents (take from ts) in
-    let m : List ℕ = joined contents (take (to - from) (drop from ts)) in
-    let c : List ℕ = joined contents (drop (to - from) (drop from ts)) in
-    let j : List ℕ = joined contents ts in
+    let ja : List ℕ = tracks_joined contents (take from ts) in
+    let m : List ℕ = tracks_joined contents (take (to - from) (drop from ts)) in
+    let c : List ℕ = tracks_joined contents (drop (to - from) (drop from ts)) in
+    let j : List ℕ = tracks_joined contents ts in
     let parts : j ≡ ja ++ (m ++ c) =
-    ap (joined contents) (sym (take-append-drop from ts) ∙ ap (λ (us : List ℕ). take from ts ++ us) (sym (take-append-drop (to - from) (drop from ts))))
+    ap (tracks_joined contents) (sym (take-append-drop from ts) ∙ ap (λ (us : List ℕ). take from ts ++ us) (sym (take-append-drop (to - from) (drop from ts))))
     ∙ joined-append contents (take from ts) (take (to - from) (drop from ts) ++ drop (to - from) (drop from ts))
     ∙ ap (λ (xs : List ℕ). ja ++ xs) (joined-append contents (take (to - from) (drop from ts)) (drop (to - from) (drop from ts))) in
     let la : length ja ≡ 432 * from =

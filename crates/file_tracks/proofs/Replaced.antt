@@ -11,7 +11,7 @@ use Rattle.file_model.specs.Files.{is_named, with_change}
 use Rattle.file_map.specs.Directory.{NamesDiffer}
 use Rattle.track_store.specs.Tracks.{is_taken}
 use Rattle.track_store.proofs.Taken.{taken_below}
-use Rattle.track_store.specs.Words.{record_at, joined}
+use Rattle.track_store.specs.Words.{record_at, tracks_joined}
 use Rattle.file_tracks.specs.Places.{count_in, bit}
 use Rattle.file_tracks.specs.Stored.{body_on, files_on, occurs, IsWhole}
 use Rattle.file_tracks.specs.declared.table.Filed.{Filed}
@@ -65,7 +65,7 @@ module _ (contents : List (List ℕ)) (taken taken' : List Bool) (fs : List File
   not_new t some none =
       let a = once t in let b = bit_le taken t in let c = bit_le taken' t in let e = swaps.bits t in omega (arith, a, b, c, e, some, none)
 
-  pub new_words : joined contents' g.tracks.items ≡ padded
+  pub new_words : tracks_joined contents' g.tracks.items ≡ padded
   new_words = joined_same contents g.tracks.items padded new_one new_within len
 
   pub files_are : files_on contents' (set fs i g) ≡ set (files_on contents fs) i (body_on contents' g)

@@ -10,7 +10,7 @@ use Rattle.file_map.specs.Directory.{NamesDiffer}
 use Rattle.std.specs.List.{AllByRecursion, IsDistinct}
 use Rattle.std.proofs.lemmas.Map.Keys.{IsDistinct-head, IsDistinct-tail}
 use Rattle.file_map.proofs.Names.{IsWithout, unchanged, same_comm, same_is}
-use Rattle.track_store.specs.Words.{record_at, joined}
+use Rattle.track_store.specs.Words.{record_at, tracks_joined}
 use Rattle.file_tracks.specs.Places.{count_in}
 use Rattle.file_tracks.specs.Stored.{content, body_on, files_on, occurs, used_by, HasTracks, IsWhole}
 use Rattle.file_tracks.specs.declared.table.Filed.{Filed}
@@ -115,7 +115,7 @@ used_at (f ∷ fs) (suc i) d h = let k = used_at fs i d (omega arith) in omega (
 -- a file's words are as many as it says
 pub content-length : (contents : List (List ℕ)) (f : Filed) → HasTracks f → IsWhole contents f → length (content contents f) ≡ f.words
 content-length contents f tracks whole =
-    length-take-le f.words (joined contents f.tracks.items) (enough _ _ _ (joined-length contents f.tracks.items whole) tracks)
+    length-take-le f.words (tracks_joined contents f.tracks.items) (enough _ _ _ (joined-length contents f.tracks.items whole) tracks)
   where
     enough : (n k w : ℕ) → n ≡ 432 * k → k ≡ tracks_of_words w → w ≤ n
     enough n k w e t = omega (arith, e, t)

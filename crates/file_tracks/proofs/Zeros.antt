@@ -5,18 +5,18 @@ use Rattle.std.proofs.Common.{◌≡◌, ℕ, ◌+◌, ◌*◌, ◌<◌, ◌≤�
 use Rattle.std.proofs.lemmas.List.{take-replicate, replicate-append-replicate, get_or-replicate, length-replicate}
 use Rattle.std.proofs.lemmas.List.Elements.{All-head, All-tail}
 use Rattle.faults.specs.Faults.{WhereTold}
-use Rattle.track_store.specs.Words.{record_at, joined}
+use Rattle.track_store.specs.Words.{record_at, tracks_joined}
 use Rattle.track_store.proofs.Taken.{taken_below}
 use Rattle.file_tracks.specs.Places.{count_in}
 use Rattle.file_tracks.specs.Stored.{content, files_on, HasTracks, IsWhole, IsDirectory, MayBe}
-use Rattle.file_tracks.specs.Seen.{blank_of, seen}
+use Rattle.file_tracks.specs.Seen.{blank_of, files_seen}
 use Rattle.file_tracks.specs.declared.table.Filed.{Filed}
 use Rattle.file_tracks.proofs.Joined.{head_here, in_rest}
 use Rattle.file_tracks.proofs.Replaced.{bit_taken}
 use Rattle.file_tracks.proofs.Tables.{occurs_at}
 use Rattle.file_tracks.proofs.Anyhow.{zeros, enough}
 
-joined_zeros : (n : ℕ) (ts : List ℕ) → ((t : ℕ) → 1 ≤ count_in t ts → t < n) → joined (zeros n) ts ≡ replicate (432 * length ts) 0
+joined_zeros : (n : ℕ) (ts : List ℕ) → ((t : ℕ) → 1 ≤ count_in t ts → t < n) → tracks_joined (zeros n) ts ≡ replicate (432 * length ts) 0
 joined_zeros n [] h = refl
 joined_zeros n (t ∷ ts) h =
     let here : record_at (zeros n) t ≡ replicate 432 0 = get_or-replicate n t (replicate 432 0) [] (h t (let k = head_here t ts in omega (arith, k))) in
@@ -65,7 +65,7 @@ module _ (taken : List Bool) (quota used : ℕ) (fs : List Filed) where
   rows_whole (Some r) usable = usable.whole
 
   -- with them the files are those that the port stands for
-  pub rows_seen : (told : Option (List (List ℕ))) → IsDirectory told taken quota used fs → files_on (rows_of told (length taken)) fs ≡ seen told fs
-  unfolding seen
+  pub rows_seen : (told : Option (List (List ℕ))) → IsDirectory told taken quota used fs → files_on (rows_of told (length taken)) fs ≡ files_seen told fs
+  unfolding files_seen
   rows_seen None usable = zeros_are (length taken) fs usable.tracked (within None usable)
   rows_seen (Some r) usable = refl

@@ -2,7 +2,7 @@
 use Rattle.std.specs.Prelude.{◌≡◌, refl, ℕ, ◌+◌, ◌≤◌, ◌<◌, Bool, false, List, length, Option, None, Some}
 use Rattle.std.proofs.Common.{◌∙◌, sym, arith, le_refl, le_trans, true≢false}
 use Rattle.faults.specs.Faults.{WhereTold}
-use Rattle.track_store.specs.Tracks.{count_taken, Serves}
+use Rattle.track_store.specs.Tracks.{count_taken, ServesTracks}
 use Rattle.track_store.specs.Words.{record_at}
 use Rattle.file_tracks.specs.Stored.{IsDirectory, StandBeside, LeavesOthers}
 use Rattle.file_tracks.specs.Seen.{tells_of}
@@ -11,7 +11,7 @@ use Rattle.file_tracks.specs.declared.table.TrackTable.{TrackTable}
 -- the disk serves the tracks, the directory stands on them, and no call of the disk has failed
 pub record IsPort (contents : Option (List (List ℕ))) (count each : ℕ) (taken : List Bool) (d : TrackTable) (failed : Bool) : Type 0 where
   pub directory : IsDirectory contents taken d.quota d.used d.files.items
-  pub serves : Serves contents count each (length taken)
+  pub serves : ServesTracks contents count each (length taken)
   pub small : d.quota < 65536
   pub well : failed ≡ false
 
@@ -23,7 +23,7 @@ pub record IsAfter (contents contents' : Option (List (List ℕ))) (taken taken'
   pub others : (others : ℕ → ℕ) → StandBeside others taken d.files.items → LeavesOthers contents contents' taken taken' d.files.items d'.files.items others
 
 -- what calls leave: as long as none has failed at the disk, all tracks elsewhere are as they were
-pub record Goes (contents contents' : Option (List (List ℕ))) (taken taken' : List Bool) (faults faults' : ℕ) (d d' : TrackTable) (failed failed' : Bool) : Type 0 where
+pub record CallsLeave (contents contents' : Option (List (List ℕ))) (taken taken' : List Bool) (faults faults' : ℕ) (d d' : TrackTable) (failed failed' : Bool) : Type 0 where
   pub quota : d'.quota ≡ d.quota
   pub rises : faults ≤ faults'
   pub after : failed' ≡ false → (failed ≡ false) × IsAfter contents contents' taken taken' d d'
@@ -62,10 +62,10 @@ after_both {a = a} {b = b} {c = c} one two = record {
       record { beside = y.beside; held = held_both a b c others one.telling x.held y.held });
 }
 
-pub goes_stays : (contents : Option (List (List ℕ))) (taken : List Bool) (faults : ℕ) (d : TrackTable) (failed : Bool) → Goes contents contents taken taken faults faults d d failed failed
+pub goes_stays : (contents : Option (List (List ℕ))) (taken : List Bool) (faults : ℕ) (d : TrackTable) (failed : Bool) → CallsLeave contents contents taken taken faults faults d d failed failed
 goes_stays contents taken faults d failed = record { quota = refl; rises = le_refl faults; after = λ well. (well, after_none contents taken d) }
 
-pub goes_both : {a b c : Option (List (List ℕ))} {s t u : List Bool} {k m n : ℕ} {d e f : TrackTable} {p q r : Bool} → Goes a b s t k m d e p q → Goes b c t u m n e f q r → Goes a c s u k n d f p r
+pub goes_both : {a b c : Option (List (List ℕ))} {s t u : List Bool} {k m n : ℕ} {d e f : TrackTable} {p q r : Bool} → CallsLeave a b s t k m d e p q → CallsLeave b c t u m n e f q r → CallsLeave a c s u k n d f p r
 goes_both one two = record {
   quota = two.quota ∙ one.quota;
   rises = le_trans one.rises two.rises;

@@ -2,13 +2,13 @@
 use Rattle.std.specs.Prelude.{◌≡◌, ℕ, ◌+◌, ◌≤◌, List, [], ◌∷◌, ◌++◌, length, take}
 use Rattle.ctss_types.specs.declared.file.FileBody.{FileBody}
 use Rattle.file_model.specs.Files.{tracks_of_words}
-use Rattle.track_store.specs.Words.{joined}
+use Rattle.track_store.specs.Words.{tracks_joined}
 use Rattle.file_tracks.specs.Places.{count_in}
 
 -- a file lies on these tracks: as many as its words take, and their words, joined and cut, are the file's
 pub record LiesOn (contents : List (List ℕ)) (f : FileBody) (tracks : List ℕ) : Type 0 where
   pub many : length tracks ≡ tracks_of_words (length f.words)
-  pub words : f.words ≡ take (length f.words) (joined contents tracks)
+  pub words : f.words ≡ take (length f.words) (tracks_joined contents tracks)
 
 -- each of these files lies on the tracks at its place
 abbrev pub EachLiesOn : List (List ℕ) → List FileBody → List (List ℕ) → Type 0

@@ -7,14 +7,14 @@ use Rattle.file_map.specs.declared.fault.PortFault.TheVariants.{Disk}
 use Rattle.medium.specs.Medium.{CallList}
 use Rattle.medium.specs.declared.medium.Medium.{Ghosts}
 use Rattle.track_store.specs.Words.{Gave}
-use Rattle.file_tracks.specs.Seen.{tells_of, seen}
-use Rattle.file_tracks.specs.Kept.{IsPort, Goes}
+use Rattle.file_tracks.specs.Seen.{tells_of, files_seen}
+use Rattle.file_tracks.specs.Kept.{IsPort, CallsLeave}
 use Rattle.file_tracks.specs.declared.port.TrackPort.{TrackPort}
 
 module _ {F : Type 0} (g : Ghosts F) where
   -- its files, as the disk tells them; whether the disk tells its records, its calls where told, and how many failed
   abbrev pub files_in : TrackPort F → List FileBody
-  files_in p = seen (g.contents p.store.now.disk.now) p.table.now.files.items
+  files_in p = files_seen (g.contents p.store.now.disk.now) p.table.now.files.items
 
   abbrev pub tells_in : TrackPort F → Bool
   tells_in p = tells_of (g.contents p.store.now.disk.now)
@@ -33,7 +33,7 @@ module _ {F : Type 0} (g : Ghosts F) where
   abbrev pub Keeps : TrackPort F → TrackPort F → Type 0
   Keeps a b =
       (a.table.ghost_name ≡ b.table.ghost_name) × (a.store.ghost_name ≡ b.store.ghost_name) × (a.store.now.disk.ghost_name ≡ b.store.now.disk.ghost_name)
-      × Goes (g.contents a.store.now.disk.now) (g.contents b.store.now.disk.now) a.store.now.tracks.taken.items b.store.now.tracks.taken.items
+      × CallsLeave (g.contents a.store.now.disk.now) (g.contents b.store.now.disk.now) a.store.now.tracks.taken.items b.store.now.tracks.taken.items
       (g.faults a.store.now.disk.now) (g.faults b.store.now.disk.now) a.table.now b.table.now a.has_failed b.has_failed
 
   -- Unless the disk failed, a call left the files as they were, the disk tells its records as before, and no call has failed there.

@@ -15,16 +15,16 @@ tells_of (Some contents) = true
 abbrev pub blank_of : Filed → FileBody
 blank_of f = record { name = f.name; mode = f.mode; words = replicate f.words 0 }
 
-unfoldable pub seen : Option (List (List ℕ)) → List Filed → List FileBody
-seen None fs = map blank_of fs
-seen (Some contents) fs = files_on contents fs
+unfoldable pub files_seen : Option (List (List ℕ)) → List Filed → List FileBody
+files_seen None fs = map blank_of fs
+files_seen (Some contents) fs = files_on contents fs
 
 blanks_stay : (fs : List Filed) → map blank (map blank_of fs) ≡ map blank_of fs
 blanks_stay [] = refl
 blanks_stay (f ∷ fs) = λ j. record { name = f.name; mode = f.mode; words = replicate (length-replicate {A = ℕ} f.words 0 j) 0 } ∷ blanks_stay fs j
 
 -- they are known as they stand
-pub seen_is_known : (told : Option (List (List ℕ))) (fs : List Filed) → known (tells_of told) (seen told fs) ≡ seen told fs
-unfolding known tells_of seen
+pub seen_is_known : (told : Option (List (List ℕ))) (fs : List Filed) → known (tells_of told) (files_seen told fs) ≡ files_seen told fs
+unfolding known tells_of files_seen
 seen_is_known None fs = blanks_stay fs
 seen_is_known (Some contents) fs = refl

@@ -11,13 +11,13 @@ use Rattle.file_map.specs.declared.fault.PortFault.{PortFault}
 use Rattle.file_map.specs.declared.port.ListingRow.{ListingRow}
 use Rattle.file_map.specs.Answers.{Leaves}
 use Rattle.track_store.specs.Tracks.{count_taken}
-use Rattle.track_store.specs.Words.{record_at, joined}
+use Rattle.track_store.specs.Words.{record_at, tracks_joined}
 use Rattle.file_tracks.specs.Places.{count_in, bit}
 use Rattle.file_tracks.specs.declared.table.Filed.{Filed}
 
 -- the words of a file: those of its tracks, joined and cut
 abbrev pub content : List (List ℕ) → Filed → List ℕ
-content contents f = take f.words (joined contents f.tracks.items)
+content contents f = take f.words (tracks_joined contents f.tracks.items)
 
 abbrev pub body_on : List (List ℕ) → Filed → FileBody
 body_on contents f = record { name = f.name; mode = f.mode; words = content contents f }

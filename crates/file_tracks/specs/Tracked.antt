@@ -10,10 +10,10 @@ use Rattle.ctss_types.specs.declared.file.Refusal.{Refusal}
 use Rattle.medium.specs.declared.medium.Medium.{Ghosts}
 use Rattle.file_map.specs.declared.fault.PortFault.{PortFault}
 use Rattle.file_map.specs.declared.fault.PortFault.TheVariants.{Disk}
-use Rattle.track_store.specs.Tracks.{Serves}
+use Rattle.track_store.specs.Tracks.{ServesTracks}
 use Rattle.track_store.specs.declared.store.TrackStore.{TrackStore}
 use Rattle.file_tracks.specs.Stored.{occurs, IsDirectory, LeavesAny}
-use Rattle.file_tracks.specs.Seen.{seen}
+use Rattle.file_tracks.specs.Seen.{files_seen}
 use Rattle.file_tracks.specs.Kept.{IsPort, IsAfter}
 use Rattle.file_tracks.specs.declared.table.TrackTable.{TrackTable}
 
@@ -39,11 +39,11 @@ module _ {F : Type 0} (g : Ghosts F) where
 
 -- the files of a directory, as the disk tells them
 abbrev pub files_in : Tracked → TrackTable → List FileBody
-files_in s d = seen s.contents d.files.items
+files_in s d = files_seen s.contents d.files.items
 
 -- the disk serves the tracks
 abbrev pub IsServed : Tracked → Type 0
-IsServed s = Serves s.contents s.count s.each (length s.taken)
+IsServed s = ServesTracks s.contents s.count s.each (length s.taken)
 
 -- a directory stands on the tracks
 abbrev pub IsOn : Tracked → TrackTable → Type 0

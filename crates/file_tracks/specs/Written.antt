@@ -3,7 +3,7 @@ use Rattle.std.specs.Prelude.{◌≡◌, ℕ, ◌+◌, ◌-◌, ◌*◌, ◌/◌
 use Rattle.faults.specs.Faults.{WhereTold}
 use Rattle.file_model.specs.Files.{overwritten}
 use Rattle.track_store.specs.Tracks.{count_taken}
-use Rattle.track_store.specs.Words.{joined, with_words}
+use Rattle.track_store.specs.Words.{tracks_joined, with_words}
 use Rattle.file_tracks.specs.Places.{count_in, bit}
 
 -- tracks that can be given back while so many are taken
@@ -35,7 +35,7 @@ to_track place count = (place + count + 431) / 432
 -- what tracks from one on to another hold, and zeros where there are fewer tracks
 abbrev pub held : List (List ℕ) → List ℕ → ℕ → ℕ → List ℕ
 held contents tracks from to =
-    joined contents (take (min to (length tracks) - from) (drop from tracks))
+    tracks_joined contents (take (min to (length tracks) - from) (drop from tracks))
     ++ replicate (432 * (to - from) - 432 * length (take (min to (length tracks) - from) (drop from tracks))) 0
 
 -- words from a place on fit into so many tracks, which are no fewer than these

@@ -5,7 +5,7 @@ ghost use Rattle.faults.specs.Faults.{WhereTold};
 ghost use Rattle.medium.specs.Medium.{AreWords};
 ghost use Rattle.file_model.specs.Files.{overwritten};
 ghost use Rattle.track_store.specs.Tracks.{is_taken};
-ghost use Rattle.track_store.specs.Words.{joined};
+ghost use Rattle.track_store.specs.Words.{tracks_joined};
 ghost use Rattle.file_tracks.specs.Tracked.{tracked, IsServed, KeepsTracks, Retakes};
 ghost use Rattle.file_tracks.specs.Written.{CanRetake, AreRetaken, AreWritten, FitsOver, AreWrittenOver};
 
@@ -65,7 +65,7 @@ fn patched<F: Medium>(
     ensures len { IfOk result (λ v. length v.items ≡ 432 * count) }
     ensures told { IfOk result (λ v. WhereTold (F.contents store.old.disk.now) (λ contents.
         v.items ≡ overwritten place words.now
-        (joined contents tracks.now ++ replicate (432 * count - 432 * length tracks.now) 0))) }
+        (tracks_joined contents tracks.now ++ replicate (432 * count - 432 * length tracks.now) 0))) }
 {
     let mut span = read_span(alloc, store, tracks)?;
     if span.resize(432 * count, 0).is_err() {

@@ -4,7 +4,7 @@ ghost use Rattle.std.specs.List.{All};
 ghost use Rattle.faults.specs.Faults.{WhereTold};
 ghost use Rattle.medium.specs.Medium.{AreWords};
 ghost use Rattle.track_store.specs.Tracks.{count_taken, is_taken};
-ghost use Rattle.track_store.specs.Words.{joined, with_words, Gave};
+ghost use Rattle.track_store.specs.Words.{tracks_joined, with_words, Gave};
 ghost use Rattle.file_tracks.specs.Places.{count_in, bit};
 ghost use Rattle.file_tracks.specs.Tracked.{tracked, IsServed, KeepsTracks};
 ghost use Rattle.file_tracks.specs.Written.{AreRetaken};
@@ -60,7 +60,7 @@ pub(crate) fn read_span<F: Medium>(
     ensures words { IfOk result (λ words. AreWords words.items) }
     ensures len { IfOk result (λ words. length words.items ≡ 432 * length tracks.now) }
     ensures given { IfOk result (λ words. WhereTold (F.contents store.old.disk.now)
-        (λ contents. words.items ≡ joined contents tracks.now)) }
+        (λ contents. words.items ≡ tracks_joined contents tracks.now)) }
     ensures gave { IfOk result (λ words. Gave (F.calls store.old.disk.now) (F.calls store.new.disk.now) words.items) }
 {
     let mut track_words = zeros(alloc, 432)?;

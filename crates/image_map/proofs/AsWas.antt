@@ -5,7 +5,7 @@ use Rattle.std.proofs.lemmas.Bool.{cases_eq}
 use Rattle.drum_slots.specs.Keys.{quota_of, key}
 use Rattle.drum_slots.specs.Slots.{slot_of, first_free}
 use Rattle.image_map.specs.Images.{size_of, IsImage}
-use Rattle.image_map.specs.Loads.{BlockMap, taken, emptied, load_one, load_to}
+use Rattle.image_map.specs.Loads.{BlockMap, block_taken, emptied, load_one, load_to}
 use Rattle.image_map.proofs.Moves.{eq_yes, eq_no, keys_apart}
 use Rattle.onion_swap.specs.Places.{owner_of, base_of}
 use Rattle.image_map.proofs.Calls.{emptied_none, emptied_some, load_one_other}
@@ -29,7 +29,7 @@ emptied_slot quotas bases h q k either = elim (cases_eq (owner_of h.owners q) 0)
   ]
 ]
 
-pub taken_slot : (quotas bases : List ℕ) (h : BlockMap) (u b k : ℕ) (o : Option ℕ) → k ≢ key quotas u b → slot_of (taken quotas bases h u b o).slots k ≡ slot_of h.slots k
+pub taken_slot : (quotas bases : List ℕ) (h : BlockMap) (u b k : ℕ) (o : Option ℕ) → k ≢ key quotas u b → slot_of (block_taken quotas bases h u b o).slots k ≡ slot_of h.slots k
 taken_slot quotas bases h u b k None away = refl
 taken_slot quotas bases h u b k (Some r) away = get_or-set_other h.slots (key quotas u b) k None None away
 
@@ -40,7 +40,7 @@ load_slot quotas bases h u b k away either = elim (cases_eq (owner_of h.owners (
   | inl mine ↦ let e : load_one quotas bases h u b ≡ h = rw (eq_yes _ _ mine) refl in ap (λ (i : BlockMap). slot_of i.slots k) e
   | inr other ↦
       let o = slot_of (emptied quotas bases h (base_of bases u + b)).slots (key quotas u b) in
-      let e : load_one quotas bases h u b ≡ taken quotas bases (emptied quotas bases h (base_of bases u + b)) u b o = rw (eq_no _ _ other) refl in
+      let e : load_one quotas bases h u b ≡ block_taken quotas bases (emptied quotas bases h (base_of bases u + b)) u b o = rw (eq_no _ _ other) refl in
       ap (λ (i : BlockMap). slot_of i.slots k) e ∙ taken_slot quotas bases (emptied quotas bases h (base_of bases u + b)) u b k o away ∙ emptied_slot quotas bases h (base_of bases u + b) k either
 ]
 
@@ -118,7 +118,7 @@ load_lengths quotas bases h u (suc n) =
       )
     ]
 
-    taken_lengths : (k : BlockMap) (b : ℕ) (o : Option ℕ) → (length (taken quotas bases k u b o).owners ≡ length k.owners) × (length (taken quotas bases k u b o).slots ≡ length k.slots)
+    taken_lengths : (k : BlockMap) (b : ℕ) (o : Option ℕ) → (length (block_taken quotas bases k u b o).owners ≡ length k.owners) × (length (block_taken quotas bases k u b o).slots ≡ length k.slots)
     taken_lengths k b None = (length-set k.owners (base_of bases u + b) u, refl)
     taken_lengths k b (Some r) = (length-set k.owners (base_of bases u + b) u, length-set k.slots (key quotas u b) None)
 
@@ -127,7 +127,7 @@ load_lengths quotas bases h u (suc n) =
       | inl mine ↦ let e : load_one quotas bases k u b ≡ k = rw (eq_yes _ _ mine) refl in (ap (λ (i : BlockMap). length i.owners) e, ap (λ (i : BlockMap). length i.slots) e)
       | inr other ↦
           let o = slot_of (emptied quotas bases k (base_of bases u + b)).slots (key quotas u b) in
-          let e : load_one quotas bases k u b ≡ taken quotas bases (emptied quotas bases k (base_of bases u + b)) u b o = rw (eq_no _ _ other) refl in
+          let e : load_one quotas bases k u b ≡ block_taken quotas bases (emptied quotas bases k (base_of bases u + b)) u b o = rw (eq_no _ _ other) refl in
           let t = taken_lengths (emptied quotas bases k (base_of bases u + b)) b o in
           let m = emptied_lengths k (base_of bases u + b) in
           (ap (λ (i : BlockMap). length i.owners) e ∙ t.0 ∙ m.0, ap (λ (i : BlockMap). length i.slots) e ∙ t.1 ∙ m.1)

@@ -10,7 +10,7 @@ use Rattle.drum_slots.specs.Slots.{slot_of, first_free}
 use Rattle.image_map.proofs.Moves.{eq_yes, eq_no}
 use Rattle.medium.specs.Medium.{read_call, write_call}
 use Rattle.onion_swap.specs.Places.{owner_of, base_of}
-use Rattle.image_map.specs.Loads.{BlockMap, dumped, emptied, put_to, put_calls_one, put_calls_to, taken, load_one, fetch_calls, dump_calls, load_to, calls_one, calls_to, with_calls, cut, FailedIn}
+use Rattle.image_map.specs.Loads.{BlockMap, dumped, emptied, put_to, put_calls_one, put_calls_to, block_taken, load_one, fetch_calls, dump_calls, load_to, calls_one, calls_to, with_calls, cut, FailedIn}
 
 pub with_calls-append : (told : Option CallList) (one two : List Call) → with_calls told (one ++ two) ≡ with_calls (with_calls told one) two
 with_calls-append told [] two = refl
@@ -81,7 +81,7 @@ fetch_failed quotas bases h u b ws old mid new hm qm other held same so_far is =
 
 -- a copy that there is was read
 pub fetched_map : (quotas bases : List ℕ) (h : BlockMap) (u b : ℕ) (o : Option ℕ) (now : BlockMap) → IsSome o → now.owners ≡ slice_set h.owners (base_of bases u + b) u
-    → now.slots ≡ slice_set h.slots (key quotas u b) None → ((at : ℕ) → o ≡ Some at → now.free ≡ slice_set h.free at true) → now ≡ taken quotas bases h u b o
+    → now.slots ≡ slice_set h.slots (key quotas u b) None → ((at : ℕ) → o ≡ Some at → now.free ≡ slice_set h.free at true) → now ≡ block_taken quotas bases h u b o
 fetched_map quotas bases h u b None now is owners slots free = let no : false ≡ true = is in absurd (cc)
 fetched_map quotas bases h u b (Some at) now is owners slots free = λ j. record { owners = owners j; slots = slots j; free = free at refl j }
 
@@ -207,7 +207,7 @@ put_failed_step quotas bases h u q n old mid new hm held so_far below fault =
     let here : FailedIn mid new step = subst (λ (k : BlockMap). FailedIn mid new (put_calls_one k u q)) held fault in
     subst (λ (l : List Call). FailedIn old new l) (sym more.1) (failed_left (front ++ step) more.0 old new (failed_right front step old mid new so_far here))
 
-taken_owners : (quotas bases : List ℕ) (h : BlockMap) (u b : ℕ) (o : Option ℕ) → (taken quotas bases h u b o).owners ≡ slice_set h.owners (base_of bases u + b) u
+taken_owners : (quotas bases : List ℕ) (h : BlockMap) (u b : ℕ) (o : Option ℕ) → (block_taken quotas bases h u b o).owners ≡ slice_set h.owners (base_of bases u + b) u
 taken_owners quotas bases h u b None = refl
 taken_owners quotas bases h u b (Some r) = refl
 
@@ -229,7 +229,7 @@ load_one_mine quotas bases h u b inside = elim (cases_eq (owner_of h.owners (bas
   | inl mine ↦ let e : load_one quotas bases h u b ≡ h = rw (eq_yes _ _ mine) refl in ap (λ (k : BlockMap). owner_of k.owners (base_of bases u + b)) e ∙ mine
   | inr other ↦
       let o = slot_of (emptied quotas bases h (base_of bases u + b)).slots (key quotas u b) in
-      let e : load_one quotas bases h u b ≡ taken quotas bases (emptied quotas bases h (base_of bases u + b)) u b o = rw (eq_no _ _ other) refl in
+      let e : load_one quotas bases h u b ≡ block_taken quotas bases (emptied quotas bases h (base_of bases u + b)) u b o = rw (eq_no _ _ other) refl in
       let here : base_of bases u + b < length (emptied quotas bases h (base_of bases u + b)).owners = omega (arith, emptied_length quotas bases h (base_of bases u + b)) in
       ap (λ (k : BlockMap). owner_of k.owners (base_of bases u + b)) e ∙ ap (λ (l : List ℕ). owner_of l (base_of bases u + b)) (taken_owners quotas bases (emptied quotas bases h (base_of bases u + b)) u b o) ∙ get_or-set_same (emptied quotas bases h (base_of bases u + b)).owners (base_of bases u + b) u 0 here
 ]
@@ -240,7 +240,7 @@ load_one_other quotas bases h u b r away = elim (cases_eq (owner_of h.owners (ba
   | inl mine ↦ let e : load_one quotas bases h u b ≡ h = rw (eq_yes _ _ mine) refl in ap (λ (k : BlockMap). owner_of k.owners r) e
   | inr other ↦
       let o = slot_of (emptied quotas bases h (base_of bases u + b)).slots (key quotas u b) in
-      let e : load_one quotas bases h u b ≡ taken quotas bases (emptied quotas bases h (base_of bases u + b)) u b o = rw (eq_no _ _ other) refl in
+      let e : load_one quotas bases h u b ≡ block_taken quotas bases (emptied quotas bases h (base_of bases u + b)) u b o = rw (eq_no _ _ other) refl in
       ap (λ (k : BlockMap). owner_of k.owners r) e ∙ ap (λ (l : List ℕ). owner_of l r) (taken_owners quotas bases (emptied quotas bases h (base_of bases u + b)) u b o)
       ∙ get_or-set_other (emptied quotas bases h (base_of bases u + b)).owners (base_of bases u + b) r u 0 away ∙ emptied_owners quotas bases h (base_of bases u + b) r away
 ]

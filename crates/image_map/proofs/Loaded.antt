@@ -13,7 +13,7 @@ use Rattle.onion_swap.proofs.Owned.{none_past}
 use Rattle.plan_model.specs.Loads.{Places, core_places, put_out, brought_in, given_up}
 use Rattle.plan_model.proofs.LoadLaws.{core_places_is}
 use Rattle.image_map.specs.Images.{size_of, IsImage, IsResident}
-use Rattle.image_map.specs.Loads.{BlockMap, block_map_of, taken, emptied, load_one, load_to, put_to}
+use Rattle.image_map.specs.Loads.{BlockMap, block_map_of, block_taken, emptied, load_one, load_to, put_to}
 use Rattle.image_map.specs.Places.{is_some, is_kept, places_of}
 use Rattle.image_map.proofs.Moves.{eq_yes, eq_no}
 use Rattle.image_map.proofs.Calls.{emptied_some}
@@ -138,10 +138,10 @@ none_there slots k r is = get_or-set_same slots k None None (slot_below slots k 
 one_mine : (quotas bases : List ℕ) (h : BlockMap) (u b : ℕ) → owner_of h.owners (base_of bases u + b) ≢ u → slot_of (load_one quotas bases h u b).slots (key quotas u b) ≡ None
 one_mine quotas bases h u b other =
     let o = slot_of (emptied quotas bases h (base_of bases u + b)).slots (key quotas u b) in
-    let e : load_one quotas bases h u b ≡ taken quotas bases (emptied quotas bases h (base_of bases u + b)) u b o = rw (eq_no _ _ other) refl in
+    let e : load_one quotas bases h u b ≡ block_taken quotas bases (emptied quotas bases h (base_of bases u + b)) u b o = rw (eq_no _ _ other) refl in
     ap (λ (i : BlockMap). slot_of i.slots (key quotas u b)) e ∙ gone (emptied quotas bases h (base_of bases u + b)) o refl
   where
-    gone : (k : BlockMap) (o : Option ℕ) → slot_of k.slots (key quotas u b) ≡ o → slot_of (taken quotas bases k u b o).slots (key quotas u b) ≡ None
+    gone : (k : BlockMap) (o : Option ℕ) → slot_of k.slots (key quotas u b) ≡ o → slot_of (block_taken quotas bases k u b o).slots (key quotas u b) ≡ None
     gone k None is = is
     gone k (Some r) is = none_there k.slots (key quotas u b) r is
 
@@ -153,7 +153,7 @@ one_theirs quotas bases h u b v c is other some at inside apart =
     let here : owner_of h.owners (base_of bases u + b) ≢ u = λ e. other (sym is ∙ e) in
     let owned : owner_of h.owners (base_of bases u + b) ≢ 0 = λ e. some (sym is ∙ e) in
     let block : base_of bases u + b - base_of bases v ≡ c = omega arith in
-    let e : load_one quotas bases h u b ≡ taken quotas bases (emptied quotas bases h (base_of bases u + b)) u b o = rw (eq_no _ _ here) refl in
+    let e : load_one quotas bases h u b ≡ block_taken quotas bases (emptied quotas bases h (base_of bases u + b)) u b o = rw (eq_no _ _ here) refl in
     ap (λ (i : BlockMap). slot_of i.slots (key quotas v c)) e
     ∙ taken_slot quotas bases (emptied quotas bases h (base_of bases u + b)) u b (key quotas v c) o apart
     ∙ ap (λ (i : BlockMap). slot_of i.slots (key quotas v c)) (emptied_some quotas bases h (base_of bases u + b) owned)

@@ -5,13 +5,13 @@ use Rattle.std.proofs.lemmas.Bool.{false≢true}
 use Rattle.medium.specs.Medium.{Call}
 use Rattle.medium.specs.declared.medium.Medium.{Ghosts}
 use Rattle.drum_slots.specs.Keys.{key}
-use Rattle.drum_slots.specs.Kept.{Serves}
+use Rattle.drum_slots.specs.Kept.{ServesSlots}
 use Rattle.drum_slots.specs.Slots.{slot_of}
 use Rattle.drum_slots.specs.Table.{records_of, record_of}
 use Rattle.drum_slots.specs.declared.table.SlotTable.{SlotTable}
 use Rattle.onion_swap.specs.Places.{owner_of, base_of}
 use Rattle.image_map.specs.Image.{state}
-use Rattle.image_map.specs.Loads.{BlockMap, dumped, emptied, dump_calls, fetch_calls, taken, load_one, calls_one, with_calls, FailedIn}
+use Rattle.image_map.specs.Loads.{BlockMap, dumped, emptied, dump_calls, fetch_calls, block_taken, load_one, calls_one, with_calls, FailedIn}
 use Rattle.image_map.specs.Moves.{Move, a_dump, a_fetch, a_loading, CanMove, Holds, AreMoved, StopsIn, TakesBlank}
 use Rattle.image_map.specs.State.{ImageState, base, block_map_in}
 use Rattle.image_map.specs.declared.image.Image.{Image}
@@ -80,11 +80,11 @@ loading_done old mid new u b words other is came =
     let ws : List ℕ = words (base s u + b) in
     let gone : BlockMap = emptied quotas s.layout.bases h (base s u + b) in
     let rest : List Call = fetch_calls (slot_of gone.slots (key quotas u b)) ws in
-    let one : load_one quotas s.layout.bases h u b ≡ taken quotas s.layout.bases gone u b (slot_of gone.slots (key quotas u b)) = rw (eq_no _ _ other) refl in
+    let one : load_one quotas s.layout.bases h u b ≡ block_taken quotas s.layout.bases gone u b (slot_of gone.slots (key quotas u b)) = rw (eq_no _ _ other) refl in
     let made : calls_one quotas s.layout.bases h u b ws ≡ dump_calls h (base s u + b) ++ rest = rw (eq_no _ _ other) refl in
     record {
       block_map = came.block_map
-          ∙ (λ j. taken (is.holds.quotas j).items (is.bases j) (is.moved.block_map j) u b
+          ∙ (λ j. block_taken (is.holds.quotas j).items (is.bases j) (is.moved.block_map j) u b
           (slot_of (is.moved.block_map j).slots (key (is.holds.quotas j).items u b)))
           ∙ sym one;
       images = λ v some. came.images v some ∙ is.moved.images v some;
@@ -121,10 +121,10 @@ pub blank_moves : {D : Type 0} {g : Ghosts D} (old new : Image D g) (u b : ℕ) 
 blank_moves {g = g} old new u b words none came =
     let s = state old in
     let h : BlockMap = block_map_in s in
-    let now : block_map_in (state new) ≡ taken s.slots.quotas.items s.layout.bases h u b None =
+    let now : block_map_in (state new) ≡ block_taken s.slots.quotas.items s.layout.bases h u b None =
     λ j. record { owners = came.owners j; slots = (came.table j).slots.slots.items; free = (came.table j).slots.free.items } in
     record {
-      block_map = now ∙ ap (λ (o : Option ℕ). taken s.slots.quotas.items s.layout.bases h u b o) (sym none);
+      block_map = now ∙ ap (λ (o : Option ℕ). block_taken s.slots.quotas.items s.layout.bases h u b o) (sym none);
       images = came.images;
       calls = (λ j. g.calls (came.table j).drum.now) ∙ ap (λ (o : Option ℕ). with_calls s.drum.calls (fetch_calls o words)) (sym none);
     }
@@ -132,7 +132,7 @@ blank_moves {g = g} old new u b words none came =
 pub blank_holds : {D : Type 0} {g : Ghosts D} (a old new : Image D g) (u b : ℕ) → Holds a old → TakesBlank u b old new → Holds a new
 blank_holds {D = D} {g = g} a old new u b h came = record {
   same = (λ j. (came.table j).drum.ghost_name) ∙ h.same;
-  serves = subst (λ (k : SlotTable D). Serves (g.contents k.drum.now) (g.record_count k.drum.now) (g.words_each k.drum.now) (records_of k.slots))
+  serves = subst (λ (k : SlotTable D). ServesSlots (g.contents k.drum.now) (g.record_count k.drum.now) (g.words_each k.drum.now) (records_of k.slots))
       (sym came.table) h.serves;
   quotas = (λ j. (came.table j).slots.quotas) ∙ h.quotas;
   sizes = came.sizes ∙ h.sizes;

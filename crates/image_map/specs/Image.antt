@@ -6,8 +6,8 @@ use Rattle.image_map.specs.declared.image.Image.{Image}
 use Rattle.image_map.specs.State.{DrumState, ImageState}
 
 -- what is seen of a drum that is lent
-abbrev pub seen : {D : Type 0} → Ghosts D → MutBor D → DrumState
-seen g drum = record {
+abbrev pub drum_seen : {D : Type 0} → Ghosts D → MutBor D → DrumState
+drum_seen g drum = record {
   name = drum.ghost_name;
   contents = g.contents drum.now;
   count = g.record_count drum.now;
@@ -24,7 +24,7 @@ module _ {D : Type 0} {g : Ghosts D} where
     slots = it.tables.kept.slots;
     sizes = it.tables.sizes.items;
     words = it.bank;
-    drum = seen g it.tables.kept.drum;
+    drum = drum_seen g it.tables.kept.drum;
   }
 
   -- the drum's own value

@@ -42,9 +42,9 @@ put_calls_to quotas bases h u zero = []
 put_calls_to quotas bases h u (suc q) = put_calls_to quotas bases h u q ++ put_calls_one (put_to quotas bases h u q) u q
 
 -- the second part: user u takes the place of its block; its copy, if it has one, is kept no more and its record is free
-abbrev pub taken : (quotas bases : List ℕ) → BlockMap → ℕ → ℕ → Option ℕ → BlockMap
-taken quotas bases h u b None = record { owners = slice_set h.owners (base_of bases u + b) u; slots = h.slots; free = h.free }
-taken quotas bases h u b (Some r) = record {
+abbrev pub block_taken : (quotas bases : List ℕ) → BlockMap → ℕ → ℕ → Option ℕ → BlockMap
+block_taken quotas bases h u b None = record { owners = slice_set h.owners (base_of bases u + b) u; slots = h.slots; free = h.free }
+block_taken quotas bases h u b (Some r) = record {
   owners = slice_set h.owners (base_of bases u + b) u;
   slots = slice_set h.slots (key quotas u b) None;
   free = slice_set h.free r true;
@@ -58,7 +58,7 @@ emptied quotas bases h q = if nat_eq (owner_of h.owners q) 0 then h else dumped 
 abbrev pub load_one : (quotas bases : List ℕ) → BlockMap → ℕ → ℕ → BlockMap
 load_one quotas bases h u b =
     if nat_eq (owner_of h.owners (base_of bases u + b)) u then h
-    else taken quotas bases (emptied quotas bases h (base_of bases u + b)) u b (slot_of (emptied quotas bases h (base_of bases u + b)).slots (key quotas u b))
+    else block_taken quotas bases (emptied quotas bases h (base_of bases u + b)) u b (slot_of (emptied quotas bases h (base_of bases u + b)).slots (key quotas u b))
 
 -- the blocks below n are loaded, in rising order
 abbrev pub load_to : (quotas bases : List ℕ) → BlockMap → ℕ → ℕ → BlockMap

@@ -5,13 +5,13 @@ use Rattle.faults.specs.Faults.{Rose}
 use Rattle.medium.specs.Medium.{Call, write_call}
 use Rattle.medium.specs.declared.medium.Medium.{Ghosts}
 use Rattle.core_bank.specs.Bank.{AreWords, block_at}
-use Rattle.drum_slots.specs.Kept.{Serves}
+use Rattle.drum_slots.specs.Kept.{ServesSlots}
 use Rattle.drum_slots.specs.Table.{records_of, next_of, record_of}
 use Rattle.onion_swap.specs.Places.{owner_of}
 use Rattle.plan_model.specs.Loads.{base_for}
 use Rattle.plan_model.specs.Loads.{stays as stays_at}
 use Rattle.image_map.specs.Image.{state}
-use Rattle.image_map.specs.Loads.{BlockMap, dumped, put_one, put_to, put_calls_one, put_calls_to, taken, fetch_calls, load_one, load_to, calls_one, calls_to, map_before, bases_before, calls_before, with_calls, FailedIn}
+use Rattle.image_map.specs.Loads.{BlockMap, dumped, put_one, put_to, put_calls_one, put_calls_to, block_taken, fetch_calls, load_one, load_to, calls_one, calls_to, map_before, bases_before, calls_before, with_calls, FailedIn}
 use Rattle.image_map.specs.State.{ImageState, image, size, base, places_in, block_map_in}
 use Rattle.image_map.specs.declared.image.Image.{Image}
 
@@ -30,7 +30,7 @@ a_dump s owner place = record {
 -- the copy of a user's block, if there is one, comes into core; it has these words
 abbrev pub a_fetch : ImageState → ℕ → ℕ → List ℕ → Move
 a_fetch s user block words = record {
-  to = taken s.slots.quotas.items s.layout.bases (block_map_in s) user block (record_of s.slots user block);
+  to = block_taken s.slots.quotas.items s.layout.bases (block_map_in s) user block (record_of s.slots user block);
   calls = fetch_calls (record_of s.slots user block) words;
 }
 
@@ -81,7 +81,7 @@ module _ {D : Type 0} {g : Ghosts D} where
   -- Blocks can be moved: the words of core are words, and the drum serves the slots.
   pub record CanMove (it : Image D g) : Type 0 where
     pub words : AreWords it.bank
-    pub serves : Serves (state it).drum.contents (state it).drum.count (state it).drum.each (records_of (state it).slots)
+    pub serves : ServesSlots (state it).drum.contents (state it).drum.count (state it).drum.each (records_of (state it).slots)
 
   -- A user has a block, and its place lies in core and is nobody's.
   pub record IsVacant (user block : ℕ) (it : Image D g) : Type 0 where
@@ -102,14 +102,14 @@ module _ {D : Type 0} {g : Ghosts D} where
   -- in core. The count of the drum's faults doesn't fall.
   pub record Holds (old new : Image D g) : Type 0 where
     pub same : (state new).drum.name ≡ (state old).drum.name
-    pub serves : Serves (state new).drum.contents (state new).drum.count (state new).drum.each (records_of (state new).slots)
+    pub serves : ServesSlots (state new).drum.contents (state new).drum.count (state new).drum.each (records_of (state new).slots)
     pub quotas : (state new).slots.quotas ≡ (state old).slots.quotas
     pub sizes : new.tables.sizes ≡ old.tables.sizes
     pub usable : new.failed ≡ old.failed
     pub words : AreWords new.bank
     pub faults_grow : (state old).drum.faults ≤ (state new).drum.faults
 
-  -- Blocks were moved: the block map is that behind the move, just its calls of the drum were made, and every user's image stays.
+  -- Blocks were moved: the block map is that after the move, just its calls of the drum were made, and every user's image stays.
   pub record AreMoved (move : Move) (old new : Image D g) : Type 0 where
     pub block_map : block_map_in (state new) ≡ move.to
     pub images : (u : ℕ) → 1 ≤ u → image (state new) u ≡ image (state old) u

@@ -4,7 +4,7 @@ use Rattle.std.specs.Borrow.{GName}
 use Rattle.faults.specs.Faults.{Rose}
 use Rattle.medium.specs.Medium.{Call, CallList}
 use Rattle.core_bank.specs.Bank.{AreWords, block_at}
-use Rattle.drum_slots.specs.Kept.{Serves}
+use Rattle.drum_slots.specs.Kept.{ServesSlots}
 use Rattle.drum_slots.specs.Table.{records_of, quota_in, slots_of}
 use Rattle.drum_slots.specs.Slots.{slot_of}
 use Rattle.drum_slots.specs.declared.slots.Slots.{Slots}
@@ -78,7 +78,7 @@ calls_of old new user =
 pub record IsUsable (s : ImageState) : Type 0 where
   pub going : s.failed ≡ false
   pub words : AreWords s.words
-  pub serves : Serves s.drum.contents s.drum.count s.drum.each (records_of s.slots)
+  pub serves : ServesSlots s.drum.contents s.drum.count s.drum.each (records_of s.slots)
 
 -- images of which no user has any block
 abbrev pub first_state : DrumState → Slots → List ℕ → List ℕ → ImageState
@@ -119,7 +119,7 @@ pub record Replaces (user blocks : ℕ) (old new : ImageState) : Type 0 where
 -- what stays in a load, whether or not the drum fails, and how many calls of the drum it asks for
 pub record LoadKeeps (user : ℕ) (old new : ImageState) : Type 0 where
   pub drum : new.drum.name ≡ old.drum.name
-  pub serves : Serves new.drum.contents new.drum.count new.drum.each (records_of new.slots)
+  pub serves : ServesSlots new.drum.contents new.drum.count new.drum.each (records_of new.slots)
   pub quotas : new.slots.quotas ≡ old.slots.quotas
   pub sizes : new.sizes ≡ old.sizes
   pub words : AreWords new.words

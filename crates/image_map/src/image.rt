@@ -2,7 +2,7 @@
 ghost use Rattle.std.specs.Prelude.{◌≡◌, ◌≢◌, ◌⊎◌, ◌<◌, ◌≤◌, ◌+◌, ◌↔◌, ℕ, [], length, sum, true, false, None, replicate, IfOk, OnOk, IsSome, IsTrue};
 ghost use Rattle.std.specs.List.{All};
 ghost use Rattle.core_bank.specs.Bank.{AreWords, block_at};
-ghost use Rattle.drum_slots.specs.Kept.{Serves};
+ghost use Rattle.drum_slots.specs.Kept.{ServesSlots};
 ghost use Rattle.drum_slots.specs.Slots.{slot_of};
 ghost use Rattle.drum_slots.specs.Table.{slots_of, quota_in, record_of};
 ghost use Rattle.onion_swap.specs.Places.{owner_of};
@@ -56,7 +56,7 @@ struct Tables<'a, D: Medium> {
 
 impl<'a, D: Medium> Image<'a, D> {
     ghost use Rattle.image_map.specs.State.{size, base, quota, places_in, first_state, IsFirst};
-    ghost use Rattle.image_map.specs.Image.{state, seen, drum_of};
+    ghost use Rattle.image_map.specs.Image.{state, drum_seen, drum_of};
 
     /// Images of users 1, 2, 3 and on with these quotas, in blocks, over the first `records` records
     /// of a drum. All sizes are 0, and no call of the drum is made.
@@ -72,9 +72,9 @@ impl<'a, D: Medium> Image<'a, D> {
         requires few { length quotas.now ≤ 30 }
         requires limit { All (λ quota. quota ≤ 128) quotas.now }
         requires fits { sum quotas.now ≤ records }
-        requires serves { Serves (D.contents drum.old) (D.record_count drum.old)
+        requires serves { ServesSlots (D.contents drum.old) (D.record_count drum.old)
             (D.words_each drum.old) records }
-        ensures first { IfOk result (λ i. IsFirst (seen D.Medium drum.entry) quotas.now (state i)) }
+        ensures first { IfOk result (λ i. IsFirst (drum_seen D.Medium drum.entry) quotas.now (state i)) }
         ensures drum { IfOk result (λ i. drum_of i ≡ drum.old) }
     {
         let sizes = no_sizes(alloc, quotas.len())?;
@@ -89,7 +89,7 @@ impl<'a, D: Medium> Image<'a, D> {
         requires few { length slots.quotas.items ≤ 31 }
         requires limit { (u : ℕ) → quota_in slots u ≤ 128 }
         requires sizes { sizes.items ≡ replicate (length slots.quotas.items) 0 }
-        ensures first { state result ≡ first_state (seen D.Medium drum.entry) slots bank sizes.items }
+        ensures first { state result ≡ first_state (drum_seen D.Medium drum.entry) slots bank sizes.items }
         ensures drum { drum_of result ≡ drum.old }
     {
         let tables = Tables {
@@ -106,7 +106,7 @@ impl<'a, D: Medium> Image<'a, D> {
 
     /// Ends the images and gives the drum back.
     pub fn back(self) -> &'a mut D
-        ensures seen { seen D.Medium result ≡ (state self.entry).drum }
+        ensures seen { drum_seen D.Medium result ≡ (state self.entry).drum }
         ensures drum { result.now ≡ drum_of self.entry }
     {
         let Image {

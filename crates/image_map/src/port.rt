@@ -62,7 +62,8 @@ impl MemoryPort for Port<'_> {
 
     ghost goes_on = { λ a b c one two. (two.0 ∙ one.0, two.1 ∙ one.1, two.2 ∙ one.2, two.3 ∙ one.3, two.4 ∙ one.4) };
 
-    ghost same_size = { λ a b same. same_length b.base a.base b.blocks a.blocks b.bank.now a.bank.now b.whole a.whole same.1 same.2 };
+    ghost same_size = { λ a b same. same_length b.base a.base b.blocks a.blocks b.bank.now a.bank.now b.whole a.whole
+        same.1 same.2 };
 
     fn size(&self) -> u8 {
         self.blocks

@@ -92,14 +92,14 @@ abbrev pub entry_fault : Relocated → Moved → List (List ℕ) → List ℕ �
 entry_fault r m before card = if is_marked card then 2 else entry_fault_of r m before (field_symbol card)
 
 -- the symbols of cards and EXTERNs so far, with what is known
-abbrev pub seen : Moved → List (List ℕ) → Known
-seen m before =
+abbrev pub symbols_seen : Moved → List (List ℕ) → Known
+symbols_seen m before =
     record { place = m.known.place; symbols = m.known.symbols ++ with_externs (named_by (codes "EXTERN") before) [] }
 
 abbrev pub extern_fault_of : Moved → List (List ℕ) → Option ℕ → ℕ
 extern_fault_of m before None = 2
 extern_fault_of m before (Some name) =
-    if not (is_none (value_in (seen m before).symbols name)) then 4
+    if not (is_none (value_in (symbols_seen m before).symbols name)) then 4
     else (if is_over (codes "EXTERN") m before then 5 else 0)
 
 abbrev pub extern_fault : Moved → List (List ℕ) → List ℕ → ℕ
@@ -120,9 +120,9 @@ abbrev pub plain_fault : Option Operation → Relocated → Moved → List (List
 plain_fault None r m before card = 1
 plain_fault (Some end) r m before card =
     fault_with r.whole.names (length r.whole.literals + 1)
-    (is_none (card_kind end r m card) || start_is_outside r.whole m.known (field_for end card)) (seen m before) end card (field_for end card)
+    (is_none (card_kind end r m card) || start_is_outside r.whole m.known (field_for end card)) (symbols_seen m before) end card (field_for end card)
 plain_fault (Some o) r m before card =
-    fault_with (names_of o r m) 1 (is_none (card_kind o r m card)) (seen m before) o card (field_for o card)
+    fault_with (names_of o r m) 1 (is_none (card_kind o r m card)) (symbols_seen m before) o card (field_for o card)
 
 -- the least fault of a card, 0 where there is none
 abbrev pub module_fault : Relocated → Moved → List (List ℕ) → List ℕ → ℕ

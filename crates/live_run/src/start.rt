@@ -1,10 +1,10 @@
 //! The start of a run.
 ghost use Rattle.std.specs.Prelude.{◌≡◌, ◌≤◌, IfOk, OnOk, IsErrOf, is_some, map};
 ghost use Rattle.faults.specs.Faults.{Rose};
-ghost use Rattle.drum_slots.specs.Kept.{Serves};
-ghost use Rattle.track_store.specs.Tracks.{Serves as Holds};
+ghost use Rattle.drum_slots.specs.Kept.{ServesSlots};
+ghost use Rattle.track_store.specs.Tracks.{ServesTracks};
 ghost use Rattle.track_directories.specs.Tables.{disk_of, shown, Sound};
-ghost use Rattle.image_map.specs.Image.{state, seen};
+ghost use Rattle.image_map.specs.Image.{state, drum_seen};
 ghost use Rattle.text_model.specs.Lawful.{IsLawful};
 ghost use Rattle.supervisor.specs.Whole.{whole_of};
 ghost use Rattle.live_run.specs.Media.{media_seen};
@@ -76,7 +76,7 @@ fn directories_of<'d, F: Medium>(
 ) -> FirstFiles<'d, F>
     requires lawful { IsLawful script.now }
     requires empty { AreFor script.now empty }
-    requires serves { Holds (F.contents disk.old) (F.record_count disk.old) (F.words_each disk.old) 10000 }
+    requires serves { ServesTracks (F.contents disk.old) (F.record_count disk.old) (F.words_each disk.old) 10000 }
     ensures disk { (disk_of result.files).ghost_name ≡ disk.entry.ghost_name }
     ensures usable { ¬ IsErrOf result.wrote StepFault.Disk
         → Sound F.Medium result.files }
@@ -109,9 +109,9 @@ pub fn begin<'a, 'd, D: Medium, F: Medium>(
 ) -> Begun<'a, 'd, D, F>
     requires new { IsNew script.now new }
     requires lawful { IsLawful script.now }
-    requires drum { Serves (D.contents drum.old) (D.record_count drum.old) (D.words_each drum.old) 3840 }
-    requires disk { Holds (F.contents disk.old) (F.record_count disk.old) (F.words_each disk.old) 10000 }
-    ensures drum { (state result.run.cores.cores).drum.name ≡ (seen D.Medium drum.entry).name }
+    requires drum { ServesSlots (D.contents drum.old) (D.record_count drum.old) (D.words_each drum.old) 3840 }
+    requires disk { ServesTracks (F.contents disk.old) (F.record_count disk.old) (F.words_each disk.old) 10000 }
+    ensures drum { (state result.run.cores.cores).drum.name ≡ (drum_seen D.Medium drum.entry).name }
     ensures disk { (disk_of result.run.cores.files).ghost_name ≡ disk.entry.ghost_name }
     ensures usable { ¬ IsErrOf result.wrote StepFault.Disk
         → ⟦<Behind<'a, 'd, D, F> as user_cores::Backing>⟧.Usable result.run.cores }

@@ -118,7 +118,7 @@ module _ (base : Script) (was : MediaSeen) {port count : ℕ} {place : CutAt} {x
   abbrev limit : ℕ
   limit = 1000 * (length talk.turns + 1)
 
-  -- steps behind the events of this turn
+  -- steps after the events of this turn
   steps_as : was.tells ≡ true → (b given : Whole) → Follows (heard_in 0 given_before) a b → run_over given ≡ with_all_events talk.events (run_over b) → (r : Run) → AfterSteps limit (run_over given) r → StepsInTurn base talk r
   steps_as told b given behind is r part = subst (λ (q : Run). AfterSteps limit q r) (is ∙ ap (with_all_events talk.events) (run_behind base was talk.turns a b begins was_is told behind).0) part
 

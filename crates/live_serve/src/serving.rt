@@ -1,8 +1,8 @@
 //! Live consoles over drum, disk and a link.
 ghost use Rattle.std.specs.Prelude.{◌≡◌, ◌≢◌, ◌≤◌, false, Err, IfOk, OnOk, OnErr, IsErrOf};
 ghost use Rattle.faults.specs.Faults.{Rose};
-ghost use Rattle.drum_slots.specs.Kept.{Serves};
-ghost use Rattle.track_store.specs.Tracks.{Serves as Holds};
+ghost use Rattle.drum_slots.specs.Kept.{ServesSlots};
+ghost use Rattle.track_store.specs.Tracks.{ServesTracks};
 ghost use Rattle.ctss_types.specs.declared.script.Script.{Script};
 ghost use Rattle.text_model.specs.Lawful.{IsLawful};
 ghost use Rattle.plan_model.specs.Loads.{no_places};
@@ -152,8 +152,8 @@ pub fn serve<D: Medium, F: Medium, L: Link>(
 ) -> Result<Served, ServingFault>
     requires lawful { IsLawful base.now }
     requires turns { listening.turns ≤ 100000 }
-    requires drum { Serves (D.contents drum.old) (D.record_count drum.old) (D.words_each drum.old) 3840 }
-    requires disk { Holds (F.contents disk.old) (F.record_count disk.old) (F.words_each disk.old) 10000 }
+    requires drum { ServesSlots (D.contents drum.old) (D.record_count drum.old) (D.words_each drum.old) 3840 }
+    requires disk { ServesTracks (F.contents disk.old) (F.record_count disk.old) (F.words_each disk.old) 10000 }
     ensures served { IfOk result (IsServed base.now listening.port listening.turns
         (media_seen D.Medium F.Medium drum.old disk.old) (media_seen D.Medium F.Medium drum.new disk.new)
         (L.seen link.old) (L.seen link.new)) }

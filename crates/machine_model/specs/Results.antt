@@ -18,7 +18,7 @@ Keeps Went r s core d = Unit {0}
 Keeps Halt r s core d = d ≡ core
 
 -- an operation that doesn't halt
-abbrev pub Goes : OpEnd → Type 0
-Goes Went = Unit {0}
-Goes Halt = ⊥
-Goes (Outside a) = Unit {0}
+abbrev pub DoesNotHalt : OpEnd → Type 0
+DoesNotHalt Went = Unit {0}
+DoesNotHalt Halt = ⊥
+DoesNotHalt (Outside a) = Unit {0}

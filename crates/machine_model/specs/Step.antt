@@ -24,8 +24,8 @@ abbrev pub at : List ℕ → ℕ → (ℕ → Step) → Step
 at core y f = if nat_lt y (length core) then f (slice_index core y) else outside y
 
 -- to the next instruction
-abbrev pub next : Regs → List ℕ → Step
-next r core = went (skip 1 r) core
+abbrev pub to_next : Regs → List ℕ → Step
+to_next r core = went (skip 1 r) core
 
 -- another word at y, and to the next instruction
 abbrev pub put : List ℕ → ℕ → Regs → ℕ → Step

@@ -163,10 +163,7 @@ made_is_lawful n =
     let few : user_count n ≤ 30 = few_users n in
     record {
       range = made_in_range n;
-      level = omega arith;
-      quantum = omega arith;
-      disk = omega arith;
-      age = omega arith;
+      params = refl;
       fits = omega (arith, tracks_of_accounts (user_count n) 1);
       accounts = accounts_are_lawful (user_count n) 1 (omega arith);
       differ = names_differ (user_count n) few;

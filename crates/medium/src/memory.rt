@@ -1,10 +1,11 @@
 //! A medium in memory, which fails and gives other words where it is told to.
 ghost use Rattle.std.specs.Prelude.{◌≡◌, ◌<◌, ◌≤◌, [], length, true, is_err, if◌then◌else◌, slice_set, slice_index_or, replicate, OnOk, OnErr, IfOk};
 ghost use Rattle.std.specs.List.{All};
+ghost use Rattle.faults.specs.Faults.{one_further};
 ghost use Rattle.medium.specs.Damages.{IsDamage, damaged_words, hits};
 ghost use Rattle.medium.specs.Called.{ReadsRecord, WritesRecord};
 ghost use Rattle.medium.specs.Medium.{AreWords, no_calls, with_call};
-ghost use Rattle.medium.specs.MediumState.{next, rows_told, memory_seen, fails_next, words_read, after_read, after_write};
+ghost use Rattle.medium.specs.MediumState.{rows_told, memory_seen, fails_next, words_read, after_read, after_write};
 
 use crate::log::CallLog;
 use crate::medium::{Failed, Medium};
@@ -119,7 +120,7 @@ impl MemoryMedium {
     /// Counts a call, and says whether it is one of those that fail.
     fn fails_next(&mut self) -> bool
         ensures answer { result ≡ fails_next self.old }
-        ensures state { self.new ≡ record self.old { call_count = next self.old.call_count } }
+        ensures state { self.new ≡ record self.old { call_count = one_further self.old.call_count } }
     {
         self.call_count = self.call_count.saturating_add(1);
         self.fails.contains(&self.call_count)
@@ -128,7 +129,7 @@ impl MemoryMedium {
     /// Counts and lists a call that fails.
     fn fail(&mut self, is_write: bool, at: u16) -> Failed
         ensures state { self.new ≡ record self.old {
-          fault_count = next self.old.fault_count;
+          fault_count = one_further self.old.fault_count;
           calls = with_call self.old.calls
               (record { is_write = is_write; at = at; failed = true; words = [] });
         } }

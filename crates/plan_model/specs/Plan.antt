@@ -1,5 +1,6 @@
 -- claim: whom to serve, and what of each user is where.
 use Rattle.std.specs.Prelude.{ℕ, ◌+◌, ◌*◌, not, Bool}
+use Rattle.ctss_types.specs.declared.script.Params.{Params}
 use Rattle.time_sharing.specs.Machine.{CutKind, Quit, Hang, Spent, End, Ending, Went, Stopped, Resized, Replaced, LoggedOut}
 use Rattle.time_sharing.specs.System.{Move}
 use Rattle.plan_model.specs.Levels.{Levels, empty_levels}
@@ -9,8 +10,9 @@ pub record Plan : Type 0 where
   pub levels : Levels
   pub places : Places
 
-abbrev pub first_plan : (wq quantum age : ℕ) → Plan
-first_plan wq quantum age = record { levels = empty_levels wq quantum age; places = no_places }
+-- the plan at the start of a run
+abbrev pub first_plan : Params → Plan
+first_plan p = record { levels = empty_levels p.wq p.quantum p.age; places = no_places }
 
 -- whether some of a user's n blocks are not in core
 abbrev pub must_load : Plan → ℕ → ℕ → Bool

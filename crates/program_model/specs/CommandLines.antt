@@ -25,14 +25,14 @@ all_of [] = Some []
 all_of (x ∷ xs) = before_all x (all_of xs)
 
 -- parts with a blank between each two
-abbrev pub joined : List Line → Line
-joined [] = []
-joined (p ∷ []) = p
-joined (p ∷ q ∷ ps) = p ++ 32 ∷ joined (q ∷ ps)
+abbrev pub words_joined : List Line → Line
+words_joined [] = []
+words_joined (p ∷ []) = p
+words_joined (p ∷ q ∷ ps) = p ++ 32 ∷ words_joined (q ∷ ps)
 
 abbrev pub joined_all : Option (List Line) → Option Line
 joined_all None = None
-joined_all (Some parts) = Some (joined parts)
+joined_all (Some parts) = Some (words_joined parts)
 
 -- a line with its arguments
 abbrev pub with_arguments : List Line → Line → Option Line

@@ -11,89 +11,92 @@ use ctss_types::FileName;
 use thiserror::Error;
 use word36::Word;
 
-/// A supervisor entry that a program calls, with its arguments. Addresses, counts and modes are below 2^15, places below 2^35.
+/// A supervisor entry that a program calls, with its arguments. A variant's comment begins with the entry's name and
+/// what stands behind the call. A buffer has `count` words from the address `at` on; `place` is the number of a file's
+/// word, from 0. Addresses, counts and modes are below 2^15, places below 2^35. An answer has a reply, and some have a
+/// value.
 #[derive(Clone, Copy, Debug, PartialEq, Eq)]
 pub enum Call {
-    /// RDFLX: the next line as so many words, from an address on.
+    /// `RDFLX buffer`: the next line, to 1 to 14 words; value: the number of its characters.
     ReadLine {
         at: u16,
         count: u16,
     },
-    /// WRFLX: so many words from an address on as a line.
+    /// `WRFLX buffer`: 1 to 14 words, as a line.
     WriteLine {
         at: u16,
         count: u16,
     },
-    /// GETTM: the clock.
+    /// `GETTM`: the clock; value: its tick.
     GetTime,
-    /// GETMEM: the size in words.
+    /// `GETMEM`: the size of the program; value: the number of its words.
     GetMemory,
-    /// SETMEM: another size.
+    /// `SETMEM blocks`: another size, from 1 block of 256 words to the quota.
     SetMemory {
         blocks: u16,
     },
-    /// FSTAT: the size and the mode of a file.
+    /// `FSTAT names`: the size and the mode of a file; value: 4 times its words, plus the mode.
     FileStat {
         name: FileName,
     },
-    /// RDFILE: so many words of a file, from a place on, to a buffer.
+    /// `RDFILE names, buffer, place`: words of a file, from a place on, to the buffer.
     ReadFile {
         name: FileName,
         at: u16,
         count: u16,
         place: u64,
     },
-    /// WRFILE: a buffer to a file, from a place on.
+    /// `WRFILE names, buffer, place`: the buffer to a file, from a place on.
     WriteFile {
         name: FileName,
         at: u16,
         count: u16,
         place: u64,
     },
-    /// DELETE: a file goes.
+    /// `DELETE names`: the file goes.
     DeleteFile {
         name: FileName,
     },
-    /// RENAME: a file gets another name.
+    /// `RENAME names, names`: the file gets the other names.
     RenameFile {
         name: FileName,
         to: FileName,
     },
-    /// CHMODE: a file gets another mode.
+    /// `CHMODE names, mode`: the file gets the mode, 0 to 3.
     ChangeMode {
         name: FileName,
         mode: u16,
     },
     /// A call on the common files.
     Common(CommonCall),
-    /// DEAD: the program is over and goes.
+    /// `DEAD`: the program is over and goes.
     Dead,
-    /// DORMNT: the program is over and stays.
+    /// `DORMNT`: the program is over and stays.
     Dormant,
 }
 
-/// What a call asks for of a common file.
+/// What a call asks for of a common file, as `Call` has it. With a buffer of more than 432 words nothing is asked.
 #[derive(Clone, Copy, Debug, PartialEq, Eq)]
 pub enum CommonCall {
-    /// CFSTAT: the size and the mode of a file.
+    /// `CFSTAT names`: FSTAT of a common file.
     Stat {
         name: FileName,
     },
-    /// CRDFIL: so many words of a file, from a place on, to a buffer.
+    /// `CRDFIL names, buffer, place`: RDFILE of a common file, at most 432 words.
     Read {
         name: FileName,
         at: u16,
         count: u16,
         place: u64,
     },
-    /// CWRFIL: a buffer to a file, from a place on.
+    /// `CWRFIL names, buffer, place`: WRFILE of a common file, at most 432 words.
     Write {
         name: FileName,
         at: u16,
         count: u16,
         place: u64,
     },
-    /// CDELET: a file goes.
+    /// `CDELET names`: DELETE of a common file.
     Delete {
         name: FileName,
     },

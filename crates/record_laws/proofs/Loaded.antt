@@ -90,5 +90,5 @@ ticks_join script =
     let accounts = script.accounts in
     cover.all_ticks_join User Plan (List FileBody) (machine user_rows) (world_with p.swap p.common accounts) p.swap
     (stays_loaded p.swap p.common accounts) (costs p.swap p.common accounts)
-    (users_from 1 accounts script.files) [] (first_plan p.wq p.quantum p.age) consoles script.end
+    (users_from 1 accounts script.files) [] (first_plan p) consoles script.end
     (measure script.end (start_of script)) script.events

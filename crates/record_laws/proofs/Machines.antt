@@ -2,7 +2,7 @@
 use Rattle.std.proofs.Common.{◌≡◌, ℕ, zero, suc, ◌-◌, List, [], ◌∷◌, Option, Some, None, refl, sym, subst}
 use Rattle.std.specs.Prelude.{fold}
 use Rattle.time_sharing.specs.Machine.{Machine, Line, CutKind, Reply}
-use Rattle.time_sharing.specs.Private.{FeedItem, Open, Typed, Cut, Feed, Alone, answered, next, steps, run, after, alone}
+use Rattle.time_sharing.specs.Private.{FeedItem, Open, Typed, Cut, Feed, Alone, answered, next_alone, steps, run, after, alone}
 use Rattle.time_sharing.proofs.Alone.{when_some, answered_was}
 
 -- each move keeps this of a state
@@ -14,7 +14,7 @@ pub record EachKeeps {S : Type 0} (m : Machine S) (P : S → Type 0) : Type 0 wh
 
 module _ {S : Type 0} (m : Machine S) (P : S → Type 0) (each : EachKeeps m P) where
   -- the next step
-  next_keeps : (s e : Alone S) → next m s ≡ Some e → P s.state → P e.state
+  next_keeps : (s e : Alone S) → next_alone m s ≡ Some e → P s.state → P e.state
   next_keeps s e is h =
       let was = answered_was m s e (when_some (m.can_step s.state) (answered m s) e is).1 in
       subst P (sym was.2) (each.step s.state was.0 was.1 h)
@@ -22,9 +22,9 @@ module _ {S : Type 0} (m : Machine S) (P : S → Type 0) (each : EachKeeps m P) 
   -- any number of steps
   steps_keep : (n : ℕ) (s : Alone S) → P s.state → P (steps m n s).state
   steps_keep zero s h = h
-  steps_keep (suc n) s h = by_next (steps_keep n) (next m s) refl
+  steps_keep (suc n) s h = by_next (steps_keep n) (next_alone m s) refl
     where
-      by_next : ((e : Alone S) → P e.state → P (steps m n e).state) → (o : Option (Alone S)) → next m s ≡ o
+      by_next : ((e : Alone S) → P e.state → P (steps m n e).state) → (o : Option (Alone S)) → next_alone m s ≡ o
           → P (elim o as (λ x. Alone S) [ None ↦ s | Some e ↦ steps m n e ]).state
       by_next rest None is = h
       by_next rest (Some e) is = rest e (next_keeps s e is h)

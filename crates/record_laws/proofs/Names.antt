@@ -156,11 +156,11 @@ abbrev pub named_to : NamePair → FileBody → FileBody
 named_to to f = record f { name = to }
 
 module _ (name to : NamePair) where
-  -- a file behind the rename
+  -- a file after the rename
   abbrev renames : FileBody → FileBody
   renames f = changed_if name (named_to to) f
 
-  -- a file is not named so behind a rename to another name
+  -- a file is not named so after a rename to another name
   other_than : (n : NamePair) → same_name n to ≡ false → (f : FileBody) → has_name n f ≡ false
       → has_name n (renames f) ≡ false
   other_than n apart f none = by_test (is_named name f)

@@ -1,6 +1,7 @@
 -- claim: a worked row: two scripts that differ in one user alone, and what the other user's clock tells.
 use Rattle.std.specs.Prelude.{◌≡◌, ℕ, List, [], ◌∷◌, ◌++◌, get_or, codes}
 use Rattle.ctss_types.specs.Words.{name_of}
+use Rattle.ctss_types.specs.Params.{params_of}
 use Rattle.ctss_types.specs.declared.script.Script.{Script}
 use Rattle.ctss_types.specs.declared.script.Account.{Account}
 use Rattle.ctss_types.specs.declared.script.Timed.{Timed}
@@ -27,7 +28,7 @@ comes_in console name =
 abbrev pub two_users : List Timed → Script
 two_users events =
     record {
-      params = record { wq = 1024; quantum = 100; swap = 10; drum = 16; disk = 20; common = 5; age = 0 };
+      params = params_of (1024 ∷ 100 ∷ 10 ∷ 16 ∷ 20 ∷ 5 ∷ []);
       accounts = account (codes "ALFA") ∷ account (codes "BETA") ∷ [];
       files = [];
       events = comes_in 1 (codes "ALFA") ++ (comes_in 2 (codes "BETA") ++ events);

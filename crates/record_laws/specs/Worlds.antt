@@ -4,8 +4,8 @@ use Rattle.time_sharing.specs.Machine.{Machine, Line, CutKind, Went, Reply}
 use Rattle.time_sharing.specs.System.{World, clock_for}
 
 -- What a machine and a world owe, so that no load falls into a service: who is loaded stays so while being served. For
--- that a user stays loaded behind its own lines and logins, after its steps that go on and their charge, behind
--- anybody's rise or line, and behind another's cut.
+-- that a user stays loaded after its own lines and logins, after its steps that go on and their charge, after
+-- anybody's rise or line, and after another's cut.
 pub record StaysLoaded {State Plan Files : Type 0} (m : Machine State) (w : World State Plan Files) : Type 0 where
   pub typed : (plan : Plan) (u : ℕ) (p : State) (l : Line) → w.must_load plan u p ≡ false
       → w.must_load plan u (m.typed p l) ≡ false

@@ -15,7 +15,7 @@ use Rattle.link_model.specs.declared.types.ModulePlace.{ModulePlace}
 use Rattle.link_model.specs.Links.{raised, raised_by, linked_word}
 use Rattle.link_model.specs.Weights.{with_externs, kind_of, kind_in}
 use Rattle.link_model.specs.Moves.{Moved, early_kind, count_in, moved_size}
-use Rattle.link_model.specs.ModuleCards.{Relocated, seen, weights_of, card_kind, cell, cells_by}
+use Rattle.link_model.specs.ModuleCards.{Relocated, symbols_seen, weights_of, card_kind, cell, cells_by}
 use Rattle.rule_laws.proofs.Values.{Setting, IsSound, names_here, weights_here}
 use Rattle.rule_laws.proofs.Raises.{none_raised}
 use Rattle.rule_laws.proofs.Shorts.{mapped}
@@ -111,11 +111,11 @@ data_count : (ws : Option (List ℕ)) (f : Option Field) (x : Field) → f ≡ o
 data_count ws f x form is = let m = mapped (λ us. words us) ws x (sym form ∙ is) in (m.0, is ∙ ap (λ (y : Field). Some y) (sym m.2))
 
 data_size : (r : Relocated) (m : Moved) (before : List (List ℕ)) (card : List ℕ) (o : Operation) (k : Known) (early : early_kind r.externs m o card ≡ Some 0) → IsGood r m before card o
-    → Counted o m.known (seen m before) k (field_for o card) → moved_size r.externs m (Some o) card ≡ count_of o m.known (field_for o card)
+    → Counted o m.known (symbols_seen m before) k (field_for o card) → moved_size r.externs m (Some o) card ≡ count_of o m.known (field_for o card)
 data_size r m before card o k early g c =
     let counted : count_of o m.known (field_for o card) ≡ count_in r.externs m o card = counts r.externs m o card 0 early in
     moved_size_is r.externs m o card counted
-    (near_end m.known.place (count_of o (seen m before) (field_for o card)) (count_of o m.known (field_for o card)) (count_in r.externs m o card) (g.sound).room c.as_seen counted)
+    (near_end m.known.place (count_of o (symbols_seen m before) (field_for o card)) (count_of o m.known (field_for o card)) (count_in r.externs m o card) (g.sound).room c.as_seen counted)
 
 -- how much an EQU takes
 abbrev taken : Option ℕ → Bool → ℕ
@@ -125,7 +125,7 @@ taken o b = if b then (if is_none o then 0 else 0) else 0
 data_worded : (s : Setting) (r : Relocated) (m : Moved) (before : List (List ℕ)) (there : Whole) (k : Known) (card : List ℕ) (o : Operation) (ws : Option (List ℕ)) → Final s r there
     → IsGood r m before card o → field_for o card ≡ option_map (λ us. words us) ws
     → ((weights : List (ℕ × ℕ)) (us : List ℕ) → kind_of o r.externs weights (Some (words us)) ≡ Some 0)
-    → Counted o m.known (seen m before) k (field_for o card)
+    → Counted o m.known (symbols_seen m before) k (field_for o card)
     → ((us : List ℕ) → field_for o card ≡ Some (words us) → words_by r.whole m.known (Some o) card ≡ us)
     → ((us : List ℕ) → field_for o card ≡ Some (words us) → words_by there k (Some o) card ≡ us)
     → ((us : List ℕ) → field_for o card ≡ Some (words us) → count_of o m.known (field_for o card) ≡ length us)
@@ -157,15 +157,15 @@ worded s r m before there k card (machine o) f h other last apart g = machine_wo
 worded s r m before there k card pze f h other last apart g = plain_worded s r m before there k card f h.place g
 worded s r m before there k card dec f h other last apart g =
     data_worded s r m before there k card dec (all_words decimal_word (items_of (field_of card))) f g refl (λ weights us. refl)
-    (counted_decimals m.known (seen m before) k (field_for dec card)) (λ us e. ap given_words e) (λ us e. ap given_words e)
+    (counted_decimals m.known (symbols_seen m before) k (field_for dec card)) (λ us e. ap given_words e) (λ us e. ap given_words e)
     (λ us e. ap (λ (x : Option Field). count_of dec m.known x) e) refl
 worded s r m before there k card oct f h other last apart g =
     data_worded s r m before there k card oct (all_words (octal_number 12) (items_of (field_of card))) f g refl (λ weights us. refl)
-    (counted_octals m.known (seen m before) k (field_for oct card)) (λ us e. ap given_words e) (λ us e. ap given_words e)
+    (counted_octals m.known (symbols_seen m before) k (field_for oct card)) (λ us e. ap given_words e) (λ us e. ap given_words e)
     (λ us e. ap (λ (x : Option Field). count_of oct m.known x) e) refl
 worded s r m before there k card bci f h other last apart g =
     data_worded s r m before there k card bci (text_words card) f g refl (λ weights us. refl)
-    (counted_characters m.known (seen m before) k (field_for bci card)) (λ us e. ap given_words e) (λ us e. ap given_words e)
+    (counted_characters m.known (symbols_seen m before) k (field_for bci card)) (λ us e. ap given_words e) (λ us e. ap given_words e)
     (λ us e. ap (λ (x : Option Field). count_of bci m.known x) e) refl
 worded s r m before there k card equ f h other last apart g =
     record {

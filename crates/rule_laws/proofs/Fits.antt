@@ -22,7 +22,7 @@ use Rattle.link_model.specs.declared.types.ModulePlace.{ModulePlace}
 use Rattle.link_model.specs.Modules.{is_bounded, is_module}
 use Rattle.link_model.specs.Weights.{with_externs, is_among, names_extern, externs_in, added_kind, plain_kind, address_kind, is_light, most_weight, weight_of, kind_in, kind_of}
 use Rattle.link_model.specs.Moves.{Moved, nothing_moved, module_operation, early_kind, count_in, moved_size, worth, is_equ_in, equs_with, moved_with, moved_behind, moved_after}
-use Rattle.link_model.specs.ModuleCards.{Relocated, relocated_of, has_operation, field_symbol, with_named, named_by, is_marked, is_over, entry_fault, entry_fault_of, extern_fault, extern_fault_of, seen, module_fault, module_faults, module_faults_from, weights_of, cell, cells_by, cells_from, entries_of, module_of_cards, module_made, relocatable}
+use Rattle.link_model.specs.ModuleCards.{Relocated, relocated_of, has_operation, field_symbol, with_named, named_by, is_marked, is_over, entry_fault, entry_fault_of, extern_fault, extern_fault_of, symbols_seen, module_fault, module_faults, module_faults_from, weights_of, cell, cells_by, cells_from, entries_of, module_of_cards, module_made, relocatable}
 use Rattle.rule_laws.proofs.Cases.{same_text}
 use Rattle.rule_laws.proofs.Wholes.{both_none, no_entry}
 use Rattle.rule_laws.proofs.Tables.{prefix_value}
@@ -134,7 +134,7 @@ extern_few r m before card has sound = by_symbol (field_symbol card) (unmarked (
     by_symbol : (s : Option ℕ) → extern_fault_of m before s ≡ 0 → counts (has_operation (codes "EXTERN")) before < 32766
     by_symbol None h = absurd (omega (arith, h))
     by_symbol (Some name) h =
-        few_of (codes "EXTERN") m before (extern_tests (not (is_none (value_in (seen m before).symbols name))) (is_over (codes "EXTERN") m before) h)
+        few_of (codes "EXTERN") m before (extern_tests (not (is_none (value_in (symbols_seen m before).symbols name))) (is_over (codes "EXTERN") m before) h)
 
 -- how many there are
 

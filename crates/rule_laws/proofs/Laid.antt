@@ -12,7 +12,7 @@ use Rattle.link_model.specs.declared.types.ModulePlace.{ModulePlace}
 use Rattle.link_model.specs.Links.{linked_word}
 use Rattle.link_model.specs.Weights.{with_externs}
 use Rattle.link_model.specs.Moves.{Moved, without_org, module_operation, early_kind, count_in, moved_size, moved_with, moved_behind, moved_after}
-use Rattle.link_model.specs.ModuleCards.{Relocated, seen, named_by, card_kind, cell, cells_by, cells_from, rel_fault, entry_fault, extern_fault, plain_fault, module_fault}
+use Rattle.link_model.specs.ModuleCards.{Relocated, symbols_seen, named_by, card_kind, cell, cells_by, cells_from, rel_fault, entry_fault, extern_fault, plain_fault, module_fault}
 use Rattle.link_model.specs.Laid.{laid_from}
 use Rattle.rule_laws.proofs.Spreads.{Spread}
 use Rattle.rule_laws.proofs.Values.{Setting}
@@ -260,14 +260,14 @@ end_room p n h = omega (arith, h)
 pub end_fits : (r : Relocated) (m : Moved) (before : List (List ℕ)) (card : List ℕ) → EndCase r m before card → EndFits r m
 end_fits r m before card e =
     let s = sound_card r.whole.names (length r.whole.literals + 1)
-    (is_none (card_kind end r m card) || start_is_outside r.whole m.known (field_for end card)) (seen m before) end card (field_for end card) e.fault in
+    (is_none (card_kind end r m card) || start_is_outside r.whole m.known (field_for end card)) (symbols_seen m before) end card (field_for end card) e.fault in
     record { room = end_room m.known.place (length r.whole.literals) s.room }
 
 pub end_step : (b : ℕ) (r : Relocated) (m : Moved) (before : List (List ℕ)) (card : List ℕ) (k : Known) → Behind b m k → EndCase r m before card
     → Behind b (moved_behind r.externs m card) (known_behind k card)
 end_step b r m before card k h e =
     let s = sound_card r.whole.names (length r.whole.literals + 1)
-    (is_none (card_kind end r m card) || start_is_outside r.whole m.known (field_for end card)) (seen m before) end card (field_for end card) e.fault in
+    (is_none (card_kind end r m card) || start_is_outside r.whole m.known (field_for end card)) (symbols_seen m before) end card (field_for end card) e.fault in
     let fresh : symbol_is_known m.known (symbol_of card) ≡ false = fresh_here m (with_externs (named_by (codes "EXTERN") before) []) (symbol_of card) s.fresh in
     let here : moved_behind r.externs m card ≡ moved_with r.externs m (Some end) card = rw (e.plain, e.named) refl in
     let there : known_behind k card ≡ known_with k (Some end) card = rw (e.plain, e.named) refl in

@@ -10,7 +10,7 @@ use Rattle.fap_model.specs.Places.{Known, max_place, value_in, or_zero, size_of,
 use Rattle.fap_model.specs.Decks.{is_end}
 use Rattle.link_model.specs.Weights.{with_externs, kind_of}
 use Rattle.link_model.specs.Moves.{Moved, without_org, moved_size, moved_with, moved_behind}
-use Rattle.link_model.specs.ModuleCards.{Relocated, seen, named_by}
+use Rattle.link_model.specs.ModuleCards.{Relocated, symbols_seen, named_by}
 use Rattle.rule_laws.proofs.Values.{IsSound}
 use Rattle.rule_laws.proofs.Fields.{value_small}
 use Rattle.rule_laws.proofs.Places.{Behind, none_of}
@@ -44,10 +44,10 @@ lower b p s q e h = omega (arith, e, h)
 data_step : (b : ℕ) (r : Relocated) (m : Moved) (before : List (List ℕ)) (card : List ℕ) (k : Known) (o : Operation) (ws : Option (List ℕ)) → Behind b m k
     → IsGood r m before card o → field_for o card ≡ option_map (λ us. words us) ws
     → ((us : List ℕ) → kind_of o r.externs (with_externs r.externs m.weights) (Some (words us)) ≡ Some 0)
-    → Counted o m.known (seen m before) k (field_for o card)
+    → Counted o m.known (symbols_seen m before) k (field_for o card)
     → b + (m.known.place + moved_size r.externs m (Some o) card) ≤ 32768 → size_of o k (field_for o card) ≡ moved_size r.externs m (Some o) card
 data_step b r m before card k o ws h g form none c bound =
-    sized b r.externs m k (seen m before) o card 0 h c
+    sized b r.externs m k (symbols_seen m before) o card 0 h c
     (early_words r.externs (with_externs r.externs m.weights) o (field_for o card) ws (g.sound).field none form (g.sound).field_is) refl (g.sound).room bound
 
 pub stepped : (b : ℕ) (entries : List (ℕ × ℕ)) (r : Relocated) (m : Moved) (before : List (List ℕ)) (card : List ℕ) (k : Known) (o : Operation) → AreSmall entries
@@ -62,19 +62,19 @@ stepped b entries r m before card k pze small h other last g bound =
 stepped b entries r m before card k dec small h other last g bound =
     record {
       size = data_step b r m before card k dec (all_words decimal_word (items_of (field_of card))) h g refl (λ us. refl)
-          (counted_decimals m.known (seen m before) k (field_for dec card)) bound;
+          (counted_decimals m.known (symbols_seen m before) k (field_for dec card)) bound;
       worth = record { small = below_top m.known.place; light = one_most; there = place_worth b m.known.place k.place h.place };
     }
 stepped b entries r m before card k oct small h other last g bound =
     record {
       size = data_step b r m before card k oct (all_words (octal_number 12) (items_of (field_of card))) h g refl (λ us. refl)
-          (counted_octals m.known (seen m before) k (field_for oct card)) bound;
+          (counted_octals m.known (symbols_seen m before) k (field_for oct card)) bound;
       worth = record { small = below_top m.known.place; light = one_most; there = place_worth b m.known.place k.place h.place };
     }
 stepped b entries r m before card k bci small h other last g bound =
     record {
       size = data_step b r m before card k bci (text_words card) h g refl (λ us. refl)
-          (counted_characters m.known (seen m before) k (field_for bci card)) bound;
+          (counted_characters m.known (symbols_seen m before) k (field_for bci card)) bound;
       worth = record { small = below_top m.known.place; light = one_most; there = place_worth b m.known.place k.place h.place };
     }
 stepped b entries r m before card k bss small h other last g bound =
@@ -82,7 +82,7 @@ stepped b entries r m before card k bss small h other last g bound =
     let below : one.result < 2 ^ 15 = value_small m.known.symbols m.known.place one.terms 0 one.result zero_small (one.light).here in
     record {
       size =
-          sized b r.externs m k (seen m before) bss card g.kind h (counted_bss b entries r.externs m before card k h one below) g.kind_is refl (g.sound).room bound;
+          sized b r.externs m k (symbols_seen m before) bss card g.kind h (counted_bss b entries r.externs m before card k h one below) g.kind_is refl (g.sound).room bound;
       worth = record { small = below_top m.known.place; light = one_most; there = place_worth b m.known.place k.place h.place };
     }
 stepped b entries r m before card k equ small h other last g bound =
@@ -92,7 +92,7 @@ stepped b entries r m before card k equ small h other last g bound =
     fresh_here m (with_externs (named_by (codes "EXTERN") before) []) (symbol_of card) (g.sound).fresh in
     record {
       size =
-          sized b r.externs m k (seen m before) equ card g.kind h (record { as_seen = refl; as_there = refl }) g.kind_is refl (g.sound).room bound;
+          sized b r.externs m k (symbols_seen m before) equ card g.kind h (record { as_seen = refl; as_there = refl }) g.kind_is refl (g.sound).room bound;
       worth =
           equ_worth b entries r m before card k h g one below (fresh_there b m k (symbol_of card) h fresh)
           (lower b m.known.place (moved_size r.externs m (Some equ) card) k.place h.place bound);

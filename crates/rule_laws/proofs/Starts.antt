@@ -14,7 +14,7 @@ use Rattle.link_model.specs.declared.types.Module.{Module}
 use Rattle.link_model.specs.Modules.{pair_word}
 use Rattle.link_model.specs.Links.{places_of_all, linked_from, linked_deck, start_of_all}
 use Rattle.link_model.specs.Moves.{Moved, nothing_moved, moved_behind, moved_after}
-use Rattle.link_model.specs.ModuleCards.{Relocated, relocated_of, seen, card_kind, cell, cells_from, module_faults, module_start, module_of_cards, relocatable, module_made}
+use Rattle.link_model.specs.ModuleCards.{Relocated, relocated_of, symbols_seen, card_kind, cell, cells_from, module_faults, module_start, module_of_cards, relocatable, module_made}
 use Rattle.rule_laws.specs.Decks.{IsInside, IsDeck}
 use Rattle.rule_laws.proofs.DeckLaws.{deck_is_laid}
 use Rattle.rule_laws.proofs.AddedWords.{IsShort, words_fit, words_laid}
@@ -53,7 +53,7 @@ module_starts cards g =
     let r : Relocated = relocated_of cards in
     let m : Moved = moved_after (relocated_of cards).externs nothing_moved (cards_before_end cards) in
     let s = sound_card r.whole.names (length r.whole.literals + 1)
-    (is_none (card_kind end r m g.last) || start_is_outside r.whole m.known (field_for end g.last)) (seen m ([] ++ cards_before_end cards)) end g.last (field_for end g.last)
+    (is_none (card_kind end r m g.last) || start_is_outside r.whole m.known (field_for end g.last)) (symbols_seen m ([] ++ cards_before_end cards)) end g.last (field_for end g.last)
     (g.end).fault in
     let inside : start_is_outside r.whole m.known (field_for end g.last) ≡ false =
     (or_parts (is_none (card_kind end r m g.last)) (start_is_outside r.whole m.known (field_for end g.last)) s.right).1 in

@@ -12,7 +12,7 @@ use Rattle.fap_model.specs.Statements.{Field, placed, half, nothing, value, word
 use Rattle.fap_model.specs.Places.{Known, max_place, value_in, term_value, with_term, value_from, value_of, or_zero, count_of, size_of, said, is_defined, field_is_wrong, field_is_defined, symbol_is_known, fault_with, early_fault, symbol_value, next_place, known_with}
 use Rattle.link_model.specs.Weights.{with_externs, is_light, weight_of, kind_of}
 use Rattle.link_model.specs.Moves.{Moved, early_kind, equ_fault, count_in, moved_size, worth, moved_with}
-use Rattle.link_model.specs.ModuleCards.{Relocated, seen, names_of, weights_of, card_kind, named_by}
+use Rattle.link_model.specs.ModuleCards.{Relocated, symbols_seen, names_of, weights_of, card_kind, named_by}
 use Rattle.rule_laws.proofs.Sums.{moved_to}
 use Rattle.rule_laws.proofs.Tables.{raised_table}
 use Rattle.rule_laws.proofs.Values.{Setting, IsSound, names_here, weights_here, AreShort}
@@ -23,7 +23,7 @@ use Rattle.rule_laws.proofs.Places.{Behind, Symbolled, symbolled, front_none, si
 
 -- a card of a module without a fault
 pub record IsGood (r : Relocated) (m : Moved) (before : List (List ℕ)) (card : List ℕ) (o : Operation) : Type 0 where
-  pub sound : IsSoundCard (names_of o r m) 1 (is_none (card_kind o r m card)) (seen m before) o card (field_for o card)
+  pub sound : IsSoundCard (names_of o r m) 1 (is_none (card_kind o r m card)) (symbols_seen m before) o card (field_for o card)
   pub kind : ℕ
   pub kind_is : card_kind o r m card ≡ Some kind
 
@@ -32,9 +32,9 @@ kind_there None h = absurd cc
 kind_there (Some k) h = (k, refl)
 
 pub good_from : (r : Relocated) (m : Moved) (before : List (List ℕ)) (card : List ℕ) (o : Operation)
-    → fault_with (names_of o r m) 1 (is_none (card_kind o r m card)) (seen m before) o card (field_for o card) ≡ 0 → IsGood r m before card o
+    → fault_with (names_of o r m) 1 (is_none (card_kind o r m card)) (symbols_seen m before) o card (field_for o card) ≡ 0 → IsGood r m before card o
 good_from r m before card o h =
-    let s = sound_card (names_of o r m) 1 (is_none (card_kind o r m card)) (seen m before) o card (field_for o card) h in
+    let s = sound_card (names_of o r m) 1 (is_none (card_kind o r m card)) (symbols_seen m before) o card (field_for o card) h in
     let k = kind_there (card_kind o r m card) s.right in
     record { sound = s; kind = k.0; kind_is = k.1 }
 
@@ -154,13 +154,13 @@ weightless b v zero h e = omega (arith, h)
 weightless b v (suc w) h e = absurd (omega (arith, e))
 
 pub counted_bss : (b : ℕ) (entries : List (ℕ × ℕ)) (xs : List ℕ) (m : Moved) (before : List (List ℕ)) (card : List ℕ) (k : Known) → Behind b m k
-    → (one : OneValue 0 b entries xs m card bss) → one.result < 2 ^ 15 → Counted bss m.known (seen m before) k (field_for bss card)
+    → (one : OneValue 0 b entries xs m card bss) → one.result < 2 ^ 15 → Counted bss m.known (symbols_seen m before) k (field_for bss card)
 counted_bss b entries xs m before card k h one small =
     let l = one.light in
     let here : count_of bss m.known (field_for bss card) ≡ one.result =
     ap (λ (x : Option Field). count_of bss m.known x) one.field_is ∙ ap or_zero l.here in
-    let as_seen : count_of bss (seen m before) (field_for bss card) ≡ one.result =
-    ap (λ (x : Option Field). count_of bss (seen m before) x) one.field_is
+    let as_seen : count_of bss (symbols_seen m before) (field_for bss card) ≡ one.result =
+    ap (λ (x : Option Field). count_of bss (symbols_seen m before) x) one.field_is
     ∙ ap or_zero (more_names m.known.symbols (with_externs (named_by (codes "EXTERN") before) []) m.known.place one.terms 0 one.result l.here) in
     let as_there : count_of bss k (field_for bss card) ≡ one.result =
     ap (λ (x : Option Field). count_of bss k x) one.field_is
@@ -209,7 +209,7 @@ equ_sound r m before card g =
     (nat_lt max_place (m.known.place + 0 + 1))
     (record {
       shape = s.shape;
-      right = rw (right, tag_stays (with_externs r.externs m.known.symbols) m (seen m before) s.field refl (sym (ap (λ (f : Option Field). field_is_wrong (with_externs r.externs m.known.symbols) (seen m before) f) s.field_is) ∙ s.light_tag)) refl;
+      right = rw (right, tag_stays (with_externs r.externs m.known.symbols) m (symbols_seen m before) s.field refl (sym (ap (λ (f : Option Field). field_is_wrong (with_externs r.externs m.known.symbols) (symbols_seen m before) f) s.field_is) ∙ s.light_tag)) refl;
       defined = ap not s.defined;
       fresh = fresh_here m (with_externs (named_by (codes "EXTERN") before) []) (symbol_of card) s.fresh;
       near = near;

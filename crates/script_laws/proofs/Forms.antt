@@ -1,71 +1,74 @@
 -- Each form of a card as it is written, read back.
-use Rattle.std.proofs.Common.{◌≡◌, ℕ, zero, suc, ◌≤◌, Bool, true, false, cond, nat_eq, nat_le, List, [], ◌∷◌, ◌++◌, length, Option, Some, None, if◌then◌else◌, refl, sym, ap, ◌∙◌, arith}
+use Rattle.std.proofs.Common.{◌≡◌, ℕ, zero, suc, ◌≤◌, Bool, true, false, cond, nat_eq, nat_le, List, [], ◌∷◌, ◌++◌, length, Option, Some, None, refl, ap, ◌∙◌, arith}
 use Rattle.std.specs.Option.{option_map, option_and_then}
 use Rattle.std.specs.Fmt.{decimal}
-use Rattle.std.proofs.lemmas.List.{append-nil}
 use Rattle.std.specs.List.{All, list_all, flat_map}
 use Rattle.std.proofs.lemmas.Bool.Decides.{nat_tests}
 use Rattle.std.proofs.lemmas.List.Elements.{All-head, All-tail}
 use Rattle.word36.specs.Octal.{octal_text}
 use Rattle.bcd48.specs.Characters.{is_character}
 use Rattle.ctss_types.specs.Words.{word_in, behind_word}
+use Rattle.ctss_types.specs.Params.{param_limits, card_numbers}
+use Rattle.ctss_types.specs.declared.script.Params.{Params}
 use Rattle.ctss_types.specs.declared.script.Event.{Event}
 use Rattle.ctss_types.specs.declared.script.Event.TheVariants as event
-use Rattle.text_model.specs.declared.card.ParamCard.{ParamCard}
 use Rattle.text_model.specs.declared.card.UserCard.{UserCard}
 use Rattle.text_model.specs.declared.card.FileCard.{FileCard}
 use Rattle.text_model.specs.declared.card.EventCard.{EventCard}
 use Rattle.text_model.specs.declared.card.CardText.TheVariants as card_text
 use Rattle.text_model.specs.declared.card.CardEvent.{CardEvent}
 use Rattle.text_model.specs.declared.card.CardEvent.TheVariants.{Fits}
-use Rattle.text_model.specs.Parts.{number, name}
-use Rattle.text_model.specs.Canonical.{octal, age_text, event_text}
-use Rattle.text_model.specs.Fields.{first_number, octal_in, is_over, fitted, text_in}
-use Rattle.text_model.specs.Cards.{age_in, param_card_in, user_card_in, file_card_in, words_in, words_card_in, line_event, event_in, event_card_in, end_card_in}
+use Rattle.text_model.specs.Parts.{blank, number, name}
+use Rattle.text_model.specs.Canonical.{octal, event_text}
+use Rattle.text_model.specs.Fields.{number_in, octal_in, is_over, fitted, text_in}
+use Rattle.text_model.specs.Cards.{fields_in, params_read, param_card_in, user_card_in, file_card_in, words_card_in, line_event, event_in, event_card_in, end_card_in}
 use Rattle.text_model.specs.Lawful.{IsName, IsTyped, IsLawfulEvent}
-use Rattle.script_laws.proofs.Fields.{starts_blank, IsField, word_read, behind_read, IsNumber, number_field, first_number_read, last_number_read, first_name_read, IsWord, octal_field, octal_read}
+use Rattle.text_model.proofs.ParamLaws.{card_numbers_few, card_numbers_read}
+use Rattle.script_laws.proofs.Fields.{starts_blank, IsField, word_read, behind_read, IsNumber, number_field, number_read, first_number_read, last_number_read, first_name_read, IsWord, octal_field, octal_read}
 
 -- a field that is read, and what follows from what stands behind it
 and_then : {A B : Type 0} (f : A → Option B) (o : Option A) (x : A) (r : Option B) → o ≡ Some x → f x ≡ r → option_and_then f o ≡ r
 and_then f o x r h k = ap (option_and_then f) h ∙ k
 
--- the age of PARAM, or nothing
-age_starts : (n : ℕ) → starts_blank (age_text n) ≡ true
-age_starts zero = refl
-age_starts (suc n) = refl
+-- a length that is not 0
+nonzero : (n : ℕ) → 1 ≤ n → nat_eq n 0 ≡ false
+nonzero n h = grind (arith, nat_tests)
 
-positive : (k : ℕ) → 1 ≤ k → nat_eq k 0 ≡ false
-positive k h = grind (arith, nat_tests)
+-- a text of a field is not over
+not_over : (field rest : List ℕ) → IsField field → starts_blank rest ≡ true → is_over (32 ∷ (field ++ rest)) ≡ false
+not_over field rest f h = ap (λ (w : List ℕ). nat_eq (length w) 0) (word_read field rest f h) ∙ nonzero (length field) f.some
 
--- a number is more than nothing
-number_stands : (n : ℕ) → IsNumber n → is_over (number n) ≡ false
-number_stands n small =
-    ap (λ (t : List ℕ). is_over (32 ∷ t)) (sym (append-nil (decimal n)))
-    ∙ ap (λ (t : List ℕ). nat_eq (length t) 0) (word_read (decimal n) [] (number_field n small) refl)
-    ∙ positive (length (decimal n)) (number_field n small).some
+-- a test that fails
+if_not : {A : Type 0} (b : Bool) (x y : A) → b ≡ false → cond b x y ≡ y
+if_not b x y h = rw h refl
 
-age_read : (n : ℕ) → IsNumber n → age_in (age_text n) ≡ Some n
-age_read zero small = refl
-age_read (suc n) small =
-    ap (λ (b : Bool). cond b (Some 0) (option_and_then (λ (a, rest). if is_over rest then Some a else None) (first_number (number (suc n))))) (number_stands (suc n) small)
-    ∙ and_then _ _ (suc n, []) (Some (suc n)) (last_number_read (suc n) small) refl
+-- fields begin with a blank
+fields_blank : (text : ℕ → List ℕ) (xs : List ℕ) → starts_blank (flat_map (λ x. blank (text x)) xs) ≡ true
+fields_blank text [] = refl
+fields_blank text (x ∷ xs) = refl
+
+-- fields, each of which reads as what it is written for, read as all of these
+fields_read : (read : List ℕ → Option ℕ) (text : ℕ → List ℕ) (P : ℕ → Type 0) → ((x : ℕ) → P x → IsField (text x)) → ((x : ℕ) → P x → read (text x) ≡ Some x)
+    → (n : ℕ) (xs : List ℕ) → length xs ≤ n → All P xs → fields_in read n (flat_map (λ x. blank (text x)) xs) ≡ Some xs
+fields_read read text P field reads zero [] few all = refl
+fields_read read text P field reads (suc n) [] few all = refl
+fields_read read text P field reads zero (x ∷ xs) few all = absurd (omega arith)
+fields_read read text P field reads (suc n) (x ∷ xs) few all =
+    let rest : List ℕ = flat_map (λ y. blank (text y)) xs in
+    let card : List ℕ = blank (text x) ++ rest in
+    let here : P x = All-head P x xs all in
+    let stands = fields_blank text xs in
+    let first : read (word_in card) ≡ Some x = ap read (word_read (text x) rest (field x here) stands) ∙ reads x here in
+    let behind : fields_in read n (behind_word card) ≡ Some xs =
+    ap (fields_in read n) (behind_read (text x) rest (field x here) stands) ∙ fields_read read text P field reads n xs (omega arith) (All-tail P x xs all) in
+    if_not (is_over card) _ _ (not_over (text x) rest (field x here) stands)
+    ∙ and_then _ (read (word_in card)) x (Some (x ∷ xs)) first (ap (option_map (λ (ys : List ℕ). x ∷ ys)) behind)
 
 -- PARAM reads as it is written
-pub param_read : (c : ParamCard) → IsNumber c.wq → IsNumber c.quantum → IsNumber c.swap → IsNumber c.drum → IsNumber c.disk → IsNumber c.common → IsNumber c.age
-    → param_card_in (number c.wq ++ (number c.quantum ++ (number c.swap ++ (number c.drum ++ (number c.disk ++ (number c.common ++ age_text c.age)))))) ≡ Some c
-param_read c wq quantum swap drum disk common age =
-    let f : List ℕ = age_text c.age in
-    let e : List ℕ = number c.common ++ f in
-    let d : List ℕ = number c.disk ++ e in
-    let t : List ℕ = number c.drum ++ d in
-    let b : List ℕ = number c.swap ++ t in
-    let a : List ℕ = number c.quantum ++ b in
-    and_then _ _ (c.wq, a) (Some c) (first_number_read c.wq a wq refl)
-    (and_then _ _ (c.quantum, b) (Some c) (first_number_read c.quantum b quantum refl)
-    (and_then _ _ (c.swap, t) (Some c) (first_number_read c.swap t swap refl)
-    (and_then _ _ (c.drum, d) (Some c) (first_number_read c.drum d drum refl)
-    (and_then _ _ (c.disk, e) (Some c) (first_number_read c.disk e disk refl)
-    (and_then _ _ (c.common, f) (Some c) (first_number_read c.common f common (age_starts c.age)) (ap (option_map (λ (a : ℕ). let card : ParamCard = record c { age = a } in card)) (age_read c.age age)))))))
+pub param_read : (p : Params) → All IsNumber (card_numbers p) → param_card_in (flat_map number (card_numbers p)) ≡ Some p
+param_read p all =
+    and_then params_read _ (card_numbers p) (Some p) (fields_read number_in decimal IsNumber number_field number_read (length param_limits) (card_numbers p) (card_numbers_few p) all)
+    (card_numbers_read p)
 
 -- USER reads as it is written
 pub user_read : (c : UserCard) → IsNumber c.number → IsName c.name → IsName c.password → IsNumber c.blocks → IsNumber c.tracks
@@ -97,44 +100,11 @@ file_read c owner first second mode =
 pub end_read : (tick : ℕ) → IsNumber tick → end_card_in (number tick) ≡ Some tick
 end_read tick h = and_then _ _ (tick, []) (Some tick) (last_number_read tick h) refl
 
--- words
-
--- a length that is not 0
-nonzero : (n : ℕ) → 1 ≤ n → nat_eq n 0 ≡ false
-nonzero n h = grind (arith, nat_tests)
-
--- a text of a field is not over
-not_over : (field rest : List ℕ) → IsField field → starts_blank rest ≡ true → is_over (32 ∷ (field ++ rest)) ≡ false
-not_over field rest f h = ap (λ (w : List ℕ). nat_eq (length w) 0) (word_read field rest f h) ∙ nonzero (length field) f.some
-
--- words in octal begin with a blank
-octals_blank : (ws : List ℕ) → starts_blank (flat_map octal ws) ≡ true
-octals_blank [] = refl
-octals_blank (w ∷ ws) = refl
-
--- a test that fails
-if_not : {A : Type 0} (b : Bool) (x y : A) → b ≡ false → cond b x y ≡ y
-if_not b x y h = rw h refl
-
--- words in octal read as themselves
-words_read : (n : ℕ) (ws : List ℕ) → length ws ≤ n → All IsWord ws → words_in n (flat_map octal ws) ≡ Some ws
-words_read zero [] few all = refl
-words_read (suc n) [] few all = refl
-words_read zero (w ∷ ws) few all = absurd (omega arith)
-words_read (suc n) (w ∷ ws) few all =
-    let rest : List ℕ = flat_map octal ws in
-    let text : List ℕ = octal w ++ rest in
-    let blank = octals_blank ws in
-    let word : octal_in (word_in text) ≡ Some w = ap octal_in (word_read (octal_text w) rest (octal_field w) blank) ∙ octal_read w (All-head IsWord w ws all) in
-    let behind : words_in n (behind_word text) ≡ Some ws = ap (words_in n) (behind_read (octal_text w) rest (octal_field w) blank) ∙ words_read n ws (omega arith) (All-tail IsWord w ws all) in
-    if_not (is_over text) _ _ (not_over (octal_text w) rest (octal_field w) blank)
-    ∙ and_then _ (octal_in (word_in text)) w (Some (w ∷ ws)) word (ap (option_map (λ (vs : List ℕ). w ∷ vs)) behind)
-
 -- O reads as it is written
 pub words_card_read : (w : ℕ) (ws : List ℕ) → length ws ≤ 4 → All IsWord (w ∷ ws) → words_card_in (octal w ++ flat_map octal ws) ≡ Some (w ∷ ws)
 words_card_read w ws few all =
-    if_not (is_over (octal w ++ flat_map octal ws)) None (words_in 5 (octal w ++ flat_map octal ws)) (not_over (octal_text w) (flat_map octal ws) (octal_field w) (octals_blank ws))
-    ∙ words_read 5 (w ∷ ws) (omega arith) all
+    if_not (is_over (octal w ++ flat_map octal ws)) None (fields_in octal_in 5 (octal w ++ flat_map octal ws)) (not_over (octal_text w) (flat_map octal ws) (octal_field w) (fields_blank octal_text ws))
+    ∙ fields_read octal_in octal_text IsWord (λ x h. octal_field x) octal_read 5 (w ∷ ws) (omega arith) all
 
 -- events
 

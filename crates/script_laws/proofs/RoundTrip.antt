@@ -25,6 +25,7 @@ use Rattle.text_model.specs.Canonical.{script_text_of}
 use Rattle.text_model.specs.Drafts.{empty_draft, max_tick, quota_of, is_same_file}
 use Rattle.text_model.specs.Reading.{script_of, max_bytes, blocks_of, names_differ}
 use Rattle.text_model.specs.Lawful.{IsLawfulAccount, IsLawfulFile, IsLawfulEvent, accounts_differ, IsLawful, CanonicalTextsAreRead}
+use Rattle.text_model.proofs.ParamLaws.{card_numbers_below}
 use Rattle.script_laws.proofs.Lines.{is_clean, lines_of_cards, all_clean_both}
 use Rattle.script_laws.proofs.Fields.{IsWord}
 use Rattle.script_laws.proofs.Texts.{param_text, words_text, user_text, user_texts, word_texts, file_text, file_texts, timed_text, end_text, events_texts, files_texts, cards_of, text_is_lines, param_clean, user_clean, file_clean, words_clean, timed_clean, end_clean}
@@ -258,18 +259,7 @@ end_reads p accounts held used files file events tick end all later soon is =
 
 -- what a lawful script says of its params
 limits_of : (s : Script) → IsLawful s → HasLimits s.params
-limits_of s h =
-    record {
-      wq = h.range.level;
-      level = h.level;
-      quantum = h.quantum;
-      slice = h.range.quantum;
-      swap = h.range.swap;
-      drum = h.range.drum;
-      disk = h.disk;
-      common = omega (arith, h.fits);
-      age = h.age;
-    }
+limits_of s h = record { within = h.params; common = omega (arith, h.fits) }
 
 -- of its accounts
 goods_of : (s : Script) → IsLawful s → All IsGood s.accounts
@@ -325,9 +315,7 @@ events_clean end (e ∷ events) soon fine =
 -- all cards are clean
 cards_clean : (s : Script) → IsLawful s → list_all is_clean (cards_of s) ≡ true
 cards_clean s h =
-    let limits : HasLimits s.params = limits_of s h in
-    and_from _ (list_all is_clean (user_texts 1 s.accounts ++ files_texts s.files s.events s.end))
-    (param_clean s.params (omega (arith, limits.level)) (omega (arith, limits.slice)) (omega (arith, limits.swap)) (omega (arith, limits.drum)) (omega (arith, limits.disk)) (omega (arith, limits.disk, limits.common)) (omega (arith, limits.age)))
+    and_from _ (list_all is_clean (user_texts 1 s.accounts ++ files_texts s.files s.events s.end)) (param_clean s.params (card_numbers_below s.params h.params))
     (all_clean_both (user_texts 1 s.accounts) (files_texts s.files s.events s.end) (users_clean 1 s.accounts (omega (arith, h.range.few)) (goods_of s h))
     (all_clean_both (flat_map file_texts s.files) (events_texts s.events s.end) (files_clean s.accounts s.files h.range.few (seats_of s h))
     (all_clean_both (map timed_text s.events) (end_text s.end ∷ []) (events_clean s.end s.events h.range.ticks (fine_of s h))

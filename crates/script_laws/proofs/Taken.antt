@@ -5,6 +5,7 @@ use Rattle.std.specs.Prelude.{option_to_list}
 use Rattle.std.specs.List.{All, list_any}
 use Rattle.std.proofs.lemmas.Bool.{not_from_false}
 use Rattle.std.proofs.lemmas.Bool.Decides.{nat_tests}
+use Rattle.ctss_types.specs.Params.{param_limits, numbers_of, are_within}
 use Rattle.ctss_types.specs.declared.script.Script.{Script}
 use Rattle.ctss_types.specs.declared.script.Params.{Params}
 use Rattle.ctss_types.specs.declared.script.Account.{Account}
@@ -15,15 +16,15 @@ use Rattle.file_model.specs.Owned.{files_of}
 use Rattle.text_model.specs.declared.cause.ScriptCause.{ScriptCause}
 use Rattle.text_model.specs.declared.cause.ScriptCause.TheVariants.{NotACard, TimeFalls, UnknownNumber, OverLimit, DrumSmall, DiskSmall}
 use Rattle.text_model.specs.declared.cause.ScriptRefusal.{ScriptRefusal}
-use Rattle.text_model.specs.declared.card.ParamCard.{ParamCard}
 use Rattle.text_model.specs.declared.card.UserCard.{UserCard}
 use Rattle.text_model.specs.declared.card.FileCard.{FileCard}
 use Rattle.text_model.specs.declared.card.EventCard.{EventCard}
 use Rattle.text_model.specs.declared.card.CardEvent.TheVariants.{Fits}
 use Rattle.text_model.specs.Fields.{is_within}
-use Rattle.text_model.specs.Drafts.{Draft, empty_draft, max_tick, are_params_in_limits, with_params, with_account, quota_of, is_same_file, with_file, with_words, with_event, with_end, by_form, entered}
+use Rattle.text_model.specs.Drafts.{Draft, empty_draft, max_tick, with_params, with_account, quota_of, is_same_file, with_file, with_words, with_event, with_end, by_form, entered}
 use Rattle.text_model.specs.Reading.{script_from}
 use Rattle.text_model.specs.Lawful.{IsName, IsLawfulEvent}
+use Rattle.text_model.proofs.ParamLaws.{card_numbers_below}
 use Rattle.script_laws.proofs.Fields.{IsWord}
 use Rattle.script_laws.proofs.Forms.{param_read, user_read, file_read, words_card_read, event_card_read, end_read}
 use Rattle.script_laws.proofs.Texts.{param_text, user_text, words_text, file_text, timed_text, end_text}
@@ -83,30 +84,15 @@ draft p accounts blocks tracks files file events tick =
 
 -- params that keep the limits of PARAM
 pub record HasLimits (p : Params) : Type 0 where
-  pub wq : 1 ≤ p.wq
-  pub level : p.wq ≤ 32768
-  pub quantum : 1 ≤ p.quantum
-  pub slice : p.quantum ≤ 1000000
-  pub swap : p.swap ≤ 1000000
-  pub drum : p.drum ≤ 3840
-  pub disk : p.disk ≤ 10000
+  pub within : are_within param_limits (numbers_of p) ≡ true
   pub common : p.common ≤ p.disk
-  pub age : p.age ≤ 1000000
-
--- their test
-params_pass : (p : Params) → HasLimits p → are_params_in_limits (record { wq = p.wq; quantum = p.quantum; swap = p.swap; drum = p.drum; disk = p.disk; common = p.common; age = p.age }) ≡ true
-params_pass p h =
-    rw (within 1 32768 p.wq h.wq h.level, within 1 1000000 p.quantum h.quantum h.slice, at_most p.swap 1000000 h.swap, at_most p.drum 3840 h.drum, at_most p.disk 10000 h.disk, at_most p.common 10000 (omega (arith, h.common, h.disk)), at_most p.age 1000000 h.age)
-    refl
 
 -- PARAM is taken first
 pub param_taken : (p : Params) → HasLimits p → entered empty_draft (param_text p) ≡ Ok (draft p [] 0 0 [] None [] 0)
 param_taken p h =
-    let c : ParamCard = record { wq = p.wq; quantum = p.quantum; swap = p.swap; drum = p.drum; disk = p.disk; common = p.common; age = p.age } in
     let e : Draft = draft p [] 0 0 [] None [] 0 in
-    taken (with_params empty_draft) _ c e
-    (param_read c (omega (arith, h.level)) (omega (arith, h.slice)) (omega (arith, h.swap)) (omega (arith, h.drum)) (omega (arith, h.disk)) (omega (arith, h.disk, h.common)) (omega (arith, h.age)))
-    (pass (are_params_in_limits c) OverLimit _ e (params_pass p h) (escape (nat_lt p.disk p.common) DiskSmall (Ok e) e (not_less p.disk p.common h.common) refl))
+    taken (with_params empty_draft) _ p e (param_read p (card_numbers_below p h.within))
+    (pass (are_within param_limits (numbers_of p)) OverLimit _ e h.within (escape (nat_lt p.disk p.common) DiskSmall (Ok e) e (not_less p.disk p.common h.common) refl))
 
 -- USER
 

@@ -1,10 +1,12 @@
 -- The canonical text of a script as a list of cards.
-use Rattle.std.proofs.Common.{zero, ◌≡◌, ℕ, suc, true, List, [], ◌∷◌, ◌++◌, map, codes, refl, sym, ap, ap₂, ◌∙◌}
-use Rattle.std.specs.List.{list_all, flat_map}
+use Rattle.std.proofs.Common.{◌≡◌, ℕ, suc, true, List, [], ◌∷◌, ◌++◌, map, codes, refl, sym, ap, ap₂, ◌∙◌}
+use Rattle.std.specs.List.{All, list_all, flat_map}
 use Rattle.std.proofs.lemmas.Bool.{and_from}
 use Rattle.std.proofs.lemmas.List.{append-nil}
 use Rattle.std.proofs.lemmas.List.Concat.{flat_map-append}
+use Rattle.std.proofs.lemmas.List.Elements.{All-head, All-tail}
 use Rattle.bcd48.specs.Characters.{is_character}
+use Rattle.ctss_types.specs.Params.{card_numbers}
 use Rattle.ctss_types.specs.declared.script.Script.{Script}
 use Rattle.ctss_types.specs.declared.script.Params.{Params}
 use Rattle.ctss_types.specs.declared.script.Account.{Account}
@@ -13,7 +15,7 @@ use Rattle.ctss_types.specs.declared.script.Event.{Event}
 use Rattle.ctss_types.specs.declared.script.Event.TheVariants as event
 use Rattle.ctss_types.specs.declared.file.OwnedFile.{OwnedFile}
 use Rattle.text_model.specs.Parts.{line, number, name}
-use Rattle.text_model.specs.Canonical.{age_text, param_card, user_card, user_cards, octal, word_cards, file_cards, event_text, event_card, end_card, script_text_of}
+use Rattle.text_model.specs.Canonical.{param_card, user_card, user_cards, octal, word_cards, file_cards, event_text, event_card, end_card, script_text_of}
 use Rattle.text_model.specs.Lawful.{IsName, IsLawfulEvent}
 use Rattle.script_laws.proofs.Lines.{is_shown, is_clean, clean_both}
 use Rattle.script_laws.proofs.Fields.{IsNumber, number_clean, name_clean, octal_clean, character_shown, all_weaker}
@@ -22,7 +24,7 @@ use Rattle.script_laws.proofs.Fields.{IsNumber, number_clean, name_clean, octal_
 
 -- PARAM
 abbrev pub param_text : Params → List ℕ
-param_text p = codes "PARAM" ++ (number p.wq ++ (number p.quantum ++ (number p.swap ++ (number p.drum ++ (number p.disk ++ (number p.common ++ age_text p.age))))))
+param_text p = codes "PARAM" ++ flat_map number (card_numbers p)
 
 -- USER
 abbrev pub user_text : ℕ → Account → List ℕ
@@ -135,19 +137,14 @@ text_is_lines s =
 
 -- the cards are clean
 
-age_clean : (n : ℕ) → IsNumber n → is_clean (age_text n) ≡ true
-age_clean zero small = refl
-age_clean (suc n) small = number_clean (suc n) small
+-- numbers are clean
+numbers_clean : (ns : List ℕ) → All IsNumber ns → is_clean (flat_map number ns) ≡ true
+numbers_clean [] small = refl
+numbers_clean (n ∷ ns) small = clean_both (number n) (flat_map number ns) (number_clean n (All-head IsNumber n ns small)) (numbers_clean ns (All-tail IsNumber n ns small))
 
 -- PARAM is clean
-pub param_clean : (p : Params) → IsNumber p.wq → IsNumber p.quantum → IsNumber p.swap → IsNumber p.drum → IsNumber p.disk → IsNumber p.common → IsNumber p.age → is_clean (param_text p) ≡ true
-param_clean p wq quantum swap drum disk common age =
-    clean_both (number p.wq) _ (number_clean p.wq wq)
-    (clean_both (number p.quantum) _ (number_clean p.quantum quantum)
-    (clean_both (number p.swap) _ (number_clean p.swap swap)
-    (clean_both (number p.drum) _ (number_clean p.drum drum)
-    (clean_both (number p.disk) _ (number_clean p.disk disk)
-    (clean_both (number p.common) (age_text p.age) (number_clean p.common common) (age_clean p.age age))))))
+pub param_clean : (p : Params) → All IsNumber (card_numbers p) → is_clean (param_text p) ≡ true
+param_clean p small = numbers_clean (card_numbers p) small
 
 -- USER is clean
 pub user_clean : (n : ℕ) (a : Account) → IsNumber n → IsName a.name → IsName a.password → IsNumber a.blocks → IsNumber a.tracks → is_clean (user_text n a) ≡ true

@@ -1,5 +1,5 @@
-pub mod Ages
 pub mod CardWords
+pub mod WrittenOut
 pub mod FirstLine
 pub mod Tracks
 pub mod Trimmed

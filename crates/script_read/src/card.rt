@@ -1,45 +1,9 @@
 ghost use Rattle.std.specs.Prelude.{◌≡◌};
-ghost use Rattle.text_model.specs.Cards.{age_in, param_card_in, user_card_in, file_card_in, line_event, event_in, event_card_in, end_card_in};
+ghost use Rattle.text_model.specs.Cards.{user_card_in, file_card_in, line_event, event_in, event_card_in, end_card_in};
 
 use crate::field::{first_name, first_number, is_over, text_behind};
 use ctss_types::{Event, FileName, first_word};
-use text_model::{CardEvent, CardText, EventCard, FileCard, ParamCard, UserCard};
-
-/// The last number of a PARAM card, which may be left out.
-fn age_in(text: &[u8]) -> Option<u32>
-    ensures { result ≡ age_in text.now }
-{
-    if is_over(text) {
-        return Some(0);
-    }
-    let (age, text) = first_number(text)?;
-    if !is_over(text) {
-        return None;
-    }
-    Some(age)
-}
-
-/// What a PARAM card says.
-pub fn param_card(text: &[u8]) -> Option<ParamCard>
-    ensures { result ≡ param_card_in text.now }
-{
-    let (wq, text) = first_number(text)?;
-    let (quantum, text) = first_number(text)?;
-    let (swap, text) = first_number(text)?;
-    let (drum, text) = first_number(text)?;
-    let (disk, text) = first_number(text)?;
-    let (common, text) = first_number(text)?;
-    let age = age_in(text)?;
-    Some(ParamCard {
-        wq,
-        quantum,
-        swap,
-        drum,
-        disk,
-        common,
-        age,
-    })
-}
+use text_model::{CardEvent, CardText, EventCard, FileCard, UserCard};
 
 /// What a USER card says.
 pub fn user_card(text: &[u8]) -> Option<UserCard>

@@ -3,21 +3,23 @@ ghost use Rattle.std.specs.List.{list_any};
 ghost use Rattle.ctss_types.specs.declared.script.Account as record_of;
 ghost use Rattle.program_model.specs.Lines.{words_of_line};
 ghost use Rattle.text_model.specs.Cards.{words_card_in};
-ghost use Rattle.text_model.specs.Drafts.{are_params_in_limits, is_account_in_limits, is_file_in_limits, is_new_account, is_new_file, is_same_file, empty_file, with_params, with_account, with_last, with_file, with_words, with_text, with_event, with_end, by_form, more_entered, entered_by, entered, empty_draft, is_comment, is_indented};
+ghost use Rattle.text_model.specs.Drafts.{is_account_in_limits, is_file_in_limits, is_new_account, is_new_file, is_same_file, empty_file, with_params, with_account, with_last, with_file, with_words, with_text, with_event, with_end, by_form, more_entered, entered_by, entered, empty_draft, is_comment, is_indented};
+ghost use Rattle.ctss_types.specs.Params.{params_of};
 ghost use Rattle.ctss_types.specs.Words.{word_in, behind_word};
 ghost use Rattle.script_read.specs.Drafts.{draft_of, Enters};
 
-use crate::card::{end_card, event_card, file_card, param_card, user_card};
+use crate::card::{end_card, event_card, file_card, user_card};
 use crate::draft::{CardFault, Draft};
 use crate::field::{is_over, text_behind};
 use crate::files::{fits, has_file, quota, tracks_of};
+use crate::params::{are_within, param_card, params};
 use crate::words::{add_line, add_words};
 use ctss_types::{
     Account, ConsoleNo, Event, FileBody, LineText, NoMemory, OwnedFile, Params, Sequence, Timed,
     UserNo, first_word,
 };
 use std::alloc::Global;
-use text_model::{CardEvent, CardText, EventCard, FileCard, ParamCard, ScriptCause, UserCard};
+use text_model::{CardEvent, CardText, EventCard, FileCard, ScriptCause, UserCard};
 use word36::Word;
 
 /// The highest tick.
@@ -41,40 +43,18 @@ pub fn empty_draft(alloc: Global) -> Draft
     }
 }
 
-/// Whether the numbers of a PARAM card are in their limits.
-fn are_params_in_limits(card: &ParamCard) -> bool
-    ensures { result ≡ are_params_in_limits card.now }
-{
-    1 <= card.wq
-        && card.wq <= 32_768
-        && 1 <= card.quantum
-        && card.quantum <= 1_000_000
-        && card.swap <= 1_000_000
-        && card.drum <= 3840
-        && card.disk <= 10_000
-        && card.common <= 10_000
-        && card.age <= 1_000_000
-}
-
 /// Takes the first card.
-fn with_params(draft: &mut Draft, card: &ParamCard) -> Result<(), CardFault>
-    ensures { Enters result (with_params (draft_of draft.old) card.now) (draft_of draft.new) }
+fn with_params(draft: &mut Draft, numbers: &[u32]) -> Result<(), CardFault>
+    ensures { Enters result (with_params (draft_of draft.old) (params_of numbers.now)) (draft_of draft.new) }
 {
-    if !are_params_in_limits(card) {
+    if !are_within(numbers) {
         return Err(CardFault::Refused(ScriptCause::OverLimit));
     }
-    if card.disk < card.common {
+    let params = params(numbers);
+    if params.disk < params.common {
         return Err(CardFault::Refused(ScriptCause::DiskSmall));
     }
-    draft.params = Some(Params {
-        wq: card.wq,
-        quantum: u64::from(card.quantum),
-        swap: u64::from(card.swap),
-        drum: card.drum as u16,
-        disk: card.disk as u16,
-        common: card.common as u16,
-        age: u64::from(card.age),
-    });
+    draft.params = Some(params);
     Ok(())
 }
 
@@ -394,7 +374,7 @@ fn enter_first(draft: &mut Draft, word: &[u8], text: &[u8]) -> Result<(), CardFa
         return Err(CardFault::Refused(ScriptCause::NotACard));
     }
     match param_card(text) {
-        Some(card) => with_params(draft, &card),
+        Some(numbers) => with_params(draft, &numbers),
         None => Err(CardFault::Refused(ScriptCause::NotACard)),
     }
 }

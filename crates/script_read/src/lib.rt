@@ -7,6 +7,7 @@ mod enter;
 mod fault;
 mod field;
 mod files;
+mod params;
 mod read;
 mod text;
 mod words;

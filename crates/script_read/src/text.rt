@@ -1,22 +1,23 @@
 //! The canonical text of a script.
 ghost use Rattle.std.specs.Prelude.{◌++◌, codes};
 ghost use Rattle.std.specs.List.{flat_map};
-ghost use Rattle.text_model.specs.Canonical.{age_text, param_card, user_card, user_cards, file_cards, event_text, event_card, end_card, script_text_of};
+ghost use Rattle.text_model.specs.Canonical.{param_card, user_card, user_cards, file_cards, event_text, event_card, end_card, script_text_of};
 ghost use Rattle.text_model.specs.Parts.{line, number, name};
 ghost use Rattle.text_writer.specs.Writing.{Adds};
 
+use crate::params::{numbers, written_out};
 use ctss_io::Sink;
 use ctss_types::{Account, Event, FileBody, OwnedFile, Params, Script, Timed};
 use text_writer::cards::add_word_cards;
 use text_writer::{Text, TextWriter};
 use word36::Word;
 
-/// Adds the age of the PARAM card, which 0 leaves out.
-fn add_age<K: Sink>(out: &mut TextWriter<'_, K>, age: u64)
-    ensures { Adds K.Sink (age_text age) out.old out.new }
+/// Adds numbers.
+fn add_numbers<K: Sink>(out: &mut TextWriter<'_, K>, numbers: &[u64])
+    ensures { Adds K.Sink (flat_map number numbers.now) out.old out.new }
 {
-    if age > 0 {
-        out.number(age);
+    for n in numbers {
+        out.number(*n);
     }
 }
 
@@ -25,13 +26,7 @@ pub fn add_params<K: Sink>(out: &mut TextWriter<'_, K>, params: Params)
     ensures { Adds K.Sink (param_card params) out.old out.new }
 {
     out.add(b"PARAM");
-    out.number(params.wq);
-    out.number(params.quantum);
-    out.number(params.swap);
-    out.number(params.drum);
-    out.number(params.disk);
-    out.number(params.common);
-    add_age(out, params.age);
+    add_numbers(out, written_out(&numbers(params)));
     out.end_line();
 }
 

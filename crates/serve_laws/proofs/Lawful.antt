@@ -39,10 +39,7 @@ live_is_lawful base turns events b few good rise =
         seats = All-weaker (IsGood (1000 * turns)) (λ (e : Timed). (1 ≤ e.console) × (e.console ≤ 32)) (λ e g. (g.some, g.few)) events good;
         ticks = omega (arith, few);
       };
-      level = b.level;
-      quantum = b.quantum;
-      disk = b.disk;
-      age = b.age;
+      params = b.params;
       fits = b.fits;
       accounts = b.accounts;
       differ = b.differ;

@@ -168,7 +168,7 @@ does_stepped v p t asked made r old new had has window after first last who load
     elsewhere told x n (inl e) = ap has.stores e ∙ now_common told ∙ sym (with_own 0 last f) ∙ ap (with_store 0 last f) (sym e)
     elsewhere told x n (inr m) = others x (omega (arith, m)) n ∙ sym (with_other 0 x first had.stores m) ∙ sym (with_other v.user x window common_first n) ∙ sym (with_other 0 x last f m)
 
--- behind a call that left the run as it was
+-- after a call that left the run as it was
 pub does_from : (f : Run → Run) (old mid new : Run) (had has at : Held) → mid ≡ old → (had.tells ≡ true → (u : ℕ) → at.stores u ≡ had.stores u) → at.tells ≡ had.tells → at.common ≡ had.common
     → Does f mid new at has → Does f old new had has
 does_from f old mid new had has at is words tells common d =

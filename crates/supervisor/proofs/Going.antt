@@ -13,7 +13,7 @@ use Rattle.user_cores.specs.Backing.{Held}
 use Rattle.user_cores.specs.declared.backing.Backing.{Ghosts}
 use Rattle.supervisor.specs.Counts.{IsCounted}
 use Rattle.supervisor.specs.Goes.{IsGoing, LeavesDevices}
-use Rattle.supervisor.specs.Seen.{seen}
+use Rattle.supervisor.specs.Seen.{run_seen}
 use Rattle.supervisor.specs.Steps.{IsTied, IsHeld, Stays, Ends, Fails, Lasts}
 use Rattle.supervisor.specs.declared.state.State.{State}
 use Rattle.supervisor.proofs.Counting.{counted_same, counted_none}
@@ -44,7 +44,7 @@ held_still old new had has held s tied =
 module _ {C : Type 0} (g : Ghosts C) where
   -- nothing was done, and nothing called
   pub leaves_same : (had has : State) (cores : C) → IsGoing g had cores → g.Keeps cores cores
-      → seen (g.state cores).held.places has ≡ seen (g.state cores).held.places had → LeavesDevices g had cores has cores
+      → run_seen (g.state cores).held.places has ≡ run_seen (g.state cores).held.places had → LeavesDevices g had cores has cores
   leaves_same had has cores going stays same =
       record {
         counted = counted_same _ _ _ _ (ap (λ (r : Run). r.system.entries) same) refl;
@@ -56,11 +56,11 @@ module _ {C : Type 0} (g : Ghosts C) where
       }
 
   -- users stay, no load was noted, and nothing called
-  pub leaves_apart : (had has : State) (cores : C) (s : Run) → IsGoing g had cores → g.Keeps cores cores → seen (g.state cores).held.places has ≡ s
+  pub leaves_apart : (had has : State) (cores : C) (s : Run) → IsGoing g had cores → g.Keeps cores cores → run_seen (g.state cores).held.places has ≡ s
       → s.system.users ≡ had.sessions.items → Moves had.entries.items s.system.entries 0 0 → LeavesDevices g had cores has cores
   leaves_apart had has cores s going stays is users moves =
       record {
-        counted = counted_none (seen (g.state cores).held.places had) s (seen (g.state cores).held.places has) _ _ is moves refl;
+        counted = counted_none (run_seen (g.state cores).held.places had) s (run_seen (g.state cores).held.places has) _ _ is moves refl;
         tied = subst (λ (us : List User). IsTied us (g.state cores).held) (sym (ap (λ (r : Run). r.system.users) is ∙ users)) going.held.tied;
         usable = going.usable;
         keeps = stays;

@@ -39,7 +39,7 @@ pub next_grow : (limit : ℕ) (r : Run) (texts : List (List ℕ)) → TextsGrow 
 unfolding texts_next
 next_grow limit r texts = after_grow (machine user_rows) (world r) 1 r.system (next limit r).system texts
 
--- behind a step
+-- after a step
 pub step_grow : (limit : ℕ) (old new : Run) (had has : Held) (x y : List (List ℕ)) → Does (next limit) old new had has → GoesOn limit old new x y → TextsGrow x y
 step_grow limit old new had has x y d goes = subst (TextsGrow x) (sym (goes d.before d.after d.is)) (next_grow limit (joined d.before old) x)
 

@@ -68,7 +68,7 @@ does_many limit n l w v p old new had has window after who serves first mine lef
     f : ℕ → Stored
     f = with_store v.user window had.stores
 
--- behind fewer of them than could have been done the next step is that user's too
+-- after fewer of them than could have been done the next step is that user's too
 pub served_next : (limit most n l : ℕ) (w : Waiting) (v : Service) (p : User) (until : ℕ) (old new : Run) (has : Held) → new ≡ passed n v p old → n < most
     → chosen old.system.plan.levels ≡ Some (l, w) → w.user ≡ v.user → old.system.clock + most ≤ next_tick limit old.system.events
     → NobodyRises (Some v.user) until old.system.plan.levels → old.system.clock + most ≤ until
@@ -185,7 +185,7 @@ module _ (limit : ℕ) (mid new : Run) (had has : Held) (d : DoesMany limit mid 
         d.passes (quiet_from sound told, grow_none (shows from))).1 in
         subst (λ (x : List (List ℕ)). TextsGrow x (shows new)) (sym (texts_same d.before mid rows)) (subst (TextsGrow (shows from)) (sym (texts_same d.after new rows)) g)
 
--- one step, and such steps behind it
+-- one step, and such steps after it
 pub once_run : (limit : ℕ) (old mid new : Run) (had midway has : Held) → Does (next limit) old mid had midway → DoesMany limit mid new midway has → HasRunOnce limit old new had has
 once_run limit old mid new had midway has d many = λ told.
     let t : midway.tells ≡ true = d.tells ∙ told in

@@ -28,7 +28,7 @@ joined_next limit old new had has d told =
 abbrev pub HasRunSteps : ℕ → (old new : Run) → (had has : Held) → Type 0
 HasRunSteps limit old new had has = had.tells ≡ true → AfterSteps limit (joined had.stores old) (joined has.stores new)
 
--- what is to come of a run is the same behind a step
+-- what is to come of a run is the same after a step
 abbrev pub Leads : ℕ → (start now : Run) → (first has : Held) → Type 0
 Leads limit start now first has = first.tells ≡ true → run_to limit (joined has.stores now) ≡ run_to limit (joined first.stores start)
 
@@ -82,7 +82,7 @@ calls_joined : (f : ℕ → Stored) (u : ℕ) (r : Run) → IsUser u r → calls
 unfolding joined
 calls_joined f u r who = ap (λ (n : ℕ). dumps r.system.plan.places u n + reads r.system.plan.places u n) (blocks_same f u r who)
 
--- a part of a run, behind which at most an operation on the common files was made
+-- a part of a run, after which at most an operation on the common files was made
 pub part_but_commons : (limit : ℕ) (start old new : Run) (first had has : Held) → had.tells ≡ first.tells → HasRunSteps limit start old first had → Stays old new had has → HasRunPart limit start new first has
 unfolding joined
 part_but_commons limit start old new first had has tells part s = λ told. (

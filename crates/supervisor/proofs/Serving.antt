@@ -44,7 +44,7 @@ recut_whole n core h =
     rest : ◌≡◌ {A = List ℕ} [] (replicate (256 * n - length core) 0)
     rest = ap (λ (k : ℕ). replicate k 0) (sym none)
 
--- the words behind a step, where those of a step that goes on are as many as its blocks
+-- the words after a step, where those of a step that goes on are as many as its blocks
 pub settled_is : (e : Ending) (n : ℕ) (core : List ℕ) → (e ≡ Went → length core ≡ 256 * n) → settled e n core ≡ core_after e n core
 settled_is Went n core h = recut_whole n core (h refl)
 settled_is Stopped n core h = refl

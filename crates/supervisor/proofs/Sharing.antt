@@ -18,7 +18,7 @@ use Rattle.supervisor.proofs.Doing.{either}
 pub stays_same : (old new : Run) (had has : Held) → new ≡ old → (had.tells ≡ true → (u : ℕ) → 1 ≤ u → has.stores u ≡ had.stores u) → has.tells ≡ had.tells → has.common ≡ had.common → Stays old new had has
 stays_same old new had has is words tells common = record { run = is; stores = words; tells = tells; common = common }
 
--- behind a call that left the run as it was
+-- after a call that left the run as it was
 pub stays_from : (old mid new : Run) (had at has : Held) → mid ≡ old → (had.tells ≡ true → (u : ℕ) → at.stores u ≡ had.stores u) → at.tells ≡ had.tells → at.common ≡ had.common
     → Stays mid new at has → Stays old new had has
 stays_from old mid new had at has is words tells common stays =

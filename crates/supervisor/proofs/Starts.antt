@@ -6,8 +6,8 @@ use Rattle.std.proofs.lemmas.List.{length-map}
 use Rattle.time_sharing.specs.System.{Off}
 use Rattle.user_model.specs.Session.{nobody, first_state}
 use Rattle.user_model.specs.User.{User}
-use Rattle.plan_model.specs.Levels.{empty_levels, waits}
-use Rattle.plan_model.specs.Loads.{no_places}
+use Rattle.plan_model.specs.Levels.{waits}
+use Rattle.plan_model.specs.Plan.{first_plan}
 use Rattle.system_model.specs.Run.{Run}
 use Rattle.system_model.specs.Record.{start_of, users_from}
 use Rattle.system_model.specs.Sound.{Sound}
@@ -22,7 +22,7 @@ made script =
       system = record {
         users = map (λ (a : Account). first_state a []) script.accounts;
         files = [];
-        plan = record { levels = empty_levels script.params.wq script.params.quantum script.params.age; places = no_places };
+        plan = first_plan script.params;
         consoles = replicate 32 Off;
         clock = 0;
         events = [];

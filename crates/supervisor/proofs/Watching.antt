@@ -1,4 +1,4 @@
--- What the consoles have shown behind steps of the code, as the definitions say over users joined with words.
+-- What the consoles have shown after steps of the code, as the definitions say over users joined with words.
 use Rattle.std.proofs.Common.{◌≡◌, ℕ, zero, suc, ◌<◌, ◌≤◌, true, List, length, map, Option, Some, None, refl, sym, ◌∙◌, ap, subst}
 use Rattle.std.specs.Option.{is_some}
 use Rattle.std.proofs.Math.ListN.{get_or-map}
@@ -43,7 +43,7 @@ pub texts_same : (f : ℕ → Stored) (r : Run) (rows : List Shown) → map (tex
 unfolding joined
 texts_same f r rows = ap (λ (ts : Transcripts). map (text_of ts) rows) (transcripts_same 1 f r.system.users)
 
--- rows that are f of a run behind a step
+-- rows that are f of a run after a step
 module _ (limit : ℕ) (old new : Run) (rows : List Shown) (f : Run → Shown → Shown) where
   -- what is known of such rows, of a run whose users have words
   abbrev pub Knows : Type 0
@@ -105,7 +105,7 @@ pub rest_same : (limit : ℕ) (old new : Run) (rows : List Shown) (after : List 
 unfolding joined
 rest_same limit old new rows after w = refl
 
--- a step behind which a service is open
+-- a step after which a service is open
 pub served_goes : (limit : ℕ) (old new : Run) (rows : List Shown) → due_of old.system.events old.system.clock ≡ None → Sound old → is_some new.system.service ≡ true
     → AreShown old.system.consoles (transcripts_of old.system.users) rows → GoesOn limit old new (map (text_of (transcripts_of old.system.users)) rows) (map (text_of (transcripts_of new.system.users)) rows)
 unfolding joined

@@ -10,7 +10,7 @@ use Rattle.plan_model.specs.Spent.{NobodyRises}
 use Rattle.system_model.specs.Sound.{Sound, IsUser}
 use Rattle.user_cores.specs.Backing.{BackState, CallsNothing}
 use Rattle.user_cores.specs.declared.backing.Backing.{Ghosts}
-use Rattle.supervisor.specs.Seen.{seen}
+use Rattle.supervisor.specs.Seen.{run_seen}
 use Rattle.supervisor.specs.Shows.{MatchesConsoles, TextsGrow}
 use Rattle.supervisor.specs.Steps.{IsLeft, Lasts}
 use Rattle.supervisor.specs.Whole.{Whole, whole, watched, run_of, Holds, StepsOn, AreTied, AreCounted, AreCountedBy}
@@ -101,7 +101,7 @@ module _ {C : Type 0} (g : Ghosts C) where
     pub tells : Lasts result ((g.state new).held.tells ≡ (g.state old).held.tells)
     pub held : Lasts result (Holds (watched has (g.state new)))
     pub usable : Lasts result (g.Usable new)
-    pub sound : Sound (seen no_places has.state)
+    pub sound : Sound (run_seen no_places has.state)
     pub matched : MatchesConsoles has.state.consoles.items has.state.sessions.items has.texts
     pub keeps : g.Keeps old new
     pub faults_grow : (g.state old).faults ≤ (g.state new).faults

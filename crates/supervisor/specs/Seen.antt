@@ -64,19 +64,19 @@ bare_of s =
       ended = false;
     }
 
-abbrev pub seen : Places → State → Run
-seen places s = run_with places (bare_of s)
+abbrev pub run_seen : Places → State → Run
+run_seen places s = run_with places (bare_of s)
 
 -- this happened to the run, wherever users' blocks lie
 abbrev pub Becomes : (Run → Run) → State → State → Type 0
-Becomes f old new = (places : Places) → seen places new ≡ f (seen places old)
+Becomes f old new = (places : Places) → run_seen places new ≡ f (run_seen places old)
 
 -- the same where a call answers Ok; and where it answers a fault the run is as before
 abbrev pub BecomesIf : {T E : Type 0} → Result T E → (Run → Run) → State → State → Type 0
-BecomesIf result f old new = (places : Places) → OnOk result (seen places new ≡ f (seen places old))
+BecomesIf result f old new = (places : Places) → OnOk result (run_seen places new ≡ f (run_seen places old))
 
 abbrev pub StaysIf : {T E : Type 0} → Result T E → State → State → Type 0
-StaysIf result old new = (places : Places) → OnErr result (seen places new ≡ seen places old)
+StaysIf result old new = (places : Places) → OnErr result (run_seen places new ≡ run_seen places old)
 
 -- the number of a user whose session is over, 0 for nobody
 abbrev pub number_of : Option ℕ → ℕ
@@ -90,10 +90,10 @@ left_places (Some u) places = given_up places u 0
 
 -- this happened, and a user gives up its blocks: this one, or the one that the call answers
 abbrev pub LeavesIf : {T E : Type 0} → Result T E → ℕ → (Run → Run) → State → State → Type 0
-LeavesIf result user f old new = (places : Places) → OnOk result (seen (given_up places user 0) new ≡ f (seen places old))
+LeavesIf result user f old new = (places : Places) → OnOk result (run_seen (given_up places user 0) new ≡ f (run_seen places old))
 
 abbrev pub CutsIf : {E : Type 0} → Result (Option ℕ) E → (Run → Run) → State → State → Type 0
-CutsIf result f old new = (places : Places) → IfOk result (λ cut. seen (left_places cut places) new ≡ f (seen places old))
+CutsIf result f old new = (places : Places) → IfOk result (λ cut. run_seen (left_places cut places) new ≡ f (run_seen places old))
 
 -- the queues after a service has ended, if it has: of a user with unread lines or none, and of so many blocks
 abbrev pub left_queues : Option Cause → ℕ → Bool → ℕ → (now : ℕ) → Levels → Levels

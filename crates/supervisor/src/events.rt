@@ -8,7 +8,7 @@ ghost use Rattle.system_model.specs.Joined.{cut_user};
 ghost use Rattle.system_model.specs.Run.{taken, at_console};
 ghost use Rattle.system_model.specs.Cases.{quit_taken, hang_taken, spent_taken, line_taken, heard, login_taken, dial_taken, user_at};
 ghost use Rattle.system_model.specs.Sound.{Sound, HasSeat};
-ghost use Rattle.supervisor.specs.Seen.{seen, number_of, BecomesIf, StaysIf, LeavesIf, CutsIf};
+ghost use Rattle.supervisor.specs.Seen.{run_seen, number_of, BecomesIf, StaysIf, LeavesIf, CutsIf};
 
 use crate::accounts::Login;
 use crate::login::{asked, mark_on, password_in};
@@ -424,8 +424,8 @@ impl State {
     /// The event that is due. It answers the user whose session is over by a hang or by a line too much.
     #[tactic(auto, using(system_model::proofs::CaseLaws::taken_at))]
     pub(crate) fn take_event(&mut self, e: Timed) -> Result<Option<UserNo>, NoMemory>
-        requires sound { Sound (seen no_places self.old) }
-        requires seat { HasSeat e (seen no_places self.old) }
+        requires sound { Sound (run_seen no_places self.old) }
+        requires seat { HasSeat e (run_seen no_places self.old) }
         ensures ok { CutsIf result (taken e) self.old self.new }
         ensures cut { IfOk result (λ cut. number_of cut
             ≡ cut_user (get_or self.old.consoles.items (e.console - 1) Off) e.event self.old.sessions.items) }

@@ -1,7 +1,7 @@
 //! What a run hands out.
 ghost use Rattle.std.specs.Prelude.{◌≡◌, map, IfOk};
 ghost use Rattle.plan_model.specs.Loads.{no_places};
-ghost use Rattle.supervisor.specs.Seen.{record_so_far, seen};
+ghost use Rattle.supervisor.specs.Seen.{record_so_far, run_seen};
 ghost use Rattle.supervisor.specs.Closes.{record_with};
 
 use crate::state::State;
@@ -36,7 +36,7 @@ pub(crate) fn record_of(
     own: Vec<FileList>,
     common: FileList,
 ) -> Result<Record, NoMemory>
-    ensures { IfOk result (λ rec. rec ≡ record_with own.items common (seen no_places state)) }
+    ensures { IfOk result (λ rec. rec ≡ record_with own.items common (run_seen no_places state)) }
 {
     let transcripts = transcripts_of(alloc, state.sessions)?;
     Ok(Record {
@@ -50,7 +50,7 @@ pub(crate) fn record_of(
 
 /// The record so far, without files.
 pub(crate) fn record_without_files(alloc: Global, state: State) -> Result<Record, NoMemory>
-    ensures { IfOk result (λ rec. rec ≡ record_so_far (seen no_places state)) }
+    ensures { IfOk result (λ rec. rec ≡ record_so_far (run_seen no_places state)) }
 {
     record_of(alloc, state, Vec::new(alloc), Sequence::new(alloc))
 }

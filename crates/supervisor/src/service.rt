@@ -8,7 +8,7 @@ ghost use Rattle.system_model.specs.Run.{rising, raised};
 ghost use Rattle.system_model.specs.Runs.{elapsed};
 ghost use Rattle.plan_model.specs.Loads.{no_places};
 ghost use Rattle.std.specs.Option.{is_some};
-ghost use Rattle.supervisor.specs.Seen.{left_queues, Becomes, BecomesIf, StaysIf, seen};
+ghost use Rattle.supervisor.specs.Seen.{left_queues, Becomes, BecomesIf, StaysIf, run_seen};
 
 use crate::notes::{cause_of, idle_from, leave_consoles, note, note_clock, note_step};
 use crate::state::State;
@@ -115,7 +115,7 @@ impl State {
     /// Whether a user has waited for so long that it rises.
     #[tactic(auto, using(crate::proofs::Serving::up_too))]
     pub(crate) fn rises(&self) -> bool
-        ensures { result ≡ is_some (rising (seen no_places self.now)) }
+        ensures { result ≡ is_some (rising (run_seen no_places self.now)) }
     {
         let served = self.served();
         self.queues.rises(&served, self.clock)

@@ -7,7 +7,7 @@ ghost use Rattle.user_model.specs.Session.{first_state};
 ghost use Rattle.plan_model.specs.Loads.{no_places};
 ghost use Rattle.system_model.specs.Record.{start_of};
 ghost use Rattle.system_model.specs.Sound.{Sound};
-ghost use Rattle.supervisor.specs.Seen.{seen};
+ghost use Rattle.supervisor.specs.Seen.{run_seen};
 
 use crate::accounts::Accounts;
 use crate::state::State;
@@ -45,9 +45,9 @@ pub(crate) fn first_state(alloc: Global, script: &Script) -> Result<State, NoMem
     requires swap { script.now.params.swap ≤ 1000000 }
     requires users { length script.now.accounts ≤ 30 }
     requires blocks { All (λ (a : Account). a.blocks ≤ 128) script.now.accounts }
-    ensures run { IfOk result (λ s. seen no_places s ≡ start_of (record script.now { events = []; files = [] })) }
+    ensures run { IfOk result (λ s. run_seen no_places s ≡ start_of (record script.now { events = []; files = [] })) }
     ensures off { IfOk result (λ s. s.consoles.items ≡ replicate 32 Off) }
-    ensures sound { IfOk result (λ s. Sound (seen no_places s)) }
+    ensures sound { IfOk result (λ s. Sound (run_seen no_places s)) }
 {
     let accounts = script.accounts.as_slice();
     Ok(State {

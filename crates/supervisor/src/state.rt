@@ -5,7 +5,7 @@ ghost use Rattle.plan_model.specs.Loads.{no_places};
 ghost use Rattle.system_model.specs.Sound.{Sound, HasSeat};
 ghost use Rattle.system_model.specs.Run.{with_one_event, due_of};
 ghost use Rattle.system_model.specs.Cases.{closed};
-ghost use Rattle.supervisor.specs.Seen.{seen, bare_of, BecomesIf, StaysIf};
+ghost use Rattle.supervisor.specs.Seen.{run_seen, bare_of, BecomesIf, StaysIf};
 
 use crate::accounts::Accounts;
 use crate::notes::{end_note, idle_note, note_some};
@@ -73,13 +73,13 @@ impl State {
     /// An event more.
     #[tactic(auto, using(system_model::proofs::SoundLaws::sound_given), unfolding(system_model::specs::Run::with_one_event))]
     pub(crate) fn take(&mut self, e: Timed) -> Result<(), NoMemory>
-        requires sound { Sound (seen no_places self.old) }
-        requires seat { HasSeat e (seen no_places self.old) }
+        requires sound { Sound (run_seen no_places self.old) }
+        requires seat { HasSeat e (run_seen no_places self.old) }
         ensures ok { BecomesIf result (with_one_event e) self.old self.new }
         ensures err { OnErr result (bare_of self.new ≡ bare_of self.old) }
         ensures consoles { self.new.consoles.items ≡ self.old.consoles.items }
         ensures sessions { self.new.sessions.items ≡ self.old.sessions.items }
-        ensures sound { Sound (seen no_places self.new) }
+        ensures sound { Sound (run_seen no_places self.new) }
     {
         self.events.reserve(1)?;
         let event: Event = e.event;

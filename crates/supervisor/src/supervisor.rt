@@ -35,7 +35,7 @@ pub struct Supervisor {
 impl Model for Supervisor {
     ghost use Rattle.system_model.specs.Sound.{Sound};
     ghost use Rattle.plan_model.specs.Loads.{no_places};
-    ghost use Rattle.supervisor.specs.Seen.{Bare, bare_of, seen};
+    ghost use Rattle.supervisor.specs.Seen.{Bare, bare_of, run_seen};
     ghost use Rattle.supervisor.specs.Shows.{texts_of, MatchesConsoles};
 
     ghost Value = { Bare };
@@ -45,7 +45,7 @@ impl Model for Supervisor {
       ended = s.ended;
     } };
 
-    ghost invariant = { λ s. Sound (seen no_places s.watch.state)
+    ghost invariant = { λ s. Sound (run_seen no_places s.watch.state)
         × MatchesConsoles s.watch.state.consoles.items s.watch.state.sessions.items s.watch.texts };
 }
 

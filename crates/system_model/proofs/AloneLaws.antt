@@ -11,7 +11,7 @@ use Rattle.time_sharing.specs.Record as whole
 use Rattle.time_sharing.specs.System.{at}
 use Rattle.time_sharing.specs.Machine.{End}
 use Rattle.time_sharing.specs.Private.{Cut, alone}
-use Rattle.time_sharing.specs.Reach.{Goes}
+use Rattle.time_sharing.specs.Reach.{LeadsTo}
 use Rattle.time_sharing.specs.Feeds.{feed_of, observed, ran_of}
 use Rattle.time_sharing.proofs.ClaimsProved as claims
 use Rattle.time_sharing.proofs.Theorem.{isolation}
@@ -76,7 +76,7 @@ users_are_alone script u pos within =
     inside = omega (arith, users_length 1 script.accounts script.files)
 
     come : whole.IsAlone M (at nobody firsts u) (Rattle.time_sharing.specs.Feeds.feed_of u script.events r.system.entries) p
-    come = isolation M (rows_laws user_rows) (script_world script) u pos firsts [] (first_plan script.params.wq script.params.quantum script.params.age) consoles script.end
+    come = isolation M (rows_laws user_rows) (script_world script) u pos firsts [] (first_plan script.params) consoles script.end
         (measure script.end (start_of script)) script.events inside (ap (λ (q : User). q.own) (first_is script u pos within))
 
     came : alone_of script (record_of script) u ≡ record { state = p; clocks = []; replies = [] }
@@ -88,7 +88,7 @@ users_are_alone script u pos within =
 pub commons_are_one : CommonsAreOne
 unfolding record_of start_of run_to ended measure
 commons_are_one script =
-    let is = claims.commons_are_one User Plan (List FileBody) (machine user_rows) (script_world script) (users_from 1 script.accounts script.files) [] (first_plan script.params.wq script.params.quantum script.params.age) consoles script.end
+    let is = claims.commons_are_one User Plan (List FileBody) (machine user_rows) (script_world script) (users_from 1 script.accounts script.files) [] (first_plan script.params) consoles script.end
     (measure script.end (start_of script)) script.events in
     record { replies = is.0; files = is.1 }
 
@@ -108,7 +108,7 @@ unfolding start_of AfterSteps
 each_moment script u r pos within after =
     subst (λ (q : User). IsReached q r.system) (first_is script u pos within)
     (subst (IsReached (at nobody firsts u)) (sym (ap (λ (q : Run). q.system) after.1))
-    (claims.each_moment User Plan (List FileBody) (machine user_rows) (rows_laws user_rows) (script_world script) u pos firsts [] (first_plan script.params.wq script.params.quantum script.params.age) consoles script.end after.0
+    (claims.each_moment User Plan (List FileBody) (machine user_rows) (rows_laws user_rows) (script_world script) u pos firsts [] (first_plan script.params) consoles script.end after.0
     script.events inside (ap (λ (q : User). q.own) (first_is script u pos within))))
   where
     firsts : List User
@@ -121,5 +121,5 @@ each_moment script u r pos within after =
     IsReached q s =
         let o = observed u script.events s.entries in
         let p = at nobody s.users u in
-        Goes (machine user_rows) (o.items ++ Cut p.own End ∷ []) (record { state = q; clocks = o.clocks; replies = o.replies }) (record { state = p; clocks = []; replies = [] })
+        LeadsTo (machine user_rows) (o.items ++ Cut p.own End ∷ []) (record { state = q; clocks = o.clocks; replies = o.replies }) (record { state = p; clocks = []; replies = [] })
         × (p.own ≡ o.own + ran_of u s.service)

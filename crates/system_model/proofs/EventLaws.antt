@@ -1,4 +1,4 @@
--- What holds behind each case of an event holds behind every event.
+-- What holds after each case of an event holds after every event.
 use Rattle.std.proofs.Common.{◌≡◌, ℕ, ◌-◌, ◌<◌, Bool, true, false, nat_lt, [], ◌∷◌, Option, Some, None, get_or, refl, sym, subst, arith, cond}
 use Rattle.std.proofs.lemmas.Bool.Decides.{nat_tests}
 use Rattle.time_sharing.specs.Machine.{Line}
@@ -11,7 +11,7 @@ use Rattle.system_model.specs.Sound.{Sound, IsUser, HasSeat}
 use Rattle.system_model.proofs.SoundLaws.{checked_is_user}
 use Rattle.system_model.proofs.CaseLaws.{taken_at, off_dials, off_types, off_quits, off_hangs, on_dials, on_no_name, on_name, on_quits, on_hangs, asked_dials, wrong_word, already_on, logs_in, asked_quits, asked_hangs, in_dials, in_types, in_spends, in_quits, in_hangs}
 
--- a fact behind each case of an event at a console; its number is that of the user whose session is over, 0 for nobody
+-- a fact after each case of an event at a console; its number is that of the user whose session is over, 0 for nobody
 pub record EachCase (P : ℕ → Run → Type 0) (c : ℕ) (r : Run) : Type 0 where
   pub hears : (kind : EventKind) (now : Console) → P 0 (heard c kind now [] r)
   pub refuses : (cause : ℕ) → P 0 (heard c LineTaken On (Refused r.system.clock c cause ∷ []) r)

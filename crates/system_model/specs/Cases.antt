@@ -142,7 +142,7 @@ brought u r =
       };
     }
 
--- what the common files reply to an operation, if one is made, and what they are behind it
+-- what the common files reply to an operation, if one is made, and what they are after it
 abbrev pub reply_for : Run → Option CommonOp → Reply
 reply_for r made = theory.reply_for (machine user_rows) (world r) r.system.files made
 

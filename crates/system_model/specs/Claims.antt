@@ -6,7 +6,7 @@ use Rattle.time_sharing.specs.Machine.{End}
 use Rattle.time_sharing.specs.Rows.{machine}
 use Rattle.time_sharing.specs.System.{at}
 use Rattle.time_sharing.specs.Private.{Cut}
-use Rattle.time_sharing.specs.Reach.{Goes}
+use Rattle.time_sharing.specs.Reach.{LeadsTo}
 use Rattle.time_sharing.specs.Feeds.{feed_of, observed, ran_of}
 use Rattle.time_sharing.specs.Record.{AreLate}
 use Rattle.user_model.specs.Session.{user_rows, nobody}
@@ -28,7 +28,7 @@ EachMomentIsAlone =
     (script : Script) (u : ℕ) (r : Run) → 0 < u → u ≤ length script.accounts → AfterSteps script.end (start_of script) r →
     let o = observed u script.events r.system.entries in
     let p = at nobody r.system.users u in
-    Goes (machine user_rows) (o.items ++ Cut p.own End ∷ []) (record { state = first_of_user script u; clocks = o.clocks; replies = o.replies }) (record { state = p; clocks = []; replies = [] })
+    LeadsTo (machine user_rows) (o.items ++ Cut p.own End ∷ []) (record { state = first_of_user script u; clocks = o.clocks; replies = o.replies }) (record { state = p; clocks = []; replies = [] })
     × (p.own ≡ o.own + ran_of u r.system.service)
 
 -- two scripts that agree in a user's account, first files and feed agree in the user's transcript and files

@@ -37,7 +37,7 @@ start_of script =
       swap = script.params.swap;
       common = script.params.common;
       accounts = script.accounts;
-      system = whole.start (machine user_rows) (script_world script) (users_from 1 script.accounts script.files) [] (first_plan script.params.wq script.params.quantum script.params.age) consoles script.events;
+      system = whole.start (machine user_rows) (script_world script) (users_from 1 script.accounts script.files) [] (first_plan script.params) consoles script.events;
     }
 
 -- what a run leaves

@@ -3,6 +3,7 @@
 -- user rises after 50 ticks.
 use Rattle.std.specs.Prelude.{◌≡◌, ℕ, List, [], ◌∷◌, codes, drop}
 use Rattle.ctss_types.specs.Words.{name_of}
+use Rattle.ctss_types.specs.Params.{params_of}
 use Rattle.ctss_types.specs.declared.script.Script.{Script}
 use Rattle.ctss_types.specs.declared.script.Timed.{Timed}
 use Rattle.ctss_types.specs.declared.script.Event.TheVariants as event
@@ -15,7 +16,7 @@ use Rattle.system_model.specs.Record.{record_of}
 
 abbrev pub empty_script : Script
 empty_script =
-    record { params = record { wq = 1024; quantum = 100; swap = 10; drum = 0; disk = 0; common = 0; age = 0 }; accounts = []; files = []; events = []; end = 0 }
+    record { params = params_of (1024 ∷ 100 ∷ 10 ∷ 0 ∷ 0 ∷ 0 ∷ []); accounts = []; files = []; events = []; end = 0 }
 
 abbrev pub RowOfNobody : Type 0
 RowOfNobody = record_of empty_script ≡ record { entries = []; transcripts = []; files = []; common = []; clock = 0 }
@@ -23,7 +24,7 @@ RowOfNobody = record_of empty_script ≡ record { entries = []; transcripts = []
 abbrev pub one_user : Script
 one_user =
     record {
-      params = record { wq = 1024; quantum = 100; swap = 10; drum = 8; disk = 20; common = 5; age = 0 };
+      params = params_of (1024 ∷ 100 ∷ 10 ∷ 8 ∷ 20 ∷ 5 ∷ []);
       accounts = record { name = name_of (codes "ALFA"); password = name_of (codes "SESAME"); blocks = 8; tracks = 10 } ∷ [];
       files = [];
       events = record { tick = 0; console = 1; event = event.Dial } ∷ record { tick = 0; console = 1; event = event.Line (codes "LOGIN ALFA") }
@@ -52,7 +53,7 @@ file_of_mode mode = record { name = record { first = name_of (codes "NOTES"); se
 abbrev pub late_user : Script
 late_user =
     record {
-      params = record { wq = 1024; quantum = 100; swap = 10; drum = 8; disk = 20; common = 5; age = 0 };
+      params = params_of (1024 ∷ 100 ∷ 10 ∷ 8 ∷ 20 ∷ 5 ∷ []);
       accounts = record { name = name_of (codes "ALFA"); password = name_of (codes "SESAME"); blocks = 8; tracks = 10 } ∷ [];
       files = record { owner = 1; body = file_of_mode 0 } ∷ record { owner = 2; body = file_of_mode 2 } ∷ record { owner = 1; body = file_of_mode 1 } ∷ [];
       events = record { tick = 0; console = 1; event = event.Dial } ∷ line_at 0 (codes "LOGIN ALFA BETA") ∷ line_at 0 (codes "LOGIN ALFA") ∷ line_at 0 (codes "SESAME NOW")
@@ -86,7 +87,7 @@ at_seat tick console text = record { tick = tick; console = console; event = eve
 abbrev pub two_spins : Script
 two_spins =
     record {
-      params = record { wq = 1024; quantum = 100; swap = 0; drum = 16; disk = 20; common = 5; age = 50 };
+      params = params_of (1024 ∷ 100 ∷ 0 ∷ 16 ∷ 20 ∷ 5 ∷ 50 ∷ []);
       accounts = record { name = name_of (codes "ALFA"); password = name_of (codes "SESAME"); blocks = 8; tracks = 5 }
           ∷ record { name = name_of (codes "BETA"); password = name_of (codes "OPEN"); blocks = 8; tracks = 5 } ∷ [];
       files = record { owner = 1; body = spin } ∷ record { owner = 2; body = spin } ∷ [];
@@ -96,7 +97,7 @@ two_spins =
       end = 300;
     }
 
--- what comes behind the two logins
+-- what comes after the two logins
 abbrev pub RowOfRises : Type 0
 RowOfRises =
     drop 8 (record_of two_spins).entries ≡

@@ -11,7 +11,6 @@ use Rattle.ctss_types.specs.declared.script.Params.{Params}
 use Rattle.text_model.specs.declared.cause.ScriptCause.{ScriptCause}
 use Rattle.text_model.specs.declared.cause.ScriptCause.TheVariants.{NotACard, NoEnd}
 use Rattle.text_model.specs.declared.cause.ScriptRefusal.{ScriptRefusal}
-use Rattle.text_model.specs.declared.card.ParamCard.{ParamCard}
 use Rattle.text_model.specs.declared.card.UserCard.{UserCard}
 use Rattle.text_model.specs.declared.card.FileCard.{FileCard}
 use Rattle.text_model.specs.declared.card.EventCard.{EventCard}
@@ -67,7 +66,7 @@ given x y h = cc
 -- what every card keeps
 pub record IsKept (P : Draft → Type 0) : Type 0 where
   pub start : P empty_draft
-  pub param : (d e : Draft) (text : List ℕ) (c : ParamCard) → P d → d.params ≡ None → param_card_in text ≡ Some c → with_params d c ≡ Ok e → P e
+  pub param : (d e : Draft) (text : List ℕ) (p : Params) → P d → d.params ≡ None → param_card_in text ≡ Some p → with_params d p ≡ Ok e → P e
   pub user : (d e : Draft) (p : Params) (text : List ℕ) (c : UserCard) → P d → d.params ≡ Some p → user_card_in text ≡ Some c → with_account d p c ≡ Ok e → P e
   pub file : (d e : Draft) (text : List ℕ) (c : FileCard) → P d → file_card_in text ≡ Some c → with_file d c ≡ Ok e → P e
   pub words : (d e : Draft) (text ws : List ℕ) → P d → words_card_in text ≡ Some ws → with_words d ws ≡ Ok e → P e
@@ -98,7 +97,7 @@ more_kept P k d e p text false false false false false false kept set no_end_yet
 
 -- the first card
 first_kept : (P : Draft → Type 0) → IsKept P → (d e : Draft) (text : List ℕ) (b : Bool) → P d → d.params ≡ None → cond b (by_form (with_params d) (param_card_in text)) (Err NotACard) ≡ Ok e → P e
-first_kept P k d e text true kept none h = formed (P e) (with_params d) (param_card_in text) e h (λ c form taken. k.param d e text c kept none form taken)
+first_kept P k d e text true kept none h = formed (P e) (with_params d) (param_card_in text) e h (λ p form taken. k.param d e text p kept none form taken)
 first_kept P k d e text false kept none h = cc
 
 -- a card by its first word

@@ -21,7 +21,7 @@ use Rattle.program_model.specs.Lines.{words_of_line}
 use Rattle.text_model.specs.declared.card.CardText.{CardText}
 use Rattle.text_model.specs.declared.card.CardText.TheVariants.{Fits, TooLong}
 use Rattle.text_model.specs.Fields.{is_octal, is_within, name_in, octal_in, first_name, is_over, fitted, text_in, text_behind}
-use Rattle.text_model.specs.Cards.{words_in, words_card_in}
+use Rattle.text_model.specs.Cards.{fields_in, words_card_in}
 use Rattle.text_model.specs.Lawful.{IsName, IsTyped}
 use Rattle.text_model.proofs.Drafted.{at_most}
 
@@ -116,22 +116,22 @@ octal_in_below field w h =
 abbrev IsWord : ℕ → Type 0
 IsWord w = w < 2 ^ 36
 
--- no words
-none_are : (ws : List ℕ) → ◌≡◌ {A = Option (List ℕ)} (Some []) (Some ws) → All IsWord ws
-none_are ws h = let e : [] ≡ ws = cc in subst (All IsWord) e (All-nil IsWord)
+-- no fields
+none_are : (P : ℕ → Type 0) (xs : List ℕ) → ◌≡◌ {A = Option (List ℕ)} (Some []) (Some xs) → All P xs
+none_are P xs h = let e : [] ≡ xs = cc in subst (All P) e (All-nil P)
 
--- words that are read have 36 bits
-words_in_are : (n : ℕ) (text ws : List ℕ) → words_in n text ≡ Some ws → All IsWord ws
-words_in_are zero text ws h = either (All IsWord) (is_over text) (Some []) None ws h (none_are ws) (λ k. cc)
-words_in_are (suc n) text ws h =
-    either (All IsWord) (is_over text) (Some []) _ ws h (none_are ws) (λ k.
-    option_and_then_some _ (octal_in (word_in text)) ws k (λ w ew hw.
-    let m = mapped (λ (vs : List ℕ). w ∷ vs) (words_in n (behind_word text)) ws hw in
-    subst (All IsWord) m.2 (All-cons IsWord w m.0 (octal_in_below (word_in text) w ew) (words_in_are n (behind_word text) m.0 m.1))))
+-- fields that are read have what each that is read has
+fields_in_are : (P : ℕ → Type 0) (read : List ℕ → Option ℕ) → ((field : List ℕ) (x : ℕ) → read field ≡ Some x → P x) → (n : ℕ) (text xs : List ℕ) → fields_in read n text ≡ Some xs → All P xs
+fields_in_are P read each zero text xs h = either (All P) (is_over text) (Some []) None xs h (none_are P xs) (λ k. cc)
+fields_in_are P read each (suc n) text xs h =
+    either (All P) (is_over text) (Some []) _ xs h (none_are P xs) (λ k.
+    option_and_then_some _ (read (word_in text)) xs k (λ x ex hx.
+    let m = mapped (λ (ys : List ℕ). x ∷ ys) (fields_in read n (behind_word text)) xs hx in
+    subst (All P) m.2 (All-cons P x m.0 (each (word_in text) x ex) (fields_in_are P read each n (behind_word text) m.0 m.1))))
 
 -- the words of an O card have 36 bits
 pub words_card_in_are : (text ws : List ℕ) → words_card_in text ≡ Some ws → All IsWord ws
-words_card_in_are text ws h = either (All IsWord) (is_over text) None (words_in 5 text) ws h (λ k. cc) (words_in_are 5 text ws)
+words_card_in_are text ws h = either (All IsWord) (is_over text) None (fields_in octal_in 5 text) ws h (λ k. cc) (fields_in_are IsWord octal_in octal_in_below 5 text ws)
 
 -- the word of a name
 

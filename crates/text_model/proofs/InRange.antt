@@ -7,6 +7,7 @@ use Rattle.std.proofs.lemmas.Bool.{eqb-true, not-true}
 use Rattle.std.proofs.lemmas.List.{length_push, nil_from_length}
 use Rattle.std.proofs.lemmas.List.Elements.{All-nil, All-push}
 use Rattle.std.proofs.lemmas.List.Sums.{sum-map, sum_by_push}
+use Rattle.ctss_types.specs.Params.{param_limits, numbers_of, are_within}
 use Rattle.ctss_types.specs.declared.script.Params.{Params}
 use Rattle.ctss_types.specs.declared.script.Account.{Account}
 use Rattle.ctss_types.specs.declared.script.Timed.{Timed}
@@ -15,7 +16,6 @@ use Rattle.file_model.specs.Files.{tracks_of}
 use Rattle.file_model.specs.Owned.{files_of}
 use Rattle.program_model.specs.Lines.{words_of_line}
 use Rattle.text_model.specs.declared.cause.ScriptCause.TheVariants.{NotACard, TimeFalls, UnknownNumber, OverLimit, DrumSmall, DiskSmall}
-use Rattle.text_model.specs.declared.card.ParamCard.{ParamCard}
 use Rattle.text_model.specs.declared.card.UserCard.{UserCard}
 use Rattle.text_model.specs.declared.card.FileCard.{FileCard}
 use Rattle.text_model.specs.declared.card.CardText.{CardText}
@@ -23,10 +23,11 @@ use Rattle.text_model.specs.declared.card.CardText.TheVariants as card_text
 use Rattle.text_model.specs.declared.card.CardEvent.{CardEvent}
 use Rattle.text_model.specs.declared.card.CardEvent.TheVariants as card_event
 use Rattle.text_model.specs.Fields.{is_within}
-use Rattle.text_model.specs.Drafts.{Draft, empty_draft, all_files, max_tick, are_params_in_limits, with_params, is_new_account, is_account_in_limits, with_account, quota_of, with_last, empty_file, is_same_file, is_new_file, is_file_in_limits, with_file, longer, with_words_of, with_words, with_text, with_event_at, with_end}
+use Rattle.text_model.specs.Drafts.{Draft, empty_draft, all_files, max_tick, with_params, is_new_account, is_account_in_limits, with_account, quota_of, with_last, empty_file, is_same_file, is_new_file, is_file_in_limits, with_file, longer, with_words_of, with_words, with_text, with_event_at, with_end}
 use Rattle.text_model.specs.Reading.{blocks_of, IsInRange, ScriptsAreInRange}
 use Rattle.text_model.proofs.Files.{FilesFit, none_fit, new_file_fits, longer_file_fits}
 use Rattle.text_model.proofs.Drafted.{both, at_most, within, passed, escaped, allowed, never, not_below, given, IsKept, read}
+use Rattle.text_model.proofs.ParamLaws.{param_within}
 
 -- params in range
 abbrev ParamsFit : Params → Type 0
@@ -41,15 +42,8 @@ abbrev HasConsole : Timed → Type 0
 HasConsole e = (1 ≤ e.console) × (e.console ≤ 32)
 
 -- the limits of PARAM
-params_fit : (c : ParamCard) → are_params_in_limits c ≡ true → (1 ≤ c.wq) × (c.quantum ≤ 1000000) × (c.swap ≤ 1000000) × (c.drum ≤ 3840)
-params_fit c h =
-    let six = both (is_within 1 32768 c.wq && is_within 1 1000000 c.quantum && nat_le c.swap 1000000 && nat_le c.drum 3840 && nat_le c.disk 10000 && nat_le c.common 10000) (nat_le c.age 1000000) h in
-    let five = both (is_within 1 32768 c.wq && is_within 1 1000000 c.quantum && nat_le c.swap 1000000 && nat_le c.drum 3840 && nat_le c.disk 10000) (nat_le c.common 10000) six.0 in
-    let four = both (is_within 1 32768 c.wq && is_within 1 1000000 c.quantum && nat_le c.swap 1000000 && nat_le c.drum 3840) (nat_le c.disk 10000) five.0 in
-    let three = both (is_within 1 32768 c.wq && is_within 1 1000000 c.quantum && nat_le c.swap 1000000) (nat_le c.drum 3840) four.0 in
-    let two = both (is_within 1 32768 c.wq && is_within 1 1000000 c.quantum) (nat_le c.swap 1000000) three.0 in
-    let one = both (is_within 1 32768 c.wq) (is_within 1 1000000 c.quantum) two.0 in
-    ((within 1 32768 c.wq one.0).0, (within 1 1000000 c.quantum one.1).1, at_most c.swap 1000000 two.1, at_most c.drum 3840 three.1)
+params_fit : (p : Params) → are_within param_limits (numbers_of p) ≡ true → ParamsFit p
+params_fit p h = ((param_within p 0 h (omega arith)).0, (param_within p 1 h (omega arith)).1, (param_within p 2 h (omega arith)).1, (param_within p 3 h (omega arith)).1)
 
 -- what the cards so far keep; `added` says that a draft's blocks are the sum of its accounts'
 record Fits (d : Draft) : Type 0 where
@@ -79,16 +73,16 @@ empty_fits =
     }
 
 -- PARAM keeps it
-with_params_fits : (d e : Draft) (c : ParamCard) → d.params ≡ None → Fits d → with_params d c ≡ Ok e → Fits e
-with_params_fits d e c none fits h =
-    let made : Draft = record d { params = Some (record { wq = c.wq; quantum = c.quantum; swap = c.swap; drum = c.drum; disk = c.disk; common = c.common; age = c.age }) } in
-    let first = passed (are_params_in_limits c) OverLimit _ e h in
-    let second = escaped (nat_lt c.disk c.common) DiskSmall (Ok made) e first.1 in
-    let ok : ParamsFit (record { wq = c.wq; quantum = c.quantum; swap = c.swap; drum = c.drum; disk = c.disk; common = c.common; age = c.age }) = params_fit c first.0 in
+with_params_fits : (d e : Draft) (p : Params) → d.params ≡ None → Fits d → with_params d p ≡ Ok e → Fits e
+with_params_fits d e p none fits h =
+    let made : Draft = record d { params = Some p } in
+    let first = passed (are_within param_limits (numbers_of p)) OverLimit _ e h in
+    let second = escaped (nat_lt p.disk p.common) DiskSmall (Ok made) e first.1 in
+    let ok : ParamsFit p = params_fit p first.0 in
     let empty : d.blocks ≡ 0 = fits.unset none in
     subst Fits (given made e second.1)
     (record {
-      params = λ q k. (let s : record { wq = c.wq; quantum = c.quantum; swap = c.swap; drum = c.drum; disk = c.disk; common = c.common; age = c.age } ≡ q = cc in subst ParamsFit s ok);
+      params = λ q k. (let s : p ≡ q = cc in subst ParamsFit s ok);
       few = fits.few;
       blocks = fits.blocks;
       added = fits.added;
@@ -246,7 +240,7 @@ fits_kept : IsKept Fits
 fits_kept =
     record {
       start = empty_fits;
-      param = λ d e text c fits none form h. with_params_fits d e c none fits h;
+      param = λ d e text p fits none form h. with_params_fits d e p none fits h;
       user = λ d e p text c fits set form h. with_account_fits d e p c set fits h;
       file = λ d e text c fits form h. with_file_fits d e c fits h;
       words = λ d e text ws fits form h. with_words_fits d e ws fits h;

@@ -12,6 +12,7 @@ use Rattle.std.proofs.lemmas.List.Folds.{list_any-append}
 use Rattle.std.proofs.lemmas.List.Sorted.{IsNonDecreasingBy-short, IsNonDecreasingBy-push}
 use Rattle.std.proofs.lemmas.List.Sums.{sum-map, sum_by_push}
 use Rattle.std.proofs.lemmas.Option.{option_and_then_some}
+use Rattle.ctss_types.specs.Params.{param_limits, numbers_of, are_within}
 use Rattle.ctss_types.specs.declared.script.Params.{Params}
 use Rattle.ctss_types.specs.declared.script.Account.{Account}
 use Rattle.ctss_types.specs.declared.script.Timed.{Timed}
@@ -20,7 +21,6 @@ use Rattle.ctss_types.specs.declared.file.OwnedFile.{OwnedFile}
 use Rattle.ctss_types.specs.Words.{word_in, behind_word}
 use Rattle.program_model.specs.Lines.{words_of_line}
 use Rattle.text_model.specs.declared.cause.ScriptCause.TheVariants.{NotACard, TimeFalls, UnknownNumber, OverLimit, DrumSmall, DiskSmall}
-use Rattle.text_model.specs.declared.card.ParamCard.{ParamCard}
 use Rattle.text_model.specs.declared.card.UserCard.{UserCard}
 use Rattle.text_model.specs.declared.card.FileCard.{FileCard}
 use Rattle.text_model.specs.declared.card.EventCard.{EventCard}
@@ -30,7 +30,7 @@ use Rattle.text_model.specs.declared.card.CardEvent.{CardEvent}
 use Rattle.text_model.specs.declared.card.CardEvent.TheVariants as card_event
 use Rattle.text_model.specs.Fields.{is_within, first_number, first_name, is_over, text_behind}
 use Rattle.text_model.specs.Cards.{user_card_in, file_card_in, line_event, event_in, event_card_in}
-use Rattle.text_model.specs.Drafts.{Draft, empty_draft, all_files, max_tick, are_params_in_limits, with_params, is_new_account, is_account_in_limits, with_account, with_last, empty_file, is_new_file, is_file_in_limits, with_file, longer, with_words_of, with_words, with_text, with_event_at, with_end}
+use Rattle.text_model.specs.Drafts.{Draft, empty_draft, all_files, max_tick, with_params, is_new_account, is_account_in_limits, with_account, with_last, empty_file, is_new_file, is_file_in_limits, with_file, longer, with_words_of, with_words, with_text, with_event_at, with_end}
 use Rattle.text_model.specs.Reading.{IsInRange}
 use Rattle.text_model.specs.Lawful.{IsName, IsLawfulAccount, IsLawfulFile, IsLawfulEvent, accounts_differ, IsLawful, ScriptsAreLawful}
 use Rattle.text_model.proofs.Drafted.{both, at_most, within, passed, escaped, allowed, never, not_below, given, IsKept, read}
@@ -96,7 +96,7 @@ event_card_form text c h =
 
 -- params that keep their limits
 abbrev ParamsAre : Params → Type 0
-ParamsAre p = (p.wq ≤ 32768) × (1 ≤ p.quantum) × (p.disk ≤ 10000) × (p.age ≤ 1000000)
+ParamsAre p = are_within param_limits (numbers_of p) ≡ true
 
 -- the tracks of all accounts together
 abbrev tracks_so_far : List Account → ℕ
@@ -147,30 +147,17 @@ empty_keeps =
 
 -- PARAM
 
--- the limits of PARAM
-params_are : (c : ParamCard) → are_params_in_limits c ≡ true → (c.wq ≤ 32768) × (1 ≤ c.quantum) × (c.disk ≤ 10000) × (c.age ≤ 1000000)
-params_are c h =
-    let six = both (is_within 1 32768 c.wq && is_within 1 1000000 c.quantum && nat_le c.swap 1000000 && nat_le c.drum 3840 && nat_le c.disk 10000 && nat_le c.common 10000) (nat_le c.age 1000000) h in
-    let five = both (is_within 1 32768 c.wq && is_within 1 1000000 c.quantum && nat_le c.swap 1000000 && nat_le c.drum 3840 && nat_le c.disk 10000) (nat_le c.common 10000) six.0 in
-    let four = both (is_within 1 32768 c.wq && is_within 1 1000000 c.quantum && nat_le c.swap 1000000 && nat_le c.drum 3840) (nat_le c.disk 10000) five.0 in
-    let three = both (is_within 1 32768 c.wq && is_within 1 1000000 c.quantum && nat_le c.swap 1000000) (nat_le c.drum 3840) four.0 in
-    let two = both (is_within 1 32768 c.wq && is_within 1 1000000 c.quantum) (nat_le c.swap 1000000) three.0 in
-    let one = both (is_within 1 32768 c.wq) (is_within 1 1000000 c.quantum) two.0 in
-    ((within 1 32768 c.wq one.0).1, (within 1 1000000 c.quantum one.1).0, at_most c.disk 10000 four.1, at_most c.age 1000000 six.1)
-
 -- PARAM keeps it
-with_params_keeps : (d e : Draft) (c : ParamCard) → d.params ≡ None → Keeps d → with_params d c ≡ Ok e → Keeps e
-with_params_keeps d e c none keeps h =
-    let p : Params = record { wq = c.wq; quantum = c.quantum; swap = c.swap; drum = c.drum; disk = c.disk; common = c.common; age = c.age } in
+with_params_keeps : (d e : Draft) (p : Params) → d.params ≡ None → Keeps d → with_params d p ≡ Ok e → Keeps e
+with_params_keeps d e p none keeps h =
     let made : Draft = record d { params = Some p } in
-    let first = passed (are_params_in_limits c) OverLimit _ e h in
-    let second = escaped (nat_lt c.disk c.common) DiskSmall (Ok made) e first.1 in
-    let ok : ParamsAre p = params_are c first.0 in
+    let first = passed (are_within param_limits (numbers_of p)) OverLimit _ e h in
+    let second = escaped (nat_lt p.disk p.common) DiskSmall (Ok made) e first.1 in
     let empty : d.tracks ≡ 0 = keeps.unset none in
-    let room : p.common + d.tracks ≤ p.disk = omega (arith, empty, not_below c.disk c.common second.0) in
+    let room : p.common + d.tracks ≤ p.disk = omega (arith, empty, not_below p.disk p.common second.0) in
     subst Keeps (given made e second.1)
     (record {
-      params = λ q k. (let s : p ≡ q = cc in subst ParamsAre s ok);
+      params = λ q k. (let s : p ≡ q = cc in subst ParamsAre s first.0);
       added = keeps.added;
       unset = λ k. empty;
       disk = λ q k. (let s : p ≡ q = cc in subst (λ (r : Params). r.common + d.tracks ≤ r.disk) s room);
@@ -365,7 +352,7 @@ keeps_kept : IsKept Keeps
 keeps_kept =
     record {
       start = empty_keeps;
-      param = λ d e text c keeps none form h. with_params_keeps d e c none keeps h;
+      param = λ d e text p keeps none form h. with_params_keeps d e p none keeps h;
       user = λ d e p text c keeps set form h. with_account_keeps d e p text c set form keeps h;
       file = λ d e text c keeps form h. with_file_keeps d e text c form keeps h;
       words = λ d e text ws keeps form h. with_words_keeps d e ws (words_card_in_are text ws form) keeps h;
@@ -379,15 +366,11 @@ script_keeps : (d : Draft) (p : Params) (end : ℕ) → Keeps d → d.params ≡
     → IsInRange (record { params = p; accounts = d.accounts; files = all_files d; events = d.events; end = end })
     → IsLawful (record { params = p; accounts = d.accounts; files = all_files d; events = d.events; end = end })
 script_keeps d p end keeps e g range =
-    let ok = keeps.params p e in
     let room : p.common + d.tracks ≤ p.disk = keeps.disk p e in
     let later : d.tick ≤ end = keeps.ends end g in
     record {
       range = range;
-      level = ok.0;
-      quantum = ok.1;
-      disk = ok.2;
-      age = ok.3;
+      params = keeps.params p e;
       fits = subst (λ (n : ℕ). p.common + n ≤ p.disk) (sym keeps.added) room;
       accounts = keeps.accounts;
       differ = keeps.differ;

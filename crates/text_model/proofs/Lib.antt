@@ -3,5 +3,6 @@ pub mod FieldLaws
 pub mod Files
 pub mod InRange
 pub mod LawfulLaws
+pub mod ParamLaws
 pub mod RowsComputed
 pub mod FieldDigits

@@ -1,9 +1,10 @@
 -- claim: the one canonical text of a script: single blanks, no leading zeros, no comments, LF behind each card.
-use Rattle.std.specs.Prelude.{ℕ, zero, suc, List, [], ◌∷◌, ◌++◌, codes}
+use Rattle.std.specs.Prelude.{ℕ, suc, List, [], ◌∷◌, ◌++◌, codes}
 use Rattle.std.specs.List.{flat_map}
 use Rattle.word36.specs.Octal.{octal_text}
 use Rattle.ctss_types.specs.declared.script.Script.{Script}
 use Rattle.ctss_types.specs.declared.script.Params.{Params}
+use Rattle.ctss_types.specs.Params.{card_numbers}
 use Rattle.ctss_types.specs.declared.script.Account.{Account}
 use Rattle.ctss_types.specs.declared.script.Timed.{Timed}
 use Rattle.ctss_types.specs.declared.script.Event.{Event}
@@ -11,13 +12,8 @@ use Rattle.ctss_types.specs.declared.script.Event.TheVariants as event
 use Rattle.ctss_types.specs.declared.file.OwnedFile.{OwnedFile}
 use Rattle.text_model.specs.Parts.{line, blank, number, name}
 
--- the age of PARAM, which 0 leaves out
-abbrev pub age_text : ℕ → List ℕ
-age_text zero = []
-age_text (suc n) = number (suc n)
-
 abbrev pub param_card : Params → List ℕ
-param_card p = line (codes "PARAM" ++ (number p.wq ++ (number p.quantum ++ (number p.swap ++ (number p.drum ++ (number p.disk ++ (number p.common ++ age_text p.age)))))))
+param_card p = line (codes "PARAM" ++ flat_map number (card_numbers p))
 
 abbrev pub user_card : ℕ → Account → List ℕ
 user_card n a = line (codes "USER" ++ (number n ++ (name a.name ++ (name a.password ++ (number a.blocks ++ number a.tracks)))))

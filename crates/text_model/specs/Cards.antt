@@ -1,9 +1,10 @@
 -- claim: the forms of cards, by the text behind their first word.
-use Rattle.std.specs.Prelude.{ℕ, zero, suc, not, List, [], ◌∷◌, Option, Some, None, bytes_eq, codes, if◌then◌else◌}
+use Rattle.std.specs.Prelude.{ℕ, zero, suc, not, nat_le, List, [], ◌∷◌, length, Option, Some, None, bytes_eq, codes, if◌then◌else◌}
 use Rattle.std.specs.Option.{option_and_then, option_map}
 use Rattle.ctss_types.specs.Words.{word_in, behind_word}
+use Rattle.ctss_types.specs.Params.{param_limits, least_numbers, params_of}
+use Rattle.ctss_types.specs.declared.script.Params.{Params}
 use Rattle.ctss_types.specs.declared.script.Event.TheVariants as event
-use Rattle.text_model.specs.declared.card.ParamCard.{ParamCard}
 use Rattle.text_model.specs.declared.card.UserCard.{UserCard}
 use Rattle.text_model.specs.declared.card.FileCard.{FileCard}
 use Rattle.text_model.specs.declared.card.EventCard.{EventCard}
@@ -11,23 +12,22 @@ use Rattle.text_model.specs.declared.card.CardText.{CardText}
 use Rattle.text_model.specs.declared.card.CardText.TheVariants as card_text
 use Rattle.text_model.specs.declared.card.CardEvent.{CardEvent}
 use Rattle.text_model.specs.declared.card.CardEvent.TheVariants.{Fits, TooLong}
-use Rattle.text_model.specs.Fields.{first_number, first_name, octal_in, is_over, text_behind}
+use Rattle.text_model.specs.Fields.{first_number, first_name, number_in, octal_in, is_over, text_behind}
 
--- the last number of a PARAM card, which may be left out
-abbrev pub age_in : List ℕ → Option ℕ
-age_in text = if is_over text then Some 0 else option_and_then (λ (age, rest). if is_over rest then Some age else None) (first_number text)
+-- the fields of a text, each of which is read, and at most so many
+abbrev pub fields_in : (List ℕ → Option ℕ) → ℕ → List ℕ → Option (List ℕ)
+fields_in read zero text = if is_over text then Some [] else None
+fields_in read (suc n) text =
+    if is_over text then Some []
+    else option_and_then (λ x. option_map (λ xs. x ∷ xs) (fields_in read n (behind_word text))) (read (word_in text))
 
--- PARAM wq quantum swap drum disk common age
-abbrev pub param_card_in : List ℕ → Option ParamCard
-param_card_in text =
-    option_and_then (λ (wq, a).
-    option_and_then (λ (quantum, b).
-    option_and_then (λ (swap, c).
-    option_and_then (λ (drum, d).
-    option_and_then (λ (disk, e).
-    option_and_then (λ (common, f).
-    option_map (λ age. let card : ParamCard = record { wq = wq; quantum = quantum; swap = swap; drum = drum; disk = disk; common = common; age = age } in card) (age_in f))
-    (first_number e)) (first_number d)) (first_number c)) (first_number b)) (first_number a)) (first_number text)
+-- the params of at least six numbers
+abbrev pub params_read : List ℕ → Option Params
+params_read numbers = if nat_le least_numbers (length numbers) then Some (params_of numbers) else None
+
+-- PARAM and its numbers, in their order
+abbrev pub param_card_in : List ℕ → Option Params
+param_card_in text = option_and_then params_read (fields_in number_in (length param_limits) text)
 
 -- USER number name password blocks tracks
 abbrev pub user_card_in : List ℕ → Option UserCard
@@ -52,16 +52,9 @@ file_card_in text =
     if is_over d then Some card else None)
     (first_number c)) (first_name b)) (first_name a)) (first_number text)
 
--- at most so many words
-abbrev pub words_in : ℕ → List ℕ → Option (List ℕ)
-words_in zero text = if is_over text then Some [] else None
-words_in (suc n) text =
-    if is_over text then Some []
-    else option_and_then (λ w. option_map (λ ws. w ∷ ws) (words_in n (behind_word text))) (octal_in (word_in text))
-
 -- O and 1 to 5 words
 abbrev pub words_card_in : List ℕ → Option (List ℕ)
-words_card_in text = if is_over text then None else words_in 5 text
+words_card_in text = if is_over text then None else fields_in octal_in 5 text
 
 -- a line that is typed
 abbrev pub line_event : CardText → CardEvent

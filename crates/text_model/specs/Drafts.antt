@@ -5,6 +5,7 @@ use Rattle.std.specs.Option.{is_some}
 use Rattle.std.specs.List.{list_any}
 use Rattle.ctss_types.specs.Words.{word_in, behind_word}
 use Rattle.ctss_types.specs.declared.script.Params.{Params}
+use Rattle.ctss_types.specs.Params.{param_limits, numbers_of, are_within}
 use Rattle.ctss_types.specs.declared.script.Account.{Account}
 use Rattle.ctss_types.specs.declared.script.Timed.{Timed}
 use Rattle.ctss_types.specs.declared.file.OwnedFile.{OwnedFile}
@@ -13,7 +14,6 @@ use Rattle.file_model.specs.Owned.{files_of}
 use Rattle.program_model.specs.Lines.{words_of_line}
 use Rattle.text_model.specs.declared.cause.ScriptCause.{ScriptCause}
 use Rattle.text_model.specs.declared.cause.ScriptCause.TheVariants.{NotACard, TimeFalls, UnknownNumber, OverLimit, DrumSmall, DiskSmall, NoEnd}
-use Rattle.text_model.specs.declared.card.ParamCard.{ParamCard}
 use Rattle.text_model.specs.declared.card.UserCard.{UserCard}
 use Rattle.text_model.specs.declared.card.FileCard.{FileCard}
 use Rattle.text_model.specs.declared.card.EventCard.{EventCard}
@@ -49,16 +49,11 @@ max_tick = 100000000
 
 -- PARAM
 
-abbrev pub are_params_in_limits : ParamCard → Bool
-are_params_in_limits c =
-    is_within 1 32768 c.wq && is_within 1 1000000 c.quantum && nat_le c.swap 1000000 && nat_le c.drum 3840 && nat_le c.disk 10000 && nat_le c.common 10000 && nat_le c.age 1000000
-
--- the common files have to fit the disk
-abbrev pub with_params : Draft → ParamCard → Result Draft ScriptCause
-with_params d c =
-    if not (are_params_in_limits c) then Err OverLimit
-    else (if nat_lt c.disk c.common then Err DiskSmall
-    else Ok (record d { params = Some (record { wq = c.wq; quantum = c.quantum; swap = c.swap; drum = c.drum; disk = c.disk; common = c.common; age = c.age }) }))
+-- each number is within its limits, and the common files have to fit the disk
+abbrev pub with_params : Draft → Params → Result Draft ScriptCause
+with_params d p =
+    if not (are_within param_limits (numbers_of p)) then Err OverLimit
+    else (if nat_lt p.disk p.common then Err DiskSmall else Ok (record d { params = Some p }))
 
 -- USER
 

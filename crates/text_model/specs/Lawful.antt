@@ -5,6 +5,7 @@ use Rattle.std.specs.List.{All, list_any, list_all}
 use Rattle.bcd48.specs.Characters.{is_character}
 use Rattle.ctss_types.specs.Line.{trimmed}
 use Rattle.ctss_types.specs.Words.{name_of}
+use Rattle.ctss_types.specs.Params.{param_limits, numbers_of, are_within}
 use Rattle.ctss_types.specs.declared.script.Script.{Script}
 use Rattle.ctss_types.specs.declared.script.Account.{Account}
 use Rattle.ctss_types.specs.declared.script.Timed.{Timed}
@@ -56,10 +57,7 @@ accounts_differ (a ∷ accounts) = not (list_any (λ (b : Account). nat_eq b.nam
 
 pub record IsLawful (s : Script) : Type 0 where
   pub range : IsInRange s
-  pub level : s.params.wq ≤ 32768
-  pub quantum : 1 ≤ s.params.quantum
-  pub disk : s.params.disk ≤ 10000
-  pub age : s.params.age ≤ 1000000
+  pub params : are_within param_limits (numbers_of s.params) ≡ true
   -- the tracks of the common files and of all accounts are those of the disk
   pub fits : s.params.common + sum (map (λ (a : Account). a.tracks) s.accounts) ≤ s.params.disk
   pub accounts : All IsLawfulAccount s.accounts

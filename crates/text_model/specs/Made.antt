@@ -2,6 +2,7 @@
 use Rattle.std.specs.Prelude.{ℕ, zero, suc, ◌+◌, ◌*◌, ◌/◌, ◌%◌, ◌^◌, List, [], ◌∷◌, ◌++◌, codes}
 use Rattle.std.specs.Fmt.{decimal}
 use Rattle.ctss_types.specs.Words.{name_of}
+use Rattle.ctss_types.specs.Params.{params_of}
 use Rattle.ctss_types.specs.declared.script.Script.{Script}
 use Rattle.ctss_types.specs.declared.script.Account.{Account}
 use Rattle.ctss_types.specs.declared.script.Timed.{Timed}
@@ -72,7 +73,7 @@ made_events (suc k) i = events_at i ++ made_events k (suc i)
 unfoldable pub made_script : ℕ → Script
 made_script n =
     record {
-      params = record { wq = 1024; quantum = 100; swap = 2; drum = 480; disk = 300; common = 10; age = 0 };
+      params = params_of (1024 ∷ 100 ∷ 2 ∷ 480 ∷ 300 ∷ 10 ∷ []);
       accounts = made_accounts (user_count n) 1;
       files = made_files (user_count n) 1 n;
       events = made_events (user_count n) 1;

@@ -3,6 +3,7 @@ use Rattle.std.specs.Prelude.{◌≡◌, ℕ, ◌+◌, true, List, [], ◌∷◌
 use Rattle.std.specs.declared.result.Result.{Result}
 use Rattle.std.specs.List.{flat_map}
 use Rattle.ctss_types.specs.Words.{name_of}
+use Rattle.ctss_types.specs.Params.{params_of}
 use Rattle.ctss_types.specs.declared.script.Script.{Script}
 use Rattle.ctss_types.specs.declared.script.Event.TheVariants as event
 use Rattle.ctss_types.specs.declared.file.OwnedFile.{OwnedFile}
@@ -29,7 +30,7 @@ text_of lines = flat_map line lines
 abbrev pub small_script : Script
 small_script =
     record {
-      params = record { wq = 1024; quantum = 100; swap = 10; drum = 8; disk = 20; common = 5; age = 0 };
+      params = params_of (1024 ∷ 100 ∷ 10 ∷ 8 ∷ 20 ∷ 5 ∷ []);
       accounts = record { name = name_of (codes "ALFA"); password = name_of (codes "SESAME"); blocks = 8; tracks = 10 } ∷ [];
       files = [];
       events = record { tick = 0; console = 1; event = event.Dial } ∷ record { tick = 20; console = 32; event = event.Line (codes "LOGIN ALFA") }
@@ -100,7 +101,7 @@ file owner second mode words = record { owner = owner; body = record { name = re
 abbrev pub script_with_file : Script
 script_with_file =
     record {
-      params = record { wq = 1; quantum = 1; swap = 0; drum = 1; disk = 1; common = 0; age = 0 };
+      params = params_of (1 ∷ 1 ∷ 0 ∷ 1 ∷ 1 ∷ 0 ∷ []);
       accounts = record { name = name_of (codes "A"); password = name_of (codes "B"); blocks = 1; tracks = 1 } ∷ [];
       files = file 1 (codes "Y") 1 (1 ∷ 2 ∷ 3 ∷ 4 ∷ 5 ∷ 8 ∷ []) ∷ [];
       events = [];

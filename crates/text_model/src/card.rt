@@ -1,19 +1,6 @@
 use ctss_types::{Event, FileName, LineText};
 use word36::Word;
 
-/// The numbers of a PARAM card.
-#[derive(Clone, Copy, Debug, PartialEq, Eq)]
-pub struct ParamCard {
-    pub wq: u32,
-    pub quantum: u32,
-    pub swap: u32,
-    pub drum: u32,
-    pub disk: u32,
-    pub common: u32,
-    /// Left out, it is 0.
-    pub age: u32,
-}
-
 /// What a USER card says.
 #[derive(Clone, Copy, Debug, PartialEq, Eq)]
 pub struct UserCard {

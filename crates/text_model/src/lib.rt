@@ -15,7 +15,7 @@ mod cause;
 pub mod fields;
 mod mode;
 
-pub use card::{CardEvent, CardText, EventCard, FileCard, ParamCard, UserCard};
+pub use card::{CardEvent, CardText, EventCard, FileCard, UserCard};
 pub use cause::{ScriptCause, ScriptRefusal};
 pub use mode::Mode;
 

@@ -1,7 +1,7 @@
 use Rattle.std.proofs.Common.{◌≡◌, ℕ, suc, ◌+◌, ◌-◌, Bool, true, false, List, [], ◌∷◌, ◌++◌, Option, Some, None, is_some, refl, sym, ap, subst, ◌∙◌, arith, ◌⊎◌, inl, inr}
 use Rattle.time_sharing.specs.Machine.{Machine, Laws, CutKind, Line, CommonOp, Reply, Done}
-use Rattle.time_sharing.specs.Private.{Alone, Open, Typed, Cut, with_clock, with_reply, next}
-use Rattle.time_sharing.specs.Reach.{Reaches, Goes, more, line_in}
+use Rattle.time_sharing.specs.Private.{Alone, Open, Typed, Cut, with_clock, with_reply, next_alone}
+use Rattle.time_sharing.specs.Reach.{Reaches, LeadsTo, more, line_in}
 use Rattle.time_sharing.specs.System.{Console, Off, Session, clock_for, at, Timed}
 use Rattle.time_sharing.specs.Feeds.{Observed, rest_of}
 use Rattle.time_sharing.proofs.Runs as runs
@@ -19,7 +19,7 @@ pub record Holds {S : Type 0} (m : Machine S) (first : S) (u : ℕ) (left : List
   pub own : m.own p ≡ o.own + ran
   -- where the feed leads before the last run, and that run
   pub mid : Alone S
-  pub goes : Goes m o.items (starts m first o) mid
+  pub goes : LeadsTo m o.items (starts m first o) mid
   pub count : ℕ
   pub reaches : Reaches m count mid (settled m p)
   -- a console in the user's session, and a service, are there only while the session is open
@@ -98,7 +98,7 @@ with_clock_in true t k = refl
 
 -- one step on its own answers
 next_own_answers : {S : Type 0} (m : Machine S) (p : S) (t : ℕ) (r : Reply) → (m.asks_common p ≡ None → r ≡ Done) → m.can_step p ≡ true →
-    next m (record { state = p; clocks = clocks_in (m.asks_clock p) t; replies = replies_in (m.asks_common p) r }) ≡ Some (settled m (m.step p (clock_for (m.asks_clock p) t) r))
+    next_alone m (record { state = p; clocks = clocks_in (m.asks_clock p) t; replies = replies_in (m.asks_common p) r }) ≡ Some (settled m (m.step p (clock_for (m.asks_clock p) t) r))
 next_own_answers m p t r none can = rw (can, with_clock_in) (with_reply_in (m.asks_common p) r none (λ r rs. Some (record { state = m.step p (clock_for (m.asks_clock p) t) r; clocks = []; replies = rs })))
   where
     with_reply_in : {X : Type 0} (c : Option CommonOp) (r : Reply) → (c ≡ None → r ≡ Done) → (k : Reply → List Reply → Option X) → with_reply (is_some c) (replies_in c r) k ≡ k r []

@@ -2,7 +2,7 @@
 use Rattle.std.proofs.Common.{◌≡◌, ℕ, zero, suc, ◌-◌, Bool, true, false, if◌then◌else◌, List, [], ◌∷◌, ◌++◌, Option, Some, None, is_some, refl, sym, ap, subst, ◌∙◌, arith, ◌⊎◌, inl, inr, append_assoc}
 use Rattle.time_sharing.specs.Machine.{Item, Reply, Done}
 use Rattle.time_sharing.specs.Rows.{Rows, Private, Outcome, machine, line_of, own_at_command_of, result_of, done, one_less, in_line, out_all}
-use Rattle.time_sharing.specs.Private.{Alone, answered, next, steps, when, with_clock, with_reply}
+use Rattle.time_sharing.specs.Private.{Alone, answered, next_alone, steps, when, with_clock, with_reply}
 
 -- both are there, and are alike, or neither is
 abbrev pub Both : {S : Type 0} (R : S → S → Type 0) → Option S → Option S → Type 0
@@ -72,15 +72,15 @@ module _ {A : Type 0} (rows : Rows A) (a b : List Item) where
       }
 
   shifted : (said : List Item) (at : ℕ) (q : Alone (Private A)) → q.state.transcript ≡ b ++ said → (rows.is_command q.state.inner ≡ true) ⊎ (at ≡ suc q.state.own_at_command) →
-      Both Alike (next (machine rows) (record q { state = later (a ++ said) at q.state })) (next (machine rows) q)
+      Both Alike (next_alone (machine rows) (record q { state = later (a ++ said) at q.state })) (next_alone (machine rows) q)
   shifted said at q other count =
       when_both Alike ((machine rows).can_step q.state) _ _
       (clock_both Alike ((machine rows).asks_clock q.state) q.clocks _ _ (λ t ts.
       reply_both Alike (is_some ((machine rows).asks_common q.state)) q.replies _ _ (λ r rs.
       stepped said at q.state ts rs t r other count)))
 
-  pub next_alike : (p q : Alone (Private A)) → Alike p q → Both Alike (next (machine rows) p) (next (machine rows) q)
-  next_alike p q h = subst (λ (z : Alone (Private A)). Both Alike (next (machine rows) z) (next (machine rows) q)) (sym h.is) (shifted h.said h.at q h.other h.count)
+  pub next_alike : (p q : Alone (Private A)) → Alike p q → Both Alike (next_alone (machine rows) p) (next_alone (machine rows) q)
+  next_alike p q h = subst (λ (z : Alone (Private A)). Both Alike (next_alone (machine rows) z) (next_alone (machine rows) q)) (sym h.is) (shifted h.said h.at q h.other h.count)
 
   by_next : (n : ℕ) (p q : Alone (Private A)) → Alike p q → ((e f : Alone (Private A)) → Alike e f → Alike (steps (machine rows) n e) (steps (machine rows) n f)) →
       (x y : Option (Alone (Private A))) → Both Alike x y → Alike (elim x [ None ↦ p | Some e ↦ steps (machine rows) n e ]) (elim y [ None ↦ q | Some e ↦ steps (machine rows) n e ])
@@ -91,4 +91,4 @@ module _ {A : Type 0} (rows : Rows A) (a b : List Item) where
 
   pub steps_alike : (n : ℕ) (p q : Alone (Private A)) → Alike p q → Alike (steps (machine rows) n p) (steps (machine rows) n q)
   steps_alike zero p q h = h
-  steps_alike (suc n) p q h = by_next n p q h (steps_alike n) (next (machine rows) p) (next (machine rows) q) (next_alike p q h)
+  steps_alike (suc n) p q h = by_next n p q h (steps_alike n) (next_alone (machine rows) p) (next_alone (machine rows) q) (next_alike p q h)

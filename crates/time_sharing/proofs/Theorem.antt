@@ -2,7 +2,7 @@
 use Rattle.std.proofs.Common.{◌≡◌, ℕ, zero, suc, ◌+◌, ◌≤◌, ◌<◌, true, false, nat_lt, List, [], ◌∷◌, ◌++◌, Option, Some, None, refl, sym, ap, subst, ◌∙◌, arith, length, replicate, inl}
 use Rattle.time_sharing.specs.Machine.{Machine, Laws, End}
 use Rattle.time_sharing.specs.Private.{Cut}
-use Rattle.time_sharing.specs.Reach.{Goes}
+use Rattle.time_sharing.specs.Reach.{LeadsTo}
 use Rattle.time_sharing.specs.System.{SystemState, World, Timed, Service, Off, Session, at, state_of, next, ended, end_open, end_idling_of}
 use Rattle.time_sharing.specs.Feeds.{observed, feed_of, ran_of}
 use Rattle.time_sharing.specs.Repeat.{repeat}
@@ -47,7 +47,7 @@ module _ {S P F : Type 0} (m : Machine S) (laws : Laws m) (w : World S P F) (u :
   -- at each moment: the feed so far, cut after the user's own steps
   pub goes_here : (first : S) (events : List Timed) (s : SystemState S P F) → Inv m w first u events [] s →
       let o = observed u events s.entries in
-      Goes m (o.items ++ Cut (m.own (state_of m w s u)) End ∷ []) (starts m first o) (settled m (state_of m w s u))
+      LeadsTo m (o.items ++ Cut (m.own (state_of m w s u)) End ∷ []) (starts m first o) (settled m (state_of m w s u))
   goes_here first events s i =
       let o = observed u events s.entries in
       let p = state_of m w s u in
@@ -61,7 +61,7 @@ module _ {S P F : Type 0} (m : Machine S) (laws : Laws m) (w : World S P F) (u :
       let p = state_of m w s u in
       let k : m.own p ≡ o.own = omega (arith, i.holds.own, ap (ran_of u) none) in
       runs.goes_alone m laws (o.items ++ Cut o.own End ∷ []) (starts m first o) (settled m p)
-      (subst (λ z. Goes m (o.items ++ Cut z End ∷ []) (starts m first o) (settled m p)) k (goes_here first events s i))
+      (subst (λ z. LeadsTo m (o.items ++ Cut z End ∷ []) (starts m first o) (settled m p)) k (goes_here first events s i))
 
   none_open : (s : SystemState S P F) → (ended m w s).service ≡ None
   none_open s = by_service s.service refl
@@ -87,7 +87,7 @@ module _ {S P F : Type 0} (m : Machine S) (laws : Laws m) (w : World S P F) (u :
       let s = iterate m w limit n (start m w firsts files plan consoles events) in
       let o = observed u events s.entries in
       let p = state_of m w s u in
-      Goes m (o.items ++ Cut (m.own p) End ∷ []) (starts m (at w.nobody firsts u) o) (settled m p) × (m.own p ≡ o.own + ran_of u s.service)
+      LeadsTo m (o.items ++ Cut (m.own p) End ∷ []) (starts m (at w.nobody firsts u) o) (settled m p) × (m.own p ≡ o.own + ran_of u s.service)
   moment firsts files plan consoles limit n events inside own =
       let s = iterate m w limit n (start m w firsts files plan consoles events) in
       let i = inv_iterate (at w.nobody firsts u) events limit n (start m w firsts files plan consoles events) (inv_start firsts files plan consoles events inside own) in

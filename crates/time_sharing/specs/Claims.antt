@@ -4,7 +4,7 @@ use Rattle.time_sharing.specs.Machine.{Machine, Laws, End}
 use Rattle.time_sharing.specs.Rows.{Rows, Private, machine}
 use Rattle.time_sharing.specs.System.{SystemState, World, Timed, state_of, next, ended, at}
 use Rattle.time_sharing.specs.Private.{Cut}
-use Rattle.time_sharing.specs.Reach.{Goes}
+use Rattle.time_sharing.specs.Reach.{LeadsTo}
 use Rattle.time_sharing.specs.Feeds.{feed_of, observed, ran_of}
 use Rattle.time_sharing.specs.Commons.{operations_of, replies_of, common_run, files_left}
 use Rattle.time_sharing.specs.Texts.{Watched, watched_to}
@@ -65,7 +65,7 @@ EachMomentIsAlone S P F =
     let s = iterate m w limit n (start m w firsts files plan consoles events) in
     let o = observed u events s.entries in
     let p = state_of m w s u in
-    Goes m (o.items ++ Cut (m.own p) End ∷ []) (record { state = at w.nobody firsts u; clocks = o.clocks; replies = o.replies }) (record { state = p; clocks = []; replies = [] })
+    LeadsTo m (o.items ++ Cut (m.own p) End ∷ []) (record { state = at w.nobody firsts u; clocks = o.clocks; replies = o.replies }) (record { state = p; clocks = []; replies = [] })
     × (m.own p ≡ o.own + ran_of u s.service)
 
 -- a run, then events at its limit or later, then a longer run: as if the events had been there from the first

@@ -2,7 +2,7 @@
 use Rattle.std.specs.Prelude.{ℕ, pred, ◌+◌, if◌then◌else◌, nat_eq, List, [], ◌∷◌, ◌++◌, Option, Some, None, fold}
 use Rattle.time_sharing.specs.Machine.{Quit, Hang, Spent, End, Line, Reply}
 use Rattle.time_sharing.specs.Private.{FeedItem, Open, Typed, Cut, Feed}
-use Rattle.time_sharing.specs.System.{Cause, Time, Wait, Stop, Size, Preempt, AtEnd, Entry, Taken, Login, Refused, Idle, Swap, Rise, Serve, Clock, Common, EventKind, DialTaken, LineTaken, QuitTaken, HangTaken, SpentTaken, Event, Dials, Types, Quits, Hangs, Timed, Service}
+use Rattle.time_sharing.specs.System.{Cause, Time, Wait, Stop, Size, Preempt, AtEnd, Entry, Taken, Login, Serve, Clock, Common, EventKind, DialTaken, LineTaken, QuitTaken, HangTaken, SpentTaken, Event, Dials, Types, Quits, Hangs, Timed, Service}
 
 -- what the entries so far say of a user: the events that none of them took, the own steps, and the feed
 pub record Observed : Type 0 where
@@ -51,13 +51,10 @@ mine u v xs more = if nat_eq v u then xs ++ more else xs
 abbrev pub observe : ℕ → Observed → Entry → Observed
 observe u o (Taken tick console kind v own) = record o { left = rest_of o.left; items = mine u v o.items (feed_items kind own (first_text o.left)) }
 observe u o (Login tick console v) = record o { items = mine u v o.items (Open o.own ∷ []) }
-observe u o (Refused tick console cause) = o
-observe u o (Idle from until) = o
-observe u o (Swap tick v dumped read fresh) = o
-observe u o (Rise tick v level) = o
 observe u o (Serve tick v level ran cause) = record o { own = if nat_eq v u then o.own + steps_of cause ran else o.own }
 observe u o (Clock answer v) = record o { clocks = mine u v o.clocks (answer ∷ []) }
 observe u o (Common v op reply) = record o { replies = mine u v o.replies (reply ∷ []) }
+observe u o _ = o
 
 abbrev pub observed : ℕ → List Timed → List Entry → Observed
 observed u events entries = fold (observe u) (record { left = events; own = 0; items = []; clocks = []; replies = [] }) entries

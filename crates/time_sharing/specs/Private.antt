@@ -42,13 +42,13 @@ answered m s =
     Some (record { state = m.step s.state t r; clocks = ts; replies = rs })))
 
 -- the next step, or nothing where it can't be done
-abbrev pub next : {S : Type 0} (m : Machine S) → Alone S → Option (Alone S)
-next m s = when (m.can_step s.state) (answered m s)
+abbrev pub next_alone : {S : Type 0} (m : Machine S) → Alone S → Option (Alone S)
+next_alone m s = when (m.can_step s.state) (answered m s)
 
 -- at most n steps, as long as one can be done
 abbrev pub steps : {S : Type 0} (m : Machine S) → ℕ → Alone S → Alone S
 steps m zero s = s
-steps m (suc n) s = elim (next m s) [ None ↦ s | Some e ↦ steps m n e ]
+steps m (suc n) s = elim (next_alone m s) [ None ↦ s | Some e ↦ steps m n e ]
 
 -- up to k own steps
 abbrev pub run : {S : Type 0} (m : Machine S) → ℕ → Alone S → Alone S

@@ -30,12 +30,12 @@ serves_in (Serve tick user level ran cause ∷ es) = suc (serves_in es)
 serves_in (_ ∷ es) = serves_in es
 
 -- the steps of a service of so many ticks: a read that found no line took a tick and was no step
-abbrev pub steps_of : ℕ → Cause → ℕ
-steps_of ran cause.Wait = ran - 1
-steps_of ran _ = ran
+abbrev pub service_steps : ℕ → Cause → ℕ
+service_steps ran cause.Wait = ran - 1
+service_steps ran _ = ran
 
 -- the steps of all users
 abbrev pub steps_in : List Entry → ℕ
 steps_in [] = 0
-steps_in (Serve tick user level ran cause ∷ es) = steps_of ran cause + steps_in es
+steps_in (Serve tick user level ran cause ∷ es) = service_steps ran cause + steps_in es
 steps_in (_ ∷ es) = steps_in es

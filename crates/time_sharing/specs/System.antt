@@ -23,7 +23,7 @@ pub record Move : Type 0 where
 -- What is round the private machines: whom to serve and when, which loads, which logins, which common files.
 -- Of the plan nothing is asked for isolation. What changes it gets the clock.
 pub record World (State Plan Files : Type 0) : Type 0 where
-  -- whom to serve, at which level, and whether the user has time left behind one more tick
+  -- whom to serve, at which level, and whether the user has time left after one more tick
   pub choose : Plan → Option ℕ
   pub level : Plan → ℕ → ℕ
   pub time_left : Plan → ℕ → Bool

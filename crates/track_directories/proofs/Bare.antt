@@ -5,8 +5,8 @@ use Rattle.std.proofs.Common.{◌≡◌, ℕ, ◌+◌, ◌-◌, List, [], ◌∷
 use Rattle.std.proofs.lemmas.List.{length-map}
 use Rattle.std.proofs.lemmas.List.Sums.{sum_by-cons}
 use Rattle.std.proofs.lemmas.List.Elements.{All-head, All-tail}
-use Rattle.track_store.specs.Tracks.{Serves}
-use Rattle.file_tracks.specs.Seen.{tells_of, seen}
+use Rattle.track_store.specs.Tracks.{ServesTracks}
+use Rattle.file_tracks.specs.Seen.{tells_of, files_seen}
 use Rattle.file_tracks.specs.Directories.{quota_all, AreDirectories}
 use Rattle.file_tracks.specs.declared.table.TrackTable.{TrackTable}
 use Rattle.file_tracks.proofs.First.{AreBare, are_first}
@@ -26,18 +26,18 @@ pub quotas_sum : (ds : List TrackTable) → quota_all ds ≡ sum (map (λ (t : T
 quotas_sum [] = refl
 quotas_sum (d ∷ ds) = ap (λ (n : ℕ). d.quota + n) (quotas_sum ds) ∙ sym (sum_by-cons (λ (n : ℕ). n) d.quota (map (λ (t : TrackTable). t.quota) ds))
 
-seen_none : (o : Option (List (List ℕ))) → seen o [] ≡ []
-unfolding seen
+seen_none : (o : Option (List (List ℕ))) → files_seen o [] ≡ []
+unfolding files_seen
 seen_none None = refl
 seen_none (Some contents) = refl
 
 none_at : (o : Option (List (List ℕ))) (ds : List TrackTable) → All IsBare ds → (u : ℕ) → files_at o ds u ≡ []
 none_at o [] h u = refl
-none_at o (d ∷ ds) h zero = ap (seen o) (All-head IsBare d ds h).0 ∙ seen_none o
+none_at o (d ∷ ds) h zero = ap (files_seen o) (All-head IsBare d ds h).0 ∙ seen_none o
 none_at o (d ∷ ds) h (suc u) = none_at o ds (All-tail IsBare d ds h) u
 
 module _ (s : Tracked) (ds : List TrackTable) (empty : AreEmpty s.taken ds) where
-  pub sound_first : Serves s.contents s.count s.each (length s.taken) → IsSound s ds
+  pub sound_first : ServesTracks s.contents s.count s.each (length s.taken) → IsSound s ds
   sound_first serves = record {
     all = subst (λ (taken : List Bool). AreDirectories s.contents taken ds) (sym empty.free) (are_first s.contents (length s.taken) ds (bare_all ds empty.bare) empty.fits);
     serves = serves;

@@ -8,9 +8,9 @@ use Rattle.std.proofs.lemmas.List.Elements.{All-head, All-tail}
 use Rattle.ctss_types.specs.declared.file.FileBody.{FileBody}
 use Rattle.track_directories.specs.Directories.{lists_from}
 use Rattle.file_model.specs.Files.{tracks_of_words}
-use Rattle.track_store.specs.Words.{joined}
+use Rattle.track_store.specs.Words.{tracks_joined}
 use Rattle.file_tracks.specs.Stored.{occurs, body_on, files_on, HasTracks, IsWhole}
-use Rattle.file_tracks.specs.Seen.{tells_of, seen}
+use Rattle.file_tracks.specs.Seen.{tells_of, files_seen}
 use Rattle.file_tracks.specs.Directories.{total, IsOne, AreDirectories}
 use Rattle.file_tracks.specs.Lying.{LiesOn, EachLiesOn, count_all, all_files, LieOn}
 use Rattle.file_tracks.specs.declared.table.Filed.{Filed}
@@ -49,7 +49,7 @@ module _ (contents : List (List ℕ)) where
       let l = content-length contents f has whole in
       record {
         many = has ∙ ap tracks_of_words (sym l);
-        words = ap (λ (n : ℕ). take n (joined contents f.tracks.items)) (sym l);
+        words = ap (λ (n : ℕ). take n (tracks_joined contents f.tracks.items)) (sym l);
       }
 
   each_one : (fs : List Filed) → All HasTracks fs → All (IsWhole contents) fs → EachLiesOn contents (files_on contents fs) (tracks_in fs)
@@ -95,13 +95,13 @@ lists_lie (Some contents) taken common own all xs y h k =
 
 -- and is what is seen
 pub lists_seen : (o : Option (List (List ℕ))) (own : List TrackTable) (xs : List (List FileBody)) → tells_of o ≡ true → WhereTold o (λ contents. xs ≡ map (files_in contents) own)
-    → xs ≡ map (λ (t : TrackTable). seen o t.files.items) own
-unfolding tells_of seen
+    → xs ≡ map (λ (t : TrackTable). files_seen o t.files.items) own
+unfolding tells_of files_seen
 lists_seen None own xs told h = absurd (true≢false (sym told))
 lists_seen (Some contents) own xs told h = h
 
-pub list_seen : (o : Option (List (List ℕ))) (d : TrackTable) (y : List FileBody) → tells_of o ≡ true → WhereTold o (λ contents. y ≡ files_in contents d) → y ≡ seen o d.files.items
-unfolding tells_of seen
+pub list_seen : (o : Option (List (List ℕ))) (d : TrackTable) (y : List FileBody) → tells_of o ≡ true → WhereTold o (λ contents. y ≡ files_in contents d) → y ≡ files_seen o d.files.items
+unfolding tells_of files_seen
 list_seen None d y told h = absurd (true≢false (sym told))
 list_seen (Some contents) d y told h = h
 

@@ -18,12 +18,12 @@ use Rattle.file_model.specs.Commons.{ReplyFits}
 use Rattle.file_model.specs.Files.{lasting}
 use Rattle.user_model.specs.Inner.{Stored}
 use Rattle.user_session.specs.Stores.{stored, Over}
-use Rattle.track_directories.specs.Directories.{KeepsUsers, LeavesRest, Serves, Shares, Drops}
+use Rattle.track_directories.specs.Directories.{KeepsUsers, LeavesRest, ServesUser, Shares, Drops}
 use Rattle.file_tracks.specs.Stored.{files_on, IsDirectory}
-use Rattle.file_tracks.specs.Seen.{tells_of, seen}
+use Rattle.file_tracks.specs.Seen.{tells_of, files_seen}
 use Rattle.file_tracks.specs.declared.table.Filed.{Filed}
 use Rattle.file_tracks.specs.declared.table.TrackTable.{TrackTable}
-use Rattle.file_tracks.specs.Kept.{Goes, goes_both}
+use Rattle.file_tracks.specs.Kept.{CallsLeave, goes_both}
 use Rattle.file_tracks.proofs.Every.{directory_of, all_still, others_stay}
 use Rattle.file_tracks.specs.Tracked.{Tracked, files_in, IsReady}
 use Rattle.track_directories.specs.Tables.{files_at, quota_at, state_of, IsSound}
@@ -51,8 +51,8 @@ at_other f g ds u j d' e other same = elim (cases_lt j (length ds)) [
 
 -- files whose tracks hold what they held are seen as they were
 seen_stays : (o o' : Option (List (List ℕ))) (fs : List Filed) → tells_of o' ≡ tells_of o
-    → ((was now : List (List ℕ)) → o ≡ Some was → o' ≡ Some now → files_on now fs ≡ files_on was fs) → seen o' fs ≡ seen o fs
-unfolding tells_of seen
+    → ((was now : List (List ℕ)) → o ≡ Some was → o' ≡ Some now → files_on now fs ≡ files_on was fs) → files_seen o' fs ≡ files_seen o fs
+unfolding tells_of files_seen
 seen_stays None None fs told same = refl
 seen_stays None (Some now) fs told same = absurd (true≢false told)
 seen_stays (Some was) None fs told same = absurd (true≢false (sym told))
@@ -83,14 +83,14 @@ module _ (old : Tracked) (tables : List TrackTable) (sound : IsSound old tables)
   quota_was = at_map (λ (t : TrackTable). t.quota) tables u d 0 low ∙ ap (λ (t : TrackTable). t.quota) (sym is)
 
   pub mine_was : files_at old.contents tables u ≡ files_in old d
-  mine_was = at_map (λ (t : TrackTable). seen old.contents t.files.items) tables u d [] low ∙ ap (files_in old) (sym is)
+  mine_was = at_map (λ (t : TrackTable). files_seen old.contents t.files.items) tables u d [] low ∙ ap (files_in old) (sym is)
 
   module _ (new : Tracked) (d' : TrackTable) where
     pub mine_now : files_at new.contents (slice_set tables u d') u ≡ files_in new d'
     mine_now =
         let l = length-set tables u d' in
-        at_map (λ (t : TrackTable). seen new.contents t.files.items) (set tables u d') u d [] (omega (arith, l, low))
-        ∙ ap (λ (t : TrackTable). seen new.contents t.files.items) (get_or-set_same tables u d' d low)
+        at_map (λ (t : TrackTable). files_seen new.contents t.files.items) (set tables u d') u d [] (omega (arith, l, low))
+        ∙ ap (λ (t : TrackTable). files_seen new.contents t.files.items) (get_or-set_same tables u d' d low)
 
     -- what is said of the files of the directory is said of the user's
     over_at : (tells : Bool) (words words' : List ℕ) (R : Stored → Stored → Type 0) → Over tells (stored words (files_in old d)) (stored words' (files_in new d')) R
@@ -128,7 +128,7 @@ module _ (old : Tracked) (tables : List TrackTable) (sound : IsSound old tables)
 
       pub others_at : ¬ IsErrOf result Disk → (j : ℕ) → j ≢ u → files_at new.contents (slice_set tables u d') j ≡ files_at old.contents tables j
       others_at usable j other =
-          at_other (λ (t : TrackTable). seen new.contents t.files.items) (λ (t : TrackTable). seen old.contents t.files.items) tables u j d' d other
+          at_other (λ (t : TrackTable). files_seen new.contents t.files.items) (λ (t : TrackTable). files_seen old.contents t.files.items) tables u j d' d other
           (λ within. seen_stays old.contents new.contents (get_or tables j d).files.items (leaves.after usable).telling
           (λ was now p q. others_stay old.contents old.taken tables sound.all u d low new.contents new.taken d' (leaves.ready usable).directory (at_place.after usable) at_place.quota was now p q j within other))
 
@@ -139,7 +139,7 @@ module _ (old : Tracked) (tables : List TrackTable) (sound : IsSound old tables)
         tells = (leaves.after usable).telling;
       }
 
-      serves_here : 1 ≤ u → Serves u result (state_of old tables) (state_of new (slice_set tables u d'))
+      serves_here : 1 ≤ u → ServesUser u result (state_of old tables) (state_of new (slice_set tables u d'))
       serves_here user = record {
         users = users_at;
         rest = rest_at user;
@@ -149,8 +149,8 @@ module _ (old : Tracked) (tables : List TrackTable) (sound : IsSound old tables)
       }
 
       -- for the user of this number
-      pub serves_at : (v : ℕ) → u ≡ v → 1 ≤ u → Serves v result (state_of old tables) (state_of new (slice_set tables u d'))
-      serves_at v same user = subst (λ (n : ℕ). Serves n result (state_of old tables) (state_of new (slice_set tables u d'))) same (serves_here user)
+      pub serves_at : (v : ℕ) → u ≡ v → 1 ≤ u → ServesUser v result (state_of old tables) (state_of new (slice_set tables u d'))
+      serves_at v same user = subst (λ (n : ℕ). ServesUser n result (state_of old tables) (state_of new (slice_set tables u d'))) same (serves_here user)
 
     -- a user's files of mode 0 go
     module _ (leaves : LeavesOne {T = Unit {0}} (Ok tt) old new d d') (faults : new.faults ≡ old.faults) (left : files_in new d' ≡ lasting (files_in old d)) where
@@ -193,7 +193,7 @@ module _ (old : Tracked) (tables : List TrackTable) (sound : IsSound old tables)
 -- what two calls on one directory leave, both of which were done
 pub both_leave : {old mid new : Tracked} {d dm d' : TrackTable} → LeavesOne {T = Unit {0}} (Ok tt) old mid d dm → LeavesOne {T = Unit {0}} (Ok tt) mid new dm d' → LeavesOne {T = Unit {0}} (Ok tt) old new d d'
 both_leave {old = old} {mid = mid} {new = new} {d = d} {dm = dm} {d' = d'} one two =
-    let goes : (s s' : Tracked) (e e' : TrackTable) → LeavesOne {T = Unit {0}} (Ok tt) s s' e e' → Goes s.contents s'.contents s.taken s'.taken s.faults s'.faults e e' false false = λ s s' e e' l. record {
+    let goes : (s s' : Tracked) (e e' : TrackTable) → LeavesOne {T = Unit {0}} (Ok tt) s s' e e' → CallsLeave s.contents s'.contents s.taken s'.taken s.faults s'.faults e e' false false = λ s s' e e' l. record {
       quota = l.quota;
       rises = l.faults;
       after = λ well. (refl, l.after (λ x. cc));

@@ -11,7 +11,7 @@ use Rattle.file_tracks.specs.Tracked.{Tracked, tracked, files_in, IsReady}
 use Rattle.file_tracks.specs.declared.table.TrackTable.{TrackTable}
 use Rattle.user_model.specs.User.{User}
 use Rattle.user_session.specs.Calls.{CanStep}
-use Rattle.track_directories.specs.Directories.{Serves}
+use Rattle.track_directories.specs.Directories.{ServesUser}
 use Rattle.track_directories.specs.Tables.{disk_of, shown, Sound}
 use Rattle.track_directories.specs.declared.all.TrackDirectories.{TrackDirectories}
 
@@ -50,4 +50,4 @@ module _ {F : Type 0} (g : Ghosts F) where
   pub record HasServed (user : ℕ) {T : Type 0} (result : Result T StepFault) (old new : TrackDirectories F) : Type 0 where
     pub sound : ¬ IsErrOf result Disk → Sound g new
     pub same : (disk_of new).ghost_name ≡ (disk_of old).ghost_name
-    pub serves : Serves user result (shown g old) (shown g new)
+    pub serves : ServesUser user result (shown g old) (shown g new)

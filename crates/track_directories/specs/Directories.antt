@@ -34,7 +34,7 @@ pub record LeavesRest (user : ℕ) (old new : DirectoriesState) : Type 0 where
   pub tells : new.tells ≡ old.tells
 
 -- a step of a user, which may fail at the disk; want of memory changes nothing
-pub record Serves {T : Type 0} (user : ℕ) (result : Result T StepFault) (old new : DirectoriesState) : Type 0 where
+pub record ServesUser {T : Type 0} (user : ℕ) (result : Result T StepFault) (old new : DirectoriesState) : Type 0 where
   pub users : KeepsUsers old new
   pub rest : ¬ IsErrOf result Disk → LeavesRest user old new
   pub left : IsErrOf result NoMemory → new.own user ≡ old.own user

@@ -5,7 +5,7 @@ use Rattle.std.specs.List.{All}
 use Rattle.ctss_types.specs.declared.file.FileBody.{FileBody}
 use Rattle.track_directories.specs.Directories.{DirectoriesState}
 use Rattle.medium.specs.declared.medium.Medium.{Ghosts}
-use Rattle.file_tracks.specs.Seen.{tells_of, seen}
+use Rattle.file_tracks.specs.Seen.{tells_of, files_seen}
 use Rattle.file_tracks.specs.Directories.{AreDirectories}
 use Rattle.file_tracks.specs.Tracked.{Tracked, tracked, IsServed}
 use Rattle.file_tracks.specs.declared.table.TrackTable.{TrackTable}
@@ -13,7 +13,7 @@ use Rattle.track_directories.specs.declared.all.TrackDirectories.{TrackDirectori
 
 -- the files of a directory, as the disk tells them: the common ones have number 0
 abbrev pub files_at : Option (List (List ℕ)) → List TrackTable → ℕ → List FileBody
-files_at contents tables u = get_or (map (λ (t : TrackTable). seen contents t.files.items) tables) u []
+files_at contents tables u = get_or (map (λ (t : TrackTable). files_seen contents t.files.items) tables) u []
 
 -- how many tracks a directory may take
 abbrev pub quota_at : List TrackTable → ℕ → ℕ

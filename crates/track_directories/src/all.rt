@@ -8,7 +8,7 @@ ghost use Rattle.user_session.specs.Calls.{KeepsCore, KeepsUser};
 ghost use Rattle.user_session.specs.Stores.{stored, Over, IsToMake};
 ghost use Rattle.user_session.specs.Turns.{IsReplied, IsTurn};
 ghost use Rattle.track_directories.specs.Calls.{CanServe, HasServed};
-ghost use Rattle.track_directories.specs.Directories.{Serves, Shares, Drops, lists_from};
+ghost use Rattle.track_directories.specs.Directories.{ServesUser, Shares, Drops, lists_from};
 ghost use Rattle.track_directories.specs.Tables.{disk_of, shown, Sound};
 ghost use Rattle.track_directories.specs.Firsts.{AreFirst, Adds, CanAdd, IsAdded};
 
@@ -60,7 +60,7 @@ impl<'d, F: Medium> TrackDirectories<'d, F> {
         requires can { CanAdd file.now (shown F.Medium self.old) }
         ensures sound { ¬ IsErrOf result StepFault.Disk → Sound F.Medium self.new }
         ensures same { (disk_of self.new).ghost_name ≡ (disk_of self.old).ghost_name }
-        ensures serves { Serves file.now.owner result (shown F.Medium self.old) (shown F.Medium self.new) }
+        ensures serves { ServesUser file.now.owner result (shown F.Medium self.old) (shown F.Medium self.new) }
         ensures added { OnOk result (IsAdded file.now (shown F.Medium self.old) (shown F.Medium self.new)) }
     {
         let table = &mut self.tables[file.owner.number() as usize];

@@ -1,6 +1,6 @@
 //! Directories without files.
 ghost use Rattle.std.specs.Prelude.{◌≡◌, ◌≤◌, ◌+◌, ◌∷◌, sum, map, length, IfOk};
-ghost use Rattle.track_store.specs.Tracks.{Serves};
+ghost use Rattle.track_store.specs.Tracks.{ServesTracks};
 ghost use Rattle.file_tracks.specs.Seen.{tells_of};
 ghost use Rattle.track_directories.specs.Tables.{disk_of, shown, Sound};
 ghost use Rattle.track_directories.specs.Firsts.{HaveNone};
@@ -62,7 +62,8 @@ impl EmptyDirectories {
 
     /// Lays them on the first records of a disk.
     pub fn over<'d, F: Medium>(self, disk: &'d mut F) -> TrackDirectories<'d, F>
-        requires serves { Serves (F.contents disk.old) (F.record_count disk.old) (F.words_each disk.old) self.tracks }
+        requires serves { ServesTracks (F.contents disk.old) (F.record_count disk.old) (F.words_each disk.old)
+            self.tracks }
         ensures same { (disk_of result).ghost_name ≡ disk.entry.ghost_name }
         ensures now { (disk_of result).now ≡ disk.old }
         ensures sound { Sound F.Medium result }

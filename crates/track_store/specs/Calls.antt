@@ -4,13 +4,13 @@ use Rattle.std.specs.declared.result.Result.{Result}
 use Rattle.faults.specs.Faults.{Rose}
 use Rattle.medium.specs.Medium.{AreWords, read_call, write_call, with_call, with_record, Reads}
 use Rattle.medium.specs.declared.medium.Medium.{Ghosts}
-use Rattle.track_store.specs.Tracks.{Serves}
+use Rattle.track_store.specs.Tracks.{ServesTracks}
 use Rattle.track_store.specs.declared.store.TrackStore.{TrackStore}
 
 module _ {F : Type 0} (g : Ghosts F) where
   -- the disk serves the tracks
   abbrev pub IsServed : TrackStore F → Type 0
-  IsServed s = Serves (g.contents s.disk.now) (g.record_count s.disk.now) (g.words_each s.disk.now) (length s.tracks.taken.items)
+  IsServed s = ServesTracks (g.contents s.disk.now) (g.record_count s.disk.now) (g.words_each s.disk.now) (length s.tracks.taken.items)
 
   -- A call of the disk leaves, done or not: the same disk, which serves the tracks, of which the same ones are taken. The count of its
   -- faults doesn't fall, and where the call failed it rose.

@@ -17,7 +17,7 @@ abbrev pub is_taken : List Bool → ℕ → Bool
 is_taken taken t = slice_index_or taken t false
 
 -- a disk with this many records of this many words serves so many tracks
-pub record Serves (contents : Option (List (List ℕ))) (count each tracks : ℕ) : Type 0 where
+pub record ServesTracks (contents : Option (List (List ℕ))) (count each tracks : ℕ) : Type 0 where
   pub shape : HasShape contents count
   pub within : tracks ≤ count
   pub whole : each ≡ 432

@@ -8,9 +8,9 @@ abbrev pub record_at : List (List ℕ) → ℕ → List ℕ
 record_at contents t = slice_index_or contents t []
 
 -- the words of these tracks, one after another
-abbrev pub joined : List (List ℕ) → List ℕ → List ℕ
-joined contents [] = []
-joined contents (t ∷ ts) = record_at contents t ++ joined contents ts
+abbrev pub tracks_joined : List (List ℕ) → List ℕ → List ℕ
+tracks_joined contents [] = []
+tracks_joined contents (t ∷ ts) = record_at contents t ++ tracks_joined contents ts
 
 -- the records with words written into these tracks, 432 each, where records are told
 abbrev pub with_words : Option (List (List ℕ)) → List ℕ → List ℕ → Option (List (List ℕ))

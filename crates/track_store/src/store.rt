@@ -2,7 +2,7 @@
 ghost use Rattle.std.specs.Prelude.{◌≡◌, ◌<◌, ◌+◌, length, true, false, replicate, slice_set, IfOk, OnOk, OnErr};
 ghost use Rattle.medium.specs.Medium.{AreWords};
 ghost use Rattle.track_store.specs.Calls.{IsServed, ReadsTrack, WritesTrack};
-ghost use Rattle.track_store.specs.Tracks.{count_taken, is_taken, Serves};
+ghost use Rattle.track_store.specs.Tracks.{count_taken, is_taken, ServesTracks};
 
 use crate::tracks::{NoTrack, Tracks};
 use faults::NoMemory;
@@ -48,7 +48,7 @@ impl<'a, F: Medium> TrackStore<'a, F> {
     /// After an error the clauses say nothing of the disk. Where that matters, make `Tracks` first and then the
     /// store with `over`.
     pub fn new(alloc: Global, disk: &'a mut F, tracks: u16) -> Result<TrackStore<'a, F>, NoMemory>
-        requires serves { Serves (F.contents disk.old) (F.record_count disk.old) (F.words_each disk.old) tracks }
+        requires serves { ServesTracks (F.contents disk.old) (F.record_count disk.old) (F.words_each disk.old) tracks }
         ensures same { IfOk result (λ s. s.disk.ghost_name ≡ disk.entry.ghost_name) }
         ensures now { IfOk result (λ s. s.disk.now ≡ disk.old) }
         ensures taken { IfOk result (λ s. s.tracks.taken.items ≡ replicate tracks false) }

@@ -12,8 +12,8 @@ use Rattle.image_map.specs.Windows.{window}
 use Rattle.user_model.specs.Inner.{recut, zeros}
 
 -- the words of these blocks
-abbrev pub joined : List (List ℕ) → List ℕ
-joined blocks = flat_map (λ b. b) blocks
+abbrev pub blocks_joined : List (List ℕ) → List ℕ
+blocks_joined blocks = flat_map (λ b. b) blocks
 
 -- a block has all its words
 abbrev pub IsBlock : List ℕ → Type 0
@@ -21,7 +21,7 @@ IsBlock b = length b ≡ 256
 
 -- blocks of a core, from a place on
 
-pub joined_first : (base n : ℕ) (bank : List ℕ) → joined (first n (λ b. block_at bank (base + b))) ≡ window bank base n
+pub joined_first : (base n : ℕ) (bank : List ℕ) → blocks_joined (first n (λ b. block_at bank (base + b))) ≡ window bank base n
 joined_first base zero bank = refl
 joined_first base (suc n) bank =
     let size : 256 * (base + n) + 256 - 256 * (base + n) ≡ 256 = omega arith in
@@ -52,24 +52,24 @@ first_whole base (suc n) bank len most =
 
 -- whole blocks
 
-joined_take : (m : ℕ) (bs : List (List ℕ)) → All IsBlock bs → joined (take m bs) ≡ take (256 * m) (joined bs)
+joined_take : (m : ℕ) (bs : List (List ℕ)) → All IsBlock bs → blocks_joined (take m bs) ≡ take (256 * m) (blocks_joined bs)
 joined_take zero bs whole = refl
 joined_take (suc m) [] whole = sym (take_all (256 * suc m) [] (omega arith))
 joined_take (suc m) (b ∷ bs) whole =
     let size : length b ≡ 256 = All-head IsBlock b bs whole in
     let next : length b + 256 * m ≡ 256 * suc m = omega arith in
     ap (λ (l : List ℕ). b ++ l) (joined_take m bs (All-tail IsBlock b bs whole))
-    ∙ sym (take-append-add b (joined bs) (256 * m))
-    ∙ ap (λ (k : ℕ). take k (b ++ joined bs)) next
+    ∙ sym (take-append-add b (blocks_joined bs) (256 * m))
+    ∙ ap (λ (k : ℕ). take k (b ++ blocks_joined bs)) next
 
-length-joined : (bs : List (List ℕ)) → All IsBlock bs → length (joined bs) ≡ 256 * length bs
+length-joined : (bs : List (List ℕ)) → All IsBlock bs → length (blocks_joined bs) ≡ 256 * length bs
 length-joined [] whole = refl
 length-joined (b ∷ bs) whole =
     let size : length b ≡ 256 = All-head IsBlock b bs whole in
-    let rest : length (joined bs) ≡ 256 * length bs = length-joined bs (All-tail IsBlock b bs whole) in
-    omega (arith, length-append b (joined bs))
+    let rest : length (blocks_joined bs) ≡ 256 * length bs = length-joined bs (All-tail IsBlock b bs whole) in
+    omega (arith, length-append b (blocks_joined bs))
 
-joined_blank : (k : ℕ) → joined (replicate k blank) ≡ replicate (256 * k) 0
+joined_blank : (k : ℕ) → blocks_joined (replicate k blank) ≡ replicate (256 * k) 0
 unfolding blank
 joined_blank zero = refl
 joined_blank (suc k) =
@@ -81,22 +81,22 @@ unfolding blank
 blank_whole = length-replicate {A = ℕ} 256 0
 
 -- blocks cut, or extended by plus zeros
-pub joined_resized : (n m : ℕ) (bs : List (List ℕ)) → All IsBlock bs → length bs ≡ n → joined (take m bs ++ replicate (m - n) blank) ≡ recut m (joined bs)
+pub joined_resized : (n m : ℕ) (bs : List (List ℕ)) → All IsBlock bs → length bs ≡ n → blocks_joined (take m bs ++ replicate (m - n) blank) ≡ recut m (blocks_joined bs)
 joined_resized n m bs whole count =
-    let len : length (joined bs) ≡ 256 * length bs = length-joined bs whole in
-    let more : 256 * (m - n) ≡ 256 * m - length (joined bs) = omega arith in
+    let len : length (blocks_joined bs) ≡ 256 * length bs = length-joined bs whole in
+    let more : 256 * (m - n) ≡ 256 * m - length (blocks_joined bs) = omega arith in
     flat_map-append (λ (b : List ℕ). b) (take m bs) (replicate (m - n) blank)
     ∙ (λ j. joined_take m bs whole j ++ joined_blank (m - n) j)
-    ∙ ap (λ (k : ℕ). take (256 * m) (joined bs) ++ replicate k 0) more
+    ∙ ap (λ (k : ℕ). take (256 * m) (blocks_joined bs) ++ replicate k 0) more
 
 -- blocks cut to none and extended
-pub joined_replaced : (n m : ℕ) (bs : List (List ℕ)) → joined (take m (take 0 bs ++ replicate (0 - n) blank) ++ replicate (m - 0) blank) ≡ zeros m
+pub joined_replaced : (n m : ℕ) (bs : List (List ℕ)) → blocks_joined (take m (take 0 bs ++ replicate (0 - n) blank) ++ replicate (m - 0) blank) ≡ zeros m
 joined_replaced n m bs =
     let none : 0 - n ≡ 0 = omega arith in
     let all : m - 0 ≡ m = omega arith in
     let nothing : take m (replicate 0 blank) ≡ [] = take_all m [] (omega arith) in
-    (λ j. joined (take m (replicate (none j) blank) ++ replicate (all j) blank))
-    ∙ ap (λ (l : List (List ℕ)). joined (l ++ replicate m blank)) nothing
+    (λ j. blocks_joined (take m (replicate (none j) blank) ++ replicate (all j) blank))
+    ∙ ap (λ (l : List (List ℕ)). blocks_joined (l ++ replicate m blank)) nothing
     ∙ joined_blank m
 
 pub resized_whole : (n m : ℕ) (bs : List (List ℕ)) → All IsBlock bs → All IsBlock (take m bs ++ replicate (m - n) blank)

@@ -4,7 +4,7 @@ use Rattle.std.specs.Option.{is_some}
 use Rattle.std.proofs.Common.{◌≡◌, ◌≢◌, ℕ, zero, suc, ◌≤◌, true, List, [], refl, sym, ◌∙◌, ap, subst, arith}
 use Rattle.image_map.specs.State as images
 use Rattle.core_bank.specs.Bank.{AreWords}
-use Rattle.drum_slots.specs.Kept.{Serves}
+use Rattle.drum_slots.specs.Kept.{ServesSlots}
 use Rattle.drum_slots.specs.Table.{records_of}
 use Rattle.image_map.specs.State.{ImageState, DrumState, IsUsable, image}
 use Rattle.track_directories.specs.Directories.{DirectoriesState, Drops}
@@ -96,8 +96,8 @@ module _ (user : ℕ) (pos : 1 ≤ user) (s t : ImageState) where
         going = failed ∙ usable.going;
         words = subst AreWords (sym words) usable.words;
         serves =
-            subst (λ (d : DrumState). Serves d.contents d.count d.each (records_of t.slots)) (sym drum)
-            (subst (Serves s.drum.contents s.drum.count s.drum.each) (sym records) usable.serves);
+            subst (λ (d : DrumState). ServesSlots d.contents d.count d.each (records_of t.slots)) (sym drum)
+            (subst (ServesSlots s.drum.contents s.drum.count s.drum.each) (sym records) usable.serves);
       }
 
   pub resized_whole : (blocks : ℕ) → IsWhole s → images.Resizes user blocks s t → IsWhole t

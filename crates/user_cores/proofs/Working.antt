@@ -130,7 +130,7 @@ module _ (s : ImageState) (user : ℕ) (pos : 1 ≤ user) (words : List ℕ) (mo
   others_same d zero low them = refl
   others_same d (suc u) low them = ap (λ (ws : List ℕ). stored ws (d.own (suc u))) (words_other (suc u) them)
 
-  -- of all others, behind an operation on the common files
+  -- of all others, after an operation on the common files
   pub others_shared : (d e f : DirectoriesState) → ((u : ℕ) → 1 ≤ u → e.own u ≡ d.own u) → LeavesRest user e f
       → (u : ℕ) → 1 ≤ u → u ≢ user → stores_of (words_in turned) f.own f.common u ≡ stores_of (words_in s) d.own d.common u
   others_shared d e f own left zero low them = absurd (omega (arith, low))

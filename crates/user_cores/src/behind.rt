@@ -53,7 +53,8 @@ impl<D: Medium, F: Medium> Backing for Behind<'_, '_, D, F> {
     ghost Keeps = { λ a b. ((image_state b.cores).drum.name ≡ (image_state a.cores).drum.name)
         × ((disk_of b.files).ghost_name ≡ (disk_of a.files).ghost_name) };
 
-    ghost Lies = { λ b own common. WhereTold (F.contents (disk_of b.files).now) (λ contents. LieOn contents own common) };
+    ghost Lies = { λ b own common. WhereTold (F.contents (disk_of b.files).now)
+        (λ contents. LieOn contents own common) };
 
     ghost stays = { λ a. (refl, refl) };
 

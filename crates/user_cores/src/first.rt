@@ -1,9 +1,9 @@
 //! The cores at the start of a run.
 ghost use Rattle.std.specs.Prelude.{◌≡◌, length, is_some, replicate};
 ghost use Rattle.core_bank.specs.Bank.{AreWords};
-ghost use Rattle.drum_slots.specs.Kept.{Serves};
+ghost use Rattle.drum_slots.specs.Kept.{ServesSlots};
 ghost use Rattle.drum_slots.specs.Table.{records_of};
-ghost use Rattle.image_map.specs.Image.{state, seen, drum_of};
+ghost use Rattle.image_map.specs.Image.{state, drum_seen, drum_of};
 ghost use Rattle.user_cores.specs.Usable.{AreFree, HasNoBlocks};
 
 use core_bank::Bank;
@@ -22,9 +22,9 @@ pub fn first_cores<'a, D: Medium>(
     requires slots { AreFree slots }
     requires sizes { sizes.items ≡ replicate (length slots.quotas.items) 0 }
     requires words { AreWords bank }
-    requires serves { Serves (D.contents drum.old) (D.record_count drum.old) (D.words_each drum.old)
+    requires serves { ServesSlots (D.contents drum.old) (D.record_count drum.old) (D.words_each drum.old)
         (records_of slots) }
-    ensures seen { (state result).drum ≡ seen D.Medium drum.entry }
+    ensures seen { (state result).drum ≡ drum_seen D.Medium drum.entry }
     ensures drum { drum_of result ≡ drum.old }
     ensures first { HasNoBlocks slots.quotas.items (is_some (D.contents drum.old)) (state result) }
 {

@@ -3,16 +3,14 @@ use Rattle.std.proofs.Common.{◌≡◌, Bool, true, false, ◌&&◌, List, [], 
 use Rattle.std.specs.Prelude.{slice_get}
 use Rattle.time_sharing.specs.Machine.{Line, CommonOp}
 use Rattle.time_sharing.specs.Rows.{some_line}
-use Rattle.ctss_types.specs.Names.{NamePair}
 use Rattle.machine_model.specs.Machine.{step_of}
 use Rattle.program_model.specs.declared.Fill.{Fill}
 use Rattle.user_model.specs.Requests.{command_of}
 use Rattle.user_model.specs.Commands.{command_asks}
-use Rattle.program_model.specs.Stops.{Stops}
 use Rattle.user_model.specs.Programs.{step_asks, at_break}
-use Rattle.user_model.specs.Session.{works_in}
+use Rattle.user_model.specs.Session.{works_in, Next, AtCommand, AtInstruction, next_of}
 use Rattle.user_model.specs.User.{User, can_step, asks_common}
-use Rattle.user_model.proofs.StepLaws.{break_makes, run_makes, fill_makes, command_makes, input_makes, debug_makes, command_can}
+use Rattle.user_model.proofs.StepLaws.{next_makes, break_makes, run_makes, fill_makes, command_makes, command_can, idle_steps_none}
 
 both : (a b : Bool) → (a && b) ≡ true → (a ≡ true) × (b ≡ true)
 both true true h = (refl, refl)
@@ -46,13 +44,10 @@ asked_first p h can = some_first p.unread (both p.on (some_line p.unread) (sym (
 
 -- and it is a command
 pub asked_command : (p : User) (op : CommonOp) (l : Line) → works_in p.inner.state ≡ false → slice_get p.unread 0 ≡ Some l → asks_common p ≡ Some op →
-    (p.inner.debugger ≡ None) × (p.inner.input ≡ None) × (command_asks (command_of l) p.inner ≡ Some op)
-asked_command p op l h first makes = by_debugger p.inner.debugger refl
+    (next_of p.inner ≡ AtCommand) × (command_asks (command_of l) p.inner ≡ Some op)
+asked_command p op l h first makes = by_next (next_of p.inner) refl
   where
-    by_input : (o : Option NamePair) → p.inner.debugger ≡ None → p.inner.input ≡ o → (p.inner.debugger ≡ None) × (p.inner.input ≡ None) × (command_asks (command_of l) p.inner ≡ Some op)
-    by_input None shut is = (shut, is, sym (command_makes p l (command_of l) h shut is first refl) ∙ makes)
-    by_input (Some name) shut is = let none : None ≡ Some op = sym (input_makes p l name h shut is first) ∙ makes in cc
-
-    by_debugger : (o : Option Stops) → p.inner.debugger ≡ o → (p.inner.debugger ≡ None) × (p.inner.input ≡ None) × (command_asks (command_of l) p.inner ≡ Some op)
-    by_debugger None shut = by_input p.inner.input shut refl
-    by_debugger (Some d) is = let none : None ≡ Some op = sym (debug_makes p l d h is first) ∙ makes in cc
+    by_next : (x : Next) → next_of p.inner ≡ x → (next_of p.inner ≡ AtCommand) × (command_asks (command_of l) p.inner ≡ Some op)
+    by_next AtCommand is = (is, sym (command_makes p l (command_of l) is first refl) ∙ makes)
+    by_next (AtInstruction s) is = absurd (idle_steps_none p.inner s h is)
+    by_next _ is = let none : None ≡ Some op = sym (next_makes _ p is) ∙ makes in cc

@@ -4,7 +4,7 @@ use Rattle.std.specs.Prelude.{if◌then◌else◌, option_to_list, nat_lt, lengt
 use Rattle.std.proofs.lemmas.List.Sums.{fold-append}
 use Rattle.time_sharing.specs.Machine.{Laws, Line, Item, In, Out, Quitted, Hung, CommonOp, Reply}
 use Rattle.time_sharing.specs.Rows.{Outcome, machine, line_of, own_at_command_of, result_of, done, one_less, first_line, some_line, behind, in_line, out_all}
-use Rattle.time_sharing.specs.Private.{Alone, next, when, with_clock, with_reply}
+use Rattle.time_sharing.specs.Private.{Alone, next_alone, when, with_clock, with_reply}
 use Rattle.time_sharing.specs.Reach.{Reaches}
 use Rattle.time_sharing.specs.System.{clock_for}
 use Rattle.time_sharing.proofs.RowsLaws.{rows_laws}
@@ -19,10 +19,10 @@ use Rattle.program_model.specs.DebugLines.{debug_of}
 use Rattle.program_model.specs.Stops.{Stops, is_full, with_break, without_break}
 use Rattle.user_model.specs.Inner.{Inner}
 use Rattle.user_model.specs.Debugger.{debug_row, if_inside, with_breaks, is_debugged, stores, line_stores}
-use Rattle.user_model.specs.Session.{user_rows, works_in, Next, AtInstruction, line_next, instruction_next, program_next, next_in, next_of, takes_line_at, asks_clock_at, asks_common_at, act_by}
+use Rattle.user_model.specs.Session.{user_rows, works_in, Next, AtDebugger, AtInstruction, instruction_next, program_next, next_in, next_of, takes_line_at, asks_clock_at, asks_common_at, act_by}
 use Rattle.user_model.specs.User.{User}
 use Rattle.user_model.specs.Plain.{woken, plain_machine, with_typed, plain, Move, Comes, Does, Course, reply_in, replies_in, clocks_in, breaks_in, is_own, step_at, written_at, with_own, moved, Allowed, AllAllowed, begun, AreSameLines, outs, DebuggerIsPlain}
-use Rattle.user_model.proofs.StepLaws.{next_idle}
+use Rattle.user_model.proofs.StepLaws.{at_debugger}
 use Rattle.user_model.proofs.PlainRows.{quiet, AreSame, same_marked, same_step, same_replied, same_asks, same_reads, same_times}
 
 -- the machine that goes on owes what a machine owes
@@ -187,7 +187,7 @@ record Follows (p : User) (c : Course) : Type 0 where
 -- One step under the debugger and one alone, from a state of the program alone with just the line that the step takes.
 record Together (q s : User) (t : ℕ) (r : Reply) : Type 0 where
   pub after : User
-  pub goes : next plain_machine (record { state = s; clocks = clocks_in ((machine user_rows).asks_clock q) t; replies = replies_in ((machine user_rows).asks_common q) r }) ≡ Some (record { state = after; clocks = []; replies = [] })
+  pub goes : next_alone plain_machine (record { state = s; clocks = clocks_in ((machine user_rows).asks_clock q) t; replies = replies_in ((machine user_rows).asks_common q) r }) ≡ Some (record { state = after; clocks = []; replies = [] })
   pub same : quiet after.inner ≡ quiet (step_at t r q).inner
   pub shut : after.inner.debugger ≡ None
   pub unread : after.unread ≡ []
@@ -334,11 +334,10 @@ not_both false true h e = cc
 not_both false false h e = refl
 
 -- a line of the debugger
-idle_leaves : (d : Option Stops) (i : Inner) (line : Option Line) (n k t : ℕ) (r : Reply) → is_debugged d ≡ true → line_stores line ≡ false →
-    Leaves i (act_by (asks_common_at (line_next d i.input) i line) (line_next d i.input) i line n k t r)
-idle_leaves None i line n k t r open_ h = cc
-idle_leaves (Some s) i None n k t r open_ h = refl
-idle_leaves (Some s) i (Some l) n k t r open_ h = debug_leaves s (debug_of l) i n h
+idle_leaves : (s : Stops) (i : Inner) (line : Option Line) (n k t : ℕ) (r : Reply) → line_stores line ≡ false →
+    Leaves i (act_by (asks_common_at (AtDebugger s) i line) (AtDebugger s) i line n k t r)
+idle_leaves s i None n k t r h = refl
+idle_leaves s i (Some l) n k t r h = debug_leaves s (debug_of l) i n h
 
 -- a break
 break_leaves : (f : Option Fill) (i : Inner) (line : Option Line) (n k t : ℕ) (r : Reply) → breaks_in f i ≡ true →
@@ -361,9 +360,13 @@ other_leaves q t r other open_ allowed = by_work (works_in q.inner.state) refl
     by_work true w =
         subst (λ (o : Outcome Inner). Leaves q.inner o) (sym (result_is q tick answer (works_is q.inner.state w)))
         (break_leaves q.inner.fill q.inner (line_at q) (count_at q) (fed_at q) tick answer (not_own (works_in q.inner.state) (breaks_in q.inner.fill q.inner) w other))
-    by_work false w =
-        subst (λ (x : Next). Leaves q.inner (act_by (asks_common_at x q.inner (line_of user_rows q)) x q.inner (line_of user_rows q) (count_at q) (fed_at q) tick answer)) (sym (next_idle q.inner.state q.inner w))
-        (idle_leaves q.inner.debugger q.inner (line_of user_rows q) (count_at q) (fed_at q) tick answer open_ (not_both (works_in q.inner.state) (line_stores (line_of user_rows q)) allowed w))
+    by_work false w = by_debugger q.inner.debugger refl open_
+      where
+        by_debugger : (d : Option Stops) → q.inner.debugger ≡ d → is_debugged d ≡ true → Leaves q.inner (result_of user_rows q tick answer)
+        by_debugger None is o = cc
+        by_debugger (Some s) is o =
+            subst (λ (x : Next). Leaves q.inner (act_by (asks_common_at x q.inner (line_of user_rows q)) x q.inner (line_of user_rows q) (count_at q) (fed_at q) tick answer)) (sym (at_debugger q.inner s w is))
+            (idle_leaves s q.inner (line_of user_rows q) (count_at q) (fed_at q) tick answer (not_both (works_in q.inner.state) (line_stores (line_of user_rows q)) allowed w))
 
 -- a move
 

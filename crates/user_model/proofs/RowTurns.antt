@@ -23,12 +23,12 @@ use Rattle.program_model.specs.declared.DebugLine.{DebugLine}
 use Rattle.program_model.specs.DebugLines.{debug_of}
 use Rattle.program_model.specs.Stops.{Stops}
 use Rattle.user_model.specs.Debugger.{debug_row, stores}
-use Rattle.user_model.specs.Session.{works_in, is_none}
+use Rattle.user_model.specs.Session.{works_in, is_none, next_of, AtCommand, AtInput}
 use Rattle.user_model.specs.User.{User, can_step, asks_common, in_store, core_after, store_after, IsStep}
 use Rattle.user_model.specs.Steps.{left}
 use Rattle.user_model.specs.Answers.{IsRow, noted, line_count, fed_with, by_row, marked, step_line, step_said, DidStep, DidBreak, DidFill, DidEntry, DidCommand, DidInput, DidDebug, EntryReplied, CommandReplied}
 use Rattle.user_model.proofs.PlainRows.{quiet, same_step}
-use Rattle.user_model.proofs.StepLaws.{run_left, run_ends, run_asks, run_makes, run_can, run_replied_left, run_replied_ends, run_replied_asks, run_takes_none, break_left, break_ends, break_asks, break_makes, break_can, debug_left, debug_ends, debug_asks, debug_makes, debug_sets, command_left, command_ends, command_clock, command_makes, command_can, command_replied_left, command_replied_ends, input_left, input_ends, input_asks, input_makes, fill_left, fill_ends, fill_asks, fill_makes, fill_can}
+use Rattle.user_model.proofs.StepLaws.{run_left, run_ends, run_asks, run_makes, run_can, run_replied_left, run_replied_ends, run_replied_asks, run_takes_none, break_left, break_ends, break_asks, break_makes, break_can, debug_left, debug_ends, debug_asks, debug_makes, debug_sets, command_left, command_ends, command_clock, command_makes, at_debugger, line_can, command_can, command_replied_left, command_replied_ends, input_left, input_ends, input_asks, input_makes, fill_left, fill_ends, fill_asks, fill_makes, fill_can}
 
 -- the two forms of what a row leaves
 append-nil : (xs : List Item) → xs ++ [] ≡ xs
@@ -82,7 +82,7 @@ alone : (made : Option CommonOp) → is_none made ≡ true → made ≡ None
 alone None h = refl
 alone (Some op) h = cc
 
--- and a row of the program's own step, behind which an open debugger knows of it
+-- and a row of the program's own step, after which an open debugger knows of it
 pub marked_row : (can b : Bool) (line : Option Line) (o : Outcome Inner) (asks : Bool) (e : Ending) (asked : Bool) (p q : User) (c d : Stored) → IsRow can b line o asks e asked p q c d → IsRow can b line (with_step o) asks e asked p (marked q) c d
 marked_row can b line o asks e asked p q c d is = (is.0, ap marked is.1, is.2, is.3, is.4, is.5, is.6)
 
@@ -162,31 +162,31 @@ some_at : (xs : List Line) (l : Line) → slice_get xs 0 ≡ Some l → some_lin
 some_at [] l h = cc
 some_at (x ∷ xs) l h = refl
 
-pub command_turn : (t : ℕ) (p q : User) (c d : Stored) (l : Line) (command : Command) (e : Ending) (asked : Bool) → works_in p.inner.state ≡ false → p.inner.debugger ≡ None → p.inner.input ≡ None → slice_get p.unread 0 ≡ Some l → command_of l ≡ command → p.on ≡ true
+pub command_turn : (t : ℕ) (p q : User) (c d : Stored) (l : Line) (command : Command) (e : Ending) (asked : Bool) → next_of (in_store c p).inner ≡ AtCommand → slice_get p.unread 0 ≡ Some l → command_of l ≡ command → p.on ≡ true
     → DidCommand l command e asked t p q c d
     → IsStep e asked None t Done p q c d
-command_turn t p q c d l command e asked h shut none first what on row =
+command_turn t p q c d l command e asked next first what on row =
     let made : command_asks command (in_store c p).inner ≡ None = alone (command_asks command (in_store c p).inner) row.0 in
     record {
-      can = command_can (in_store c p) h ∙ (λ j. on j && some_at p.unread l first j);
-      left = given_back (is_none (command_asks command (in_store c p).inner)) true (Some l) (command_row command (in_store c p).inner (record { line = l; fed = p.fed - 1 }) 1 t) true e asked p q c d on row ∙ sym (command_left t (in_store c p) l command h shut none first what made);
-      ends = row.4 ∙ sym (command_ends t (in_store c p) l command h shut none first what made);
-      asks = row.5 ∙ sym (command_clock (in_store c p) l h shut none first);
-      makes = sym (command_makes (in_store c p) l command h shut none first what ∙ made);
+      can = line_can AtCommand (in_store c p) next refl ∙ (λ j. on j && some_at p.unread l first j);
+      left = given_back (is_none (command_asks command (in_store c p).inner)) true (Some l) (command_row command (in_store c p).inner (record { line = l; fed = p.fed - 1 }) 1 t) true e asked p q c d on row ∙ sym (command_left t (in_store c p) l command next first what made);
+      ends = row.4 ∙ sym (command_ends t (in_store c p) l command next first what made);
+      asks = row.5 ∙ sym (command_clock (in_store c p) l next first);
+      makes = sym (command_makes (in_store c p) l command next first what ∙ made);
       words = λ _. row.6;
     }
 
 -- a line of INPUT
-pub input_turn : (t : ℕ) (p q : User) (c d : Stored) (l : Line) (name : NamePair) (e : Ending) (asked : Bool) → works_in p.inner.state ≡ false → p.inner.debugger ≡ None → p.inner.input ≡ Some name → slice_get p.unread 0 ≡ Some l → p.on ≡ true
+pub input_turn : (t : ℕ) (p q : User) (c d : Stored) (l : Line) (name : NamePair) (e : Ending) (asked : Bool) → next_of (in_store c p).inner ≡ AtInput name → slice_get p.unread 0 ≡ Some l → p.on ≡ true
     → DidInput l name e asked p q c d
     → IsStep e asked None t Done p q c d
-input_turn t p q c d l name e asked h shut some first on row =
+input_turn t p q c d l name e asked next first on row =
     record {
-      can = command_can (in_store c p) h ∙ (λ j. on j && some_at p.unread l first j);
-      left = given_back true false (Some l) (input_row name l (in_store c p).inner (suc p.own - p.own_at_command)) false e asked p q c d on row ∙ sym (input_left t (in_store c p) l name h shut some first);
-      ends = row.4 ∙ sym (input_ends t (in_store c p) l name h shut some first);
-      asks = row.5 ∙ sym (input_asks (in_store c p) l name h shut some first);
-      makes = sym (input_makes (in_store c p) l name h shut some first);
+      can = line_can (AtInput name) (in_store c p) next refl ∙ (λ j. on j && some_at p.unread l first j);
+      left = given_back true false (Some l) (input_row name l (in_store c p).inner (suc p.own - p.own_at_command)) false e asked p q c d on row ∙ sym (input_left t (in_store c p) l name next first);
+      ends = row.4 ∙ sym (input_ends t (in_store c p) l name next first);
+      asks = row.5 ∙ sym (input_asks (in_store c p) l name next first);
+      makes = sym (input_makes (in_store c p) l name next first);
       words = λ _. row.6;
     }
 
@@ -195,27 +195,28 @@ pub debug_turn : (t : ℕ) (p q : User) (c d : Stored) (l : Line) (s : Stops) (l
     → DidDebug l s line e asked p q c d
     → IsStep e asked None t Done p q c d
 debug_turn t p q c d l s line e asked h open_ first what on row =
+    let next = at_debugger (in_store c p).inner s h open_ in
     let o = debug_row s line (in_store c p).inner 1 in
     record {
       can = command_can (in_store c p) h ∙ (λ j. on j && some_at p.unread l first j);
-      left = row_left true (Some l) o e p q c d on row.0 row.1 row.2 ∙ sym (debug_left t (in_store c p) l s h open_ first ∙ (λ j. left true (Some l) (debug_row s (what j) (in_store c p).inner 1) (in_store c p)));
-      ends = row.3 ∙ sym (debug_ends t (in_store c p) l s h open_ first ∙ (λ j. (debug_row s (what j) (in_store c p).inner 1).ending));
-      asks = row.4 ∙ sym (debug_asks (in_store c p) l s h open_ first);
-      makes = sym (debug_makes (in_store c p) l s h open_ first);
+      left = row_left true (Some l) o e p q c d on row.0 row.1 row.2 ∙ sym (debug_left t (in_store c p) l s next first ∙ (λ j. left true (Some l) (debug_row s (what j) (in_store c p).inner 1) (in_store c p)));
+      ends = row.3 ∙ sym (debug_ends t (in_store c p) l s next first ∙ (λ j. (debug_row s (what j) (in_store c p).inner 1).ending));
+      asks = row.4 ∙ sym (debug_asks (in_store c p) l s next first);
+      makes = sym (debug_makes (in_store c p) l s next first);
       words = λ no. row.5 (ap stores (sym what) ∙ sym (debug_sets (in_store c p) l s h open_ first) ∙ no);
     }
 
 -- a command that made a common operation
-pub command_replied_turn : (t : ℕ) (r : Reply) (p q : User) (c d : Stored) (l : Line) (command : Command) (op : CommonOp) (e : Ending) (asked : Bool) → works_in p.inner.state ≡ false → p.inner.debugger ≡ None → p.inner.input ≡ None → slice_get p.unread 0 ≡ Some l → command_of l ≡ command → p.on ≡ true
+pub command_replied_turn : (t : ℕ) (r : Reply) (p q : User) (c d : Stored) (l : Line) (command : Command) (op : CommonOp) (e : Ending) (asked : Bool) → next_of (in_store c p).inner ≡ AtCommand → slice_get p.unread 0 ≡ Some l → command_of l ≡ command → p.on ≡ true
     → CommandReplied l command op r e asked t p q c d
     → IsStep e asked (Some op) t r p q c d
-command_replied_turn t r p q c d l command op e asked h shut none first what on row =
+command_replied_turn t r p q c d l command op e asked next first what on row =
     record {
-      can = command_can (in_store c p) h ∙ (λ j. on j && some_at p.unread l first j);
-      left = given_back true true (Some l) (command_replied command (in_store c p).inner 1 t r) true e asked p q c d on row.1 ∙ sym (command_replied_left t r (in_store c p) l command op h shut none first what row.0);
-      ends = row.1.4 ∙ sym (command_replied_ends t r (in_store c p) l command op h shut none first what row.0);
-      asks = row.1.5 ∙ sym (command_clock (in_store c p) l h shut none first);
-      makes = sym (command_makes (in_store c p) l command h shut none first what ∙ row.0);
+      can = line_can AtCommand (in_store c p) next refl ∙ (λ j. on j && some_at p.unread l first j);
+      left = given_back true true (Some l) (command_replied command (in_store c p).inner 1 t r) true e asked p q c d on row.1 ∙ sym (command_replied_left t r (in_store c p) l command op next first what row.0);
+      ends = row.1.4 ∙ sym (command_replied_ends t r (in_store c p) l command op next first what row.0);
+      asks = row.1.5 ∙ sym (command_clock (in_store c p) l next first);
+      makes = sym (command_makes (in_store c p) l command next first what ∙ row.0);
       words = λ _. row.1.6;
     }
 
@@ -235,10 +236,10 @@ entry_replied_turn t r p q c d w call op e asked h none at is what on said =
     }
 
 -- a command that is to make one, and an entry
-pub command_asked : (p : User) (c : Stored) (l : Line) (command : Command) (op : CommonOp) → works_in p.inner.state ≡ false → p.inner.debugger ≡ None → p.inner.input ≡ None → slice_get p.unread 0 ≡ Some l → command_of l ≡ command → p.on ≡ true
+pub command_asked : (p : User) (c : Stored) (l : Line) (command : Command) (op : CommonOp) → next_of (in_store c p).inner ≡ AtCommand → slice_get p.unread 0 ≡ Some l → command_of l ≡ command → p.on ≡ true
     → command_asks command (in_store c p).inner ≡ Some op → (can_step (in_store c p) ≡ true) × (asks_common (in_store c p) ≡ Some op)
-command_asked p c l command op h shut none first what on makes =
-    (command_can (in_store c p) h ∙ (λ j. on j && some_at p.unread l first j), command_makes (in_store c p) l command h shut none first what ∙ makes)
+command_asked p c l command op next first what on makes =
+    (line_can AtCommand (in_store c p) next refl ∙ (λ j. on j && some_at p.unread l first j), command_makes (in_store c p) l command next first what ∙ makes)
 
 pub entry_asked : (p : User) (c : Stored) (w : ℕ) (call : Result Call EntryFault) (op : CommonOp) → works_in p.inner.state ≡ true → p.inner.fill ≡ None → at_break p.inner ≡ false → step_of p.inner.regs c.core ≡ entry w → call_of p.inner.regs c.core w ≡ call → p.on ≡ true
     → entry_asks call c.core ≡ Some op → (can_step (in_store c p) ≡ true) × (asks_common (in_store c p) ≡ Some op)

@@ -1,5 +1,5 @@
 -- What a step is, by what comes next: a line of the debugger or of INPUT, a command, a fill, a break, an instruction.
-use Rattle.std.proofs.Common.{◌≡◌, ℕ, suc, ◌-◌, Bool, true, false, not, ◌&&◌, ◌||◌, List, [], ◌∷◌, Option, Some, None, Ok, Err, refl, ap, ◌∙◌, arith}
+use Rattle.std.proofs.Common.{◌≡◌, ℕ, suc, ◌-◌, Bool, true, false, not, ◌&&◌, ◌||◌, List, [], ◌∷◌, Option, Some, None, Ok, Err, refl, sym, ap, ◌∙◌, arith}
 use Rattle.std.specs.Prelude.{slice_get, if◌then◌else◌}
 use Rattle.std.specs.declared.result.Result.{Result}
 use Rattle.time_sharing.specs.Machine.{Line, Went, Stopped, Done, CommonOp, Reply}
@@ -118,14 +118,27 @@ or_true : (b : Bool) → (b && true) ≡ b
 or_true true = refl
 or_true false = refl
 
--- a session without a program that works can step where a line is unread
+-- a step that takes a line can be done where one is unread
+pub line_can : (x : Next) (p : User) → next_of p.inner ≡ x → takes_line_at x p.inner ≡ true → can_step p ≡ (p.on && some_line p.unread)
+line_can x p next takes = next_can x p next ∙ ap (λ (b : Bool). p.on && (not b || some_line p.unread)) takes
+
+-- and so any without a program that works
 pub command_can : (p : User) → works_in p.inner.state ≡ false → can_step p ≡ (p.on && some_line p.unread)
-command_can p h = next_can _ p (next_idle p.inner.state p.inner h) ∙ ap (λ (b : Bool). p.on && (not b || some_line p.unread)) (takes p.inner.debugger p.inner.input)
+command_can p h = line_can _ p (next_idle p.inner.state p.inner h) (takes p.inner.debugger p.inner.input)
   where
     takes : (d : Option Stops) (input : Option NamePair) → takes_line_at (line_next d input) p.inner ≡ true
     takes (Some d) input = refl
     takes None (Some name) = refl
     takes None None = refl
+
+-- none of these is an instruction
+pub idle_steps_none : (i : Inner) (s : Step) → works_in i.state ≡ false → next_of i ≡ AtInstruction s → ⊥
+idle_steps_none i s h e = never i.debugger i.input (sym (next_idle i.state i h) ∙ e)
+  where
+    never : (d : Option Stops) (input : Option NamePair) → line_next d input ≡ AtInstruction s → ⊥
+    never (Some d) input is = cc
+    never None (Some name) is = cc
+    never None None is = cc
 
 -- a command
 
@@ -133,12 +146,12 @@ command_can p h = next_can _ p (next_idle p.inner.state p.inner h) ∙ ap (λ (b
 abbrev pub taken_at : Line → User → CommandLine
 taken_at l p = record { line = l; fed = p.fed - 1 }
 
-pub command_makes : (p : User) (l : Line) (c : Command) → works_in p.inner.state ≡ false → p.inner.debugger ≡ None → p.inner.input ≡ None → slice_get p.unread 0 ≡ Some l → command_of l ≡ c → asks_common p ≡ command_asks c p.inner
-command_makes p l c h shut none is e =
-    next_makes AtCommand p (at_command p.inner h shut none) ∙ ap (λ (line : Option Line). line_asks p.inner line) (front_is p.unread l is) ∙ ap (λ (d : Command). command_asks d p.inner) e
+pub command_makes : (p : User) (l : Line) (c : Command) → next_of p.inner ≡ AtCommand → slice_get p.unread 0 ≡ Some l → command_of l ≡ c → asks_common p ≡ command_asks c p.inner
+command_makes p l c next is e =
+    next_makes AtCommand p next ∙ ap (λ (line : Option Line). line_asks p.inner line) (front_is p.unread l is) ∙ ap (λ (d : Command). command_asks d p.inner) e
 
-pub command_clock : (p : User) (l : Line) → works_in p.inner.state ≡ false → p.inner.debugger ≡ None → p.inner.input ≡ None → slice_get p.unread 0 ≡ Some l → asks_clock p ≡ true
-command_clock p l h shut none is = next_asks AtCommand p (at_command p.inner h shut none) ∙ ap some_text (front_is p.unread l is)
+pub command_clock : (p : User) (l : Line) → next_of p.inner ≡ AtCommand → slice_get p.unread 0 ≡ Some l → asks_clock p ≡ true
+command_clock p l next is = next_asks AtCommand p next ∙ ap some_text (front_is p.unread l is)
 
 asks_in : (p : User) (l : Line) (c : Command) (made : Option CommonOp) → slice_get p.unread 0 ≡ Some l → command_of l ≡ c → command_asks c p.inner ≡ made → asks_common_at AtCommand p.inner (line_at AtCommand p) ≡ made
 asks_in p l c made is e makes = ap (λ (line : Option Line). line_asks p.inner line) (front_is p.unread l is) ∙ ap (λ (d : Command). command_asks d p.inner) e ∙ makes
@@ -148,73 +161,73 @@ command_outcome : (made : Option CommonOp) (line : Option Line) (n t : ℕ) (r :
     act_by made AtCommand p.inner line n (one_less line p.fed) (clock_for (some_text line) t) r ≡ act_by made AtCommand p.inner (Some l) 1 (p.fed - 1) t r
 command_outcome made line n t r p l is one = λ j. act_by made AtCommand p.inner (is j) (one j) (one_less (is j) p.fed) (clock_for (some_text (is j)) t) r
 
-pub command_left : (t : ℕ) (p : User) (l : Line) (c : Command) → works_in p.inner.state ≡ false → p.inner.debugger ≡ None → p.inner.input ≡ None → slice_get p.unread 0 ≡ Some l → command_of l ≡ c → command_asks c p.inner ≡ None →
+pub command_left : (t : ℕ) (p : User) (l : Line) (c : Command) → next_of p.inner ≡ AtCommand → slice_get p.unread 0 ≡ Some l → command_of l ≡ c → command_asks c p.inner ≡ None →
     step t Done p ≡ left true (Some l) (command_row c p.inner (taken_at l p) 1 t) p
-command_left t p l c h shut none is e alone =
-    made_left AtCommand None t Done p (at_command p.inner h shut none) (asks_in p l c None is e alone)
+command_left t p l c next is e alone =
+    made_left AtCommand None t Done p next (asks_in p l c None is e alone)
     ∙ (λ j. left true (front_is p.unread l is j) (command_outcome None (line_at AtCommand p) (count_at AtCommand p) t Done p l (front_is p.unread l is) (first_step p.own) j) p)
     ∙ ap (λ (d : Command). left true (Some l) (command_row d p.inner (taken_at l p) 1 t) p) e
 
-pub command_ends : (t : ℕ) (p : User) (l : Line) (c : Command) → works_in p.inner.state ≡ false → p.inner.debugger ≡ None → p.inner.input ≡ None → slice_get p.unread 0 ≡ Some l → command_of l ≡ c → command_asks c p.inner ≡ None →
+pub command_ends : (t : ℕ) (p : User) (l : Line) (c : Command) → next_of p.inner ≡ AtCommand → slice_get p.unread 0 ≡ Some l → command_of l ≡ c → command_asks c p.inner ≡ None →
     ending t Done p ≡ (command_row c p.inner (taken_at l p) 1 t).ending
-command_ends t p l c h shut none is e alone =
-    made_ends AtCommand None t Done p (at_command p.inner h shut none) (asks_in p l c None is e alone)
+command_ends t p l c next is e alone =
+    made_ends AtCommand None t Done p next (asks_in p l c None is e alone)
     ∙ ap (λ (o : Outcome Inner). o.ending) (command_outcome None (line_at AtCommand p) (count_at AtCommand p) t Done p l (front_is p.unread l is) (first_step p.own))
     ∙ ap (λ (d : Command). (command_row d p.inner (taken_at l p) 1 t).ending) e
 
-pub command_replied_left : (t : ℕ) (r : Reply) (p : User) (l : Line) (c : Command) (op : CommonOp) → works_in p.inner.state ≡ false → p.inner.debugger ≡ None → p.inner.input ≡ None → slice_get p.unread 0 ≡ Some l → command_of l ≡ c → command_asks c p.inner ≡ Some op →
+pub command_replied_left : (t : ℕ) (r : Reply) (p : User) (l : Line) (c : Command) (op : CommonOp) → next_of p.inner ≡ AtCommand → slice_get p.unread 0 ≡ Some l → command_of l ≡ c → command_asks c p.inner ≡ Some op →
     step t r p ≡ left true (Some l) (command_replied c p.inner 1 t r) p
-command_replied_left t r p l c op h shut none is e makes =
-    made_left AtCommand (Some op) t r p (at_command p.inner h shut none) (asks_in p l c (Some op) is e makes)
+command_replied_left t r p l c op next is e makes =
+    made_left AtCommand (Some op) t r p next (asks_in p l c (Some op) is e makes)
     ∙ (λ j. left true (front_is p.unread l is j) (command_outcome (Some op) (line_at AtCommand p) (count_at AtCommand p) t r p l (front_is p.unread l is) (first_step p.own) j) p)
     ∙ ap (λ (d : Command). left true (Some l) (command_replied d p.inner 1 t r) p) e
 
-pub command_replied_ends : (t : ℕ) (r : Reply) (p : User) (l : Line) (c : Command) (op : CommonOp) → works_in p.inner.state ≡ false → p.inner.debugger ≡ None → p.inner.input ≡ None → slice_get p.unread 0 ≡ Some l → command_of l ≡ c → command_asks c p.inner ≡ Some op →
+pub command_replied_ends : (t : ℕ) (r : Reply) (p : User) (l : Line) (c : Command) (op : CommonOp) → next_of p.inner ≡ AtCommand → slice_get p.unread 0 ≡ Some l → command_of l ≡ c → command_asks c p.inner ≡ Some op →
     ending t r p ≡ (command_replied c p.inner 1 t r).ending
-command_replied_ends t r p l c op h shut none is e makes =
-    made_ends AtCommand (Some op) t r p (at_command p.inner h shut none) (asks_in p l c (Some op) is e makes)
+command_replied_ends t r p l c op next is e makes =
+    made_ends AtCommand (Some op) t r p next (asks_in p l c (Some op) is e makes)
     ∙ ap (λ (o : Outcome Inner). o.ending) (command_outcome (Some op) (line_at AtCommand p) (count_at AtCommand p) t r p l (front_is p.unread l is) (first_step p.own))
     ∙ ap (λ (d : Command). (command_replied d p.inner 1 t r).ending) e
 
 -- a line of INPUT
 
-pub input_makes : (p : User) (l : Line) (name : NamePair) → works_in p.inner.state ≡ false → p.inner.debugger ≡ None → p.inner.input ≡ Some name → slice_get p.unread 0 ≡ Some l → asks_common p ≡ None
-input_makes p l name h shut some is = next_makes (AtInput name) p (at_input p.inner name h shut some)
+pub input_makes : (p : User) (l : Line) (name : NamePair) → next_of p.inner ≡ AtInput name → slice_get p.unread 0 ≡ Some l → asks_common p ≡ None
+input_makes p l name next is = next_makes (AtInput name) p next
 
-pub input_left : (t : ℕ) (p : User) (l : Line) (name : NamePair) → works_in p.inner.state ≡ false → p.inner.debugger ≡ None → p.inner.input ≡ Some name → slice_get p.unread 0 ≡ Some l →
+pub input_left : (t : ℕ) (p : User) (l : Line) (name : NamePair) → next_of p.inner ≡ AtInput name → slice_get p.unread 0 ≡ Some l →
     step t Done p ≡ left false (Some l) (input_row name l p.inner (suc p.own - p.own_at_command)) p
-input_left t p l name h shut some is =
-    made_left (AtInput name) None t Done p (at_input p.inner name h shut some) refl
+input_left t p l name next is =
+    made_left (AtInput name) None t Done p next refl
     ∙ (λ j. left false (front_is p.unread l is j) (act_at (AtInput name) p.inner (front_is p.unread l is j) (suc p.own - p.own_at_command) 0 0) p)
 
-pub input_ends : (t : ℕ) (p : User) (l : Line) (name : NamePair) → works_in p.inner.state ≡ false → p.inner.debugger ≡ None → p.inner.input ≡ Some name → slice_get p.unread 0 ≡ Some l →
+pub input_ends : (t : ℕ) (p : User) (l : Line) (name : NamePair) → next_of p.inner ≡ AtInput name → slice_get p.unread 0 ≡ Some l →
     ending t Done p ≡ (input_row name l p.inner (suc p.own - p.own_at_command)).ending
-input_ends t p l name h shut some is =
-    made_ends (AtInput name) None t Done p (at_input p.inner name h shut some) refl
+input_ends t p l name next is =
+    made_ends (AtInput name) None t Done p next refl
     ∙ (λ j. (act_at (AtInput name) p.inner (front_is p.unread l is j) (suc p.own - p.own_at_command) 0 0).ending)
 
-pub input_asks : (p : User) (l : Line) (name : NamePair) → works_in p.inner.state ≡ false → p.inner.debugger ≡ None → p.inner.input ≡ Some name → slice_get p.unread 0 ≡ Some l → asks_clock p ≡ false
-input_asks p l name h shut some is = next_asks (AtInput name) p (at_input p.inner name h shut some)
+pub input_asks : (p : User) (l : Line) (name : NamePair) → next_of p.inner ≡ AtInput name → slice_get p.unread 0 ≡ Some l → asks_clock p ≡ false
+input_asks p l name next is = next_asks (AtInput name) p next
 
 -- a line of the debugger
 
-pub debug_makes : (p : User) (l : Line) (d : Stops) → works_in p.inner.state ≡ false → p.inner.debugger ≡ Some d → slice_get p.unread 0 ≡ Some l → asks_common p ≡ None
-debug_makes p l d h open_ is = next_makes (AtDebugger d) p (at_debugger p.inner d h open_)
+pub debug_makes : (p : User) (l : Line) (d : Stops) → next_of p.inner ≡ AtDebugger d → slice_get p.unread 0 ≡ Some l → asks_common p ≡ None
+debug_makes p l d next is = next_makes (AtDebugger d) p next
 
-pub debug_left : (t : ℕ) (p : User) (l : Line) (d : Stops) → works_in p.inner.state ≡ false → p.inner.debugger ≡ Some d → slice_get p.unread 0 ≡ Some l →
+pub debug_left : (t : ℕ) (p : User) (l : Line) (d : Stops) → next_of p.inner ≡ AtDebugger d → slice_get p.unread 0 ≡ Some l →
     step t Done p ≡ left true (Some l) (debug_row d (debug_of l) p.inner 1) p
-debug_left t p l d h open_ is =
-    made_left (AtDebugger d) None t Done p (at_debugger p.inner d h open_) refl
+debug_left t p l d next is =
+    made_left (AtDebugger d) None t Done p next refl
     ∙ (λ j. left true (front_is p.unread l is j) (act_at (AtDebugger d) p.inner (front_is p.unread l is j) (first_step p.own j) 0 0) p)
 
-pub debug_ends : (t : ℕ) (p : User) (l : Line) (d : Stops) → works_in p.inner.state ≡ false → p.inner.debugger ≡ Some d → slice_get p.unread 0 ≡ Some l →
+pub debug_ends : (t : ℕ) (p : User) (l : Line) (d : Stops) → next_of p.inner ≡ AtDebugger d → slice_get p.unread 0 ≡ Some l →
     ending t Done p ≡ (debug_row d (debug_of l) p.inner 1).ending
-debug_ends t p l d h open_ is =
-    made_ends (AtDebugger d) None t Done p (at_debugger p.inner d h open_) refl
+debug_ends t p l d next is =
+    made_ends (AtDebugger d) None t Done p next refl
     ∙ (λ j. (act_at (AtDebugger d) p.inner (front_is p.unread l is j) (first_step p.own j) 0 0).ending)
 
-pub debug_asks : (p : User) (l : Line) (d : Stops) → works_in p.inner.state ≡ false → p.inner.debugger ≡ Some d → slice_get p.unread 0 ≡ Some l → asks_clock p ≡ false
-debug_asks p l d h open_ is = next_asks (AtDebugger d) p (at_debugger p.inner d h open_)
+pub debug_asks : (p : User) (l : Line) (d : Stops) → next_of p.inner ≡ AtDebugger d → slice_get p.unread 0 ≡ Some l → asks_clock p ≡ false
+debug_asks p l d next is = next_asks (AtDebugger d) p next
 
 -- the next step is SET where the line is
 pub debug_sets : (p : User) (l : Line) (d : Stops) → works_in p.inner.state ≡ false → p.inner.debugger ≡ Some d → slice_get p.unread 0 ≡ Some l → sets_word p ≡ stores (debug_of l)

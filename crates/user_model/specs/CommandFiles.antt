@@ -1,5 +1,5 @@
 -- claim: the lines of a command file are read as if they had been typed before those unread.
-use Rattle.std.specs.Prelude.{◌≡◌, ℕ, suc, ◌+◌, ◌-◌, true, false, List, [], ◌∷◌, ◌++◌, length, drop, None, Ok}
+use Rattle.std.specs.Prelude.{◌≡◌, ℕ, suc, ◌+◌, ◌-◌, true, List, [], ◌∷◌, ◌++◌, length, drop, Ok}
 use Rattle.ctss_types.specs.Words.{words_of}
 use Rattle.time_sharing.specs.Machine.{Line, Item, In, Out, Reply}
 use Rattle.time_sharing.specs.Rows.{machine}
@@ -9,16 +9,14 @@ use Rattle.program_model.specs.CommandLines.{command_lines}
 use Rattle.user_model.specs.declared.Command.TheVariants.{RunFile}
 use Rattle.user_model.specs.Commands.{command_file}
 use Rattle.user_model.specs.Requests.{command_of}
-use Rattle.user_model.specs.Session.{user_rows, works_in}
+use Rattle.user_model.specs.Session.{user_rows, AtCommand, next_of}
 use Rattle.user_model.specs.Texts.{time_text, ready_text}
 use Rattle.user_model.specs.User.{User}
 
 -- The next step of p takes this line, as the command to run a file, and the file with its arguments comes to these lines.
 pub record RunsFile (p : User) (line : Line) (rest : List Line) (lines : List Line) : Type 0 where
   pub on : p.on ≡ true
-  pub works : works_in p.inner.state ≡ false
-  pub alone : p.inner.debugger ≡ None
-  pub no_input : p.inner.input ≡ None
+  pub next : next_of p.inner ≡ AtCommand
   pub unread : p.unread ≡ line ∷ rest
   pub name : ℕ
   pub asks : command_of line ≡ RunFile name
@@ -34,7 +32,7 @@ with_lines lines rest p = record p { unread = lines ++ rest; fed = length lines 
 abbrev pub run_items : Line → ℕ → List Item
 run_items line t = In line ∷ Out (time_text t) ∷ Out (ready_text 1) ∷ []
 
--- a with one own step more, and with these items before what both said behind that
+-- a with one own step more, and with these items before what both said after that
 pub record IsBehind (a b : User) (before first : List Item) : Type 0 where
   pub said : List Item
   pub mine : a.transcript ≡ before ++ (first ++ said)

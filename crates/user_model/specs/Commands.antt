@@ -10,7 +10,7 @@ use Rattle.ctss_types.specs.declared.file.Reply.TheVariants.{Done, Size, Words, 
 use Rattle.ctss_types.specs.declared.file.Refusal.TheVariants.{NameUsed}
 use Rattle.time_sharing.specs.Machine.{Line, Stopped, Resized, Replaced, LoggedOut, CommonOp, Reply}
 use Rattle.time_sharing.specs.Rows.{Outcome}
-use Rattle.file_model.specs.Files.{file_named, got, put, appended, renamed, deleted, moded, lasting}
+use Rattle.file_model.specs.Files.{file_named, got, put, appended, lasting}
 use Rattle.file_model.specs.Texts.{listing_lines, refusal_text}
 use Rattle.fap_model.specs.Cards.{cards_of}
 use Rattle.fap_model.specs.Decks.{Assembled, deck, faulty, assembled}
@@ -22,6 +22,7 @@ use Rattle.link_model.specs.ModuleCards as modules
 use Rattle.link_model.specs.ModuleCards.{ModuleMade, module_made, is_relocatable}
 use Rattle.program_model.specs.declared.ProgramState.{ProgramState}
 use Rattle.program_model.specs.declared.ProgramState.TheVariants.{Dead, Dormant, Working}
+use Rattle.program_model.specs.declared.Fill.{Fill}
 use Rattle.program_model.specs.declared.Fill.TheVariants as fill
 use Rattle.program_model.specs.declared.Deck.{Deck}
 use Rattle.program_model.specs.declared.LoadFault.{LoadFault}
@@ -37,6 +38,7 @@ use Rattle.program_model.specs.declared.ComRefusal.TheVariants as refusal_of
 use Rattle.program_model.specs.CommandLines.{command_lines}
 use Rattle.user_model.specs.Requests.{word_name}
 use Rattle.user_model.specs.Inner.{Inner, with_program, without_program}
+use Rattle.user_model.specs.OwnFiles.{FileChange, PutsFile, RenamesFile, DeletesFile, SetsMode, changed_files}
 use Rattle.user_model.specs.Programs.{gives}
 use Rattle.user_model.specs.Texts.{time_text, ready_text, logged_out_text, fault_text, doubly_text, undefined_text}
 
@@ -55,16 +57,6 @@ load_text NoFile = codes "FILE NOT FOUND"
 load_text BadDeck = codes "BAD DECK"
 load_text TooLarge = codes "TOO LARGE"
 
--- a program of plus zeros with all registers zero takes the place of the one before; its deck is stored in the next step
-abbrev pub prepared : ℕ → Result Deck LoadFault → Inner → ℕ → ℕ → Outcome Inner
-prepared name (Ok d) i n t = gives (with_program d.blocks (fill.Deck (deck_name name) d.start) i) (time_text t ∷ []) Replaced
-prepared name (Err fault) i n t = says (load_text fault ∷ []) i n t
-
--- a file's words as lines, or why there is none
-abbrev pub printed : Result (List ℕ) Refusal → List Line
-printed (Ok words) = lines_of_words words
-printed (Err r) = refusal_text r ∷ []
-
 -- a change of the directory, or why it is refused
 abbrev pub changed : Result (List FileBody) Refusal → Inner → ℕ → ℕ → Outcome Inner
 changed (Ok files) i n t = says [] (record i { files = files }) n t
@@ -80,14 +72,54 @@ abbrev pub input_begun : NamePair → Option FileBody → Inner → ℕ → ℕ 
 input_begun name (Some f) i n t = says (refusal_text NameUsed ∷ []) i n t
 input_begun name None i n t = input_made name (put name [] i.account.tracks i.files) i n t
 
--- a saved program takes the place of the one before; its words and registers are stored in the next step
-abbrev pub resumed : ℕ → Result ℕ LoadFault → Inner → ℕ → ℕ → Outcome Inner
-resumed name (Ok blocks) i n t = gives (with_program blocks (fill.Saved (saved_name name)) i) (time_text t ∷ []) Replaced
-resumed name (Err fault) i n t = says (load_text fault ∷ []) i n t
+-- What a command comes to. Whatever a command is called, it does one of these, and what is true of these is true of it.
+pub data Effect : Type 0 where
+  -- lines are printed
+  Prints : (lines : List Line) → Effect
+  -- the directory is changed
+  ChangesFiles : (change : FileChange) → Effect
+  -- an empty file is made, and the lines that come go to it
+  TypesInto : (name : NamePair) → Effect
+  -- a program of so many blocks of plus zeros with all registers zero takes the place of the one before; it is filled in the next step
+  BeginsProgram : (blocks : ℕ) (fill : Fill) → Effect
+  -- the program that stopped goes on
+  ContinuesProgram : Effect
+  -- the debugger is opened, without a breakpoint
+  OpensDebugger : Effect
+  -- lines stand before the unread ones
+  AddsLines : (lines : List Line) → Effect
+  LogsOut : Effect
 
--- the program that stopped goes on
-abbrev pub started : Inner → ℕ → Outcome Inner
-started i t = gives (record i { state = Working }) (time_text t ∷ []) Resized
+-- the row of a command that comes to this
+abbrev pub effect_row : Effect → Inner → ℕ → ℕ → Outcome Inner
+effect_row (Prints lines) i n t = says lines i n t
+effect_row (ChangesFiles change) i n t = changed (changed_files change i.account.tracks i.files) i n t
+effect_row (TypesInto name) i n t = input_begun name (file_named name i.files) i n t
+effect_row (BeginsProgram blocks fill) i n t = gives (with_program blocks fill i) (time_text t ∷ []) Replaced
+effect_row ContinuesProgram i n t = gives (record i { state = Working }) (time_text t ∷ []) Resized
+effect_row OpensDebugger i n t = gives (record i { debugger = Some no_stops }) (time_text t ∷ []) Stopped
+effect_row (AddsLines lines) i n t = record (says [] i n t) { front = lines }
+effect_row LogsOut i n t =
+    gives (without_program (record i { files = lasting i.files })) (time_text t ∷ logged_out_text i.account.name ∷ []) LoggedOut
+
+-- words are put as a file
+abbrev pub puts : NamePair → List ℕ → Effect
+puts name words = ChangesFiles (PutsFile name words)
+
+-- the program of a deck, or why there is none
+abbrev pub prepared : ℕ → Result Deck LoadFault → Effect
+prepared name (Ok d) = BeginsProgram d.blocks (fill.Deck (deck_name name) d.start)
+prepared name (Err fault) = Prints (load_text fault ∷ [])
+
+-- a saved program, or why there is none
+abbrev pub resumed : ℕ → Result ℕ LoadFault → Effect
+resumed name (Ok blocks) = BeginsProgram blocks (fill.Saved (saved_name name))
+resumed name (Err fault) = Prints (load_text fault ∷ [])
+
+-- a file's words as lines, or why there is none
+abbrev pub printed : Result (List ℕ) Refusal → List Line
+printed (Ok words) = lines_of_words words
+printed (Err r) = refusal_text r ∷ []
 
 -- whether a program stopped, and is there
 abbrev pub is_dormant : ProgramState → Bool
@@ -96,29 +128,28 @@ is_dormant Dormant = true
 is_dormant Working = false
 
 -- what asks for a program that stopped
-abbrev pub if_dormant : Outcome Inner → Inner → ℕ → ℕ → Outcome Inner
-if_dormant o i n t = if is_dormant i.state then o else says (codes "NO PROGRAM" ∷ []) i n t
+abbrev pub if_dormant : Effect → ProgramState → Effect
+if_dormant effect state = if is_dormant state then effect else Prints (codes "NO PROGRAM" ∷ [])
 
 -- the file that a deck is assembled from
 abbrev pub cards_name : ℕ → NamePair
 cards_name name = record { first = name; second = name_of (codes "FAP") }
 
 -- a deck is put; where cards are at fault a line is printed for each, and nothing is put
-abbrev pub assembly_put : ℕ → Assembled → Inner → ℕ → ℕ → Outcome Inner
-assembly_put name (deck words) i n t = changed (put (deck_name name) words i.account.tracks i.files) i n t
-assembly_put name (faulty faults) i n t = says (map fault_text faults) i n t
+abbrev pub assembly_put : ℕ → Assembled → Effect
+assembly_put name (deck words) = puts (deck_name name) words
+assembly_put name (faulty faults) = Prints (map fault_text faults)
 
 -- a module is put, likewise
-abbrev pub module_put : ℕ → ModuleMade → Inner → ℕ → ℕ → Outcome Inner
-module_put name (modules.relocatable m) i n t = changed (put (module_name name) (module_words m) i.account.tracks i.files) i n t
-module_put name (modules.faulty faults) i n t = says (map fault_text faults) i n t
+abbrev pub module_put : ℕ → ModuleMade → Effect
+module_put name (modules.relocatable m) = puts (module_name name) (module_words m)
+module_put name (modules.faulty faults) = Prints (map fault_text faults)
 
 -- the cards of a file are assembled: those of a module make a module, and others a deck
-abbrev pub cards_assembled : ℕ → Result (List ℕ) Refusal → Inner → ℕ → ℕ → Outcome Inner
-cards_assembled name (Ok words) i n t =
-    if is_relocatable (cards_of words) then module_put name (module_made (cards_of words)) i n t
-    else assembly_put name (assembled (cards_of words)) i n t
-cards_assembled name (Err r) i n t = says (refusal_text r ∷ []) i n t
+abbrev pub cards_assembled : ℕ → Result (List ℕ) Refusal → Effect
+cards_assembled name (Ok words) =
+    if is_relocatable (cards_of words) then module_put name (module_made (cards_of words)) else assembly_put name (assembled (cards_of words))
+cards_assembled name (Err r) = Prints (refusal_text r ∷ [])
 
 -- why modules aren't linked
 abbrev pub link_text : LinkRefusal → Line
@@ -138,13 +169,9 @@ abbrev pub modules_in : Line → List ℕ
 modules_in l = names_in (drop 2 (words_of l))
 
 -- the deck of linked modules is put
-abbrev pub linked_put : ℕ → Result (List ℕ) LinkRefusal → Inner → ℕ → ℕ → Outcome Inner
-linked_put name (Ok words) i n t = changed (put (deck_name name) words i.account.tracks i.files) i n t
-linked_put name (Err refusal) i n t = says (link_text refusal ∷ []) i n t
-
--- the debugger is opened on a program that stopped, without a breakpoint
-abbrev pub debugged : Inner → ℕ → Outcome Inner
-debugged i t = gives (record i { debugger = Some no_stops }) (time_text t ∷ []) Stopped
+abbrev pub linked_put : ℕ → Result (List ℕ) LinkRefusal → Effect
+linked_put name (Ok words) = puts (deck_name name) words
+linked_put name (Err refusal) = Prints (link_text refusal ∷ [])
 
 -- the file that commands are read from
 abbrev pub command_file : ℕ → NamePair
@@ -155,47 +182,49 @@ abbrev pub com_text : ComRefusal → Line
 com_text refusal_of.BadArguments = codes "BAD ARGUMENTS"
 com_text refusal_of.TooLong = codes "TOO LONG"
 
--- lines stand before the unread ones
-abbrev pub lines_added : Result (List Line) ComRefusal → Inner → ℕ → ℕ → Outcome Inner
-lines_added (Ok lines) i n t = record (says [] i n t) { front = lines }
-lines_added (Err refusal) i n t = says (com_text refusal ∷ []) i n t
+-- lines are added, or why not
+abbrev pub lines_added : Result (List Line) ComRefusal → Effect
+lines_added (Ok lines) = AddsLines lines
+lines_added (Err refusal) = Prints (com_text refusal ∷ [])
 
 -- The lines of a command file stand before the unread ones, with the words behind its name as arguments. At most 256 such lines are unread.
-abbrev pub file_run : Result (List ℕ) Refusal → Inner → CommandLine → ℕ → ℕ → Outcome Inner
-file_run (Ok words) i x n t = lines_added (command_lines words (drop 2 (words_of x.line)) (256 - x.fed)) i n t
-file_run (Err r) i x n t = says (refusal_text r ∷ []) i n t
+abbrev pub file_run : Result (List ℕ) Refusal → CommandLine → Effect
+file_run (Ok words) x = lines_added (command_lines words (drop 2 (words_of x.line)) (256 - x.fed))
+file_run (Err r) x = Prints (refusal_text r ∷ [])
 
 -- why a file isn't read
 abbrev pub why_not : Result (List ℕ) Refusal → List Line
 why_not (Ok words) = []
 why_not (Err r) = refusal_text r ∷ []
 
--- the row of a command that makes no common operation, with n own steps since it and the clock at t
+-- what a command that makes no common operation comes to
+abbrev pub command_effect : Command → Inner → CommandLine → Effect
+command_effect Empty i x = Prints []
+command_effect Logout i x = LogsOut
+command_effect (LoadGo name) i x = prepared name (deck_of i.account.blocks (got (deck_name name) i.files))
+command_effect Lists i x = Prints (listing_lines i.account.tracks i.files)
+command_effect (Print name) i x = Prints (printed (got name i.files))
+command_effect (Rename name to) i x = ChangesFiles (RenamesFile name to)
+command_effect (Delete name) i x = ChangesFiles (DeletesFile name)
+command_effect (ChangeMode name mode) i x = ChangesFiles (SetsMode name mode)
+command_effect (Input name) i x = TypesInto name
+command_effect (CopyTo name) i x = Prints (why_not (got name i.files))
+command_effect (CopyFrom name) i x = Prints []
+command_effect (Assemble name) i x = cards_assembled name (got (cards_name name) i.files)
+command_effect (Link name) i x = linked_put name (files_linked (modules_in x.line) i.files)
+command_effect Start i x = if_dormant ContinuesProgram i.state
+command_effect (Save name) i x = if_dormant (puts (saved_name name) (saved i.blocks i.regs i.core)) i.state
+command_effect (Resume name) i x = resumed name (saved_of i.account.blocks (got (saved_name name) i.files))
+command_effect Registers i x = if_dormant (Prints (register_lines i.regs)) i.state
+command_effect (WordAt place) i x = if_dormant (Prints (word_line i.core place ∷ [])) i.state
+command_effect Debug i x = if_dormant OpensDebugger i.state
+command_effect (RunFile name) i x = file_run (got (command_file name) i.files) x
+command_effect BadArguments i x = Prints (codes "BAD ARGUMENTS" ∷ [])
+command_effect Unknown i x = Prints (codes "NOT A COMMAND" ∷ [])
+
+-- its row, with n own steps since it and the clock at t
 abbrev pub command_row : Command → Inner → CommandLine → ℕ → ℕ → Outcome Inner
-command_row Empty i x n t = says [] i n t
-command_row Logout i x n t =
-    gives (without_program (record i { files = lasting i.files })) (time_text t ∷ logged_out_text i.account.name ∷ []) LoggedOut
-command_row (LoadGo name) i x n t = prepared name (deck_of i.account.blocks (got (deck_name name) i.files)) i n t
-command_row Lists i x n t = says (listing_lines i.account.tracks i.files) i n t
-command_row (Print name) i x n t = says (printed (got name i.files)) i n t
-command_row (Rename name to) i x n t = changed (renamed name to i.files) i n t
-command_row (Delete name) i x n t = changed (deleted name i.files) i n t
-command_row (ChangeMode name mode) i x n t = changed (moded name mode i.files) i n t
-command_row (Input name) i x n t = input_begun name (file_named name i.files) i n t
-command_row (CopyTo name) i x n t = says (why_not (got name i.files)) i n t
-command_row (CopyFrom name) i x n t = says [] i n t
-command_row (Assemble name) i x n t = cards_assembled name (got (cards_name name) i.files) i n t
-command_row (Link name) i x n t = linked_put name (files_linked (modules_in x.line) i.files) i n t
-command_row Start i x n t = if_dormant (started i t) i n t
-command_row (Save name) i x n t =
-    if_dormant (changed (put (saved_name name) (saved i.blocks i.regs i.core) i.account.tracks i.files) i n t) i n t
-command_row (Resume name) i x n t = resumed name (saved_of i.account.blocks (got (saved_name name) i.files)) i n t
-command_row Registers i x n t = if_dormant (says (register_lines i.regs) i n t) i n t
-command_row (WordAt place) i x n t = if_dormant (says (word_line i.core place ∷ []) i n t) i n t
-command_row Debug i x n t = if_dormant (debugged i t) i n t
-command_row (RunFile name) i x n t = file_run (got (command_file name) i.files) i x n t
-command_row BadArguments i x n t = says (codes "BAD ARGUMENTS" ∷ []) i n t
-command_row Unknown i x n t = says (codes "NOT A COMMAND" ∷ []) i n t
+command_row c i x n t = effect_row (command_effect c i x) i n t
 
 -- a copy goes to the common files where the user's own file is read
 abbrev pub copy_of : NamePair → Result (List ℕ) Refusal → Option CommonOp
@@ -213,16 +242,20 @@ abbrev pub copy_target : Command → Option NamePair
 copy_target (CopyFrom name) = Some name
 copy_target _ = None
 
-abbrev pub words_copied : Option NamePair → List ℕ → Inner → ℕ → ℕ → Outcome Inner
-words_copied (Some name) words i n t = changed (put name words i.account.tracks i.files) i n t
-words_copied None words i n t = says [] i n t
+abbrev pub words_copied : Option NamePair → List ℕ → Effect
+words_copied (Some name) words = puts name words
+words_copied None words = Prints []
 
--- the row of a command that made a common operation
+-- what a command that made a common operation comes to, by the reply
+abbrev pub reply_effect : Command → Reply → Effect
+reply_effect c Done = Prints []
+reply_effect c (Size k) = Prints []
+reply_effect c (Words words) = words_copied (copy_target c) words
+reply_effect c (Refused r) = Prints (refusal_text r ∷ [])
+
+-- its row
 abbrev pub command_replied : Command → Inner → ℕ → ℕ → Reply → Outcome Inner
-command_replied c i n t Done = says [] i n t
-command_replied c i n t (Size k) = says [] i n t
-command_replied c i n t (Words words) = words_copied (copy_target c) words i n t
-command_replied c i n t (Refused r) = says (refusal_text r ∷ []) i n t
+command_replied c i n t r = effect_row (reply_effect c r) i n t
 
 -- INPUT is over, with this text and R n
 abbrev pub input_ends : List Line → Inner → ℕ → Outcome Inner

@@ -1,4 +1,5 @@
 pub mod Inner
+pub mod OwnFiles
 pub mod Texts
 pub mod Programs
 pub mod Requests

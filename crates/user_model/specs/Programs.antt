@@ -8,7 +8,7 @@ use Rattle.ctss_types.specs.declared.file.CommonOp.TheVariants as op
 use Rattle.ctss_types.specs.declared.file.Refusal.{Refusal}
 use Rattle.ctss_types.specs.declared.file.Reply.TheVariants.{Done, Size, Words, Refused}
 use Rattle.file_model.specs.declared.Stat.{Stat}
-use Rattle.file_model.specs.Files.{stat, read, got, written, renamed, deleted, moded}
+use Rattle.file_model.specs.Files.{stat, read, got}
 use Rattle.file_model.specs.Texts.{refusal_number}
 use Rattle.machine_model.specs.Step.{Step, went, halt, entry, illegal, outside}
 use Rattle.program_model.specs.declared.Call.{Call}
@@ -25,6 +25,7 @@ use Rattle.program_model.specs.Lines.{line_of_words, words_of_line, words_at, wi
 use Rattle.program_model.specs.Decks.{words_got}
 use Rattle.program_model.specs.Stops.{Stops, meets}
 use Rattle.user_model.specs.Inner.{Inner, recut, without_program}
+use Rattle.user_model.specs.OwnFiles.{FileChange, WritesFile, RenamesFile, DeletesFile, SetsMode, changed_files}
 use Rattle.user_model.specs.Texts.{ready_text, stop_text}
 
 -- what a row leaves, writes and ends as; no line goes before the unread ones
@@ -43,40 +44,63 @@ stops lines i n = gives (record i { state = program.Dormant }) (lines ++ ready_t
 abbrev pub replied : Inner → ℕ → ℕ → Option ℕ → Inner
 replied i arguments reply value = record i { regs = answered i.regs arguments reply value }
 
--- a line is read into a buffer, and its length told
-abbrev pub read_line : Inner → ℕ → ℕ → Option Line → Outcome Inner
-read_line i at count None = goes i
-read_line i at count (Some l) = goes (record (replied i 1 0 (Some (length l))) { core = with_words i.core at (words_of_line count l) })
-
--- a buffer is written as a line
-abbrev pub write_line : Inner → ℕ → ℕ → Outcome Inner
-write_line i at count = gives (replied i 1 0 None) (line_of_words (words_at i.core at count) ∷ []) Went
-
--- another size, from 1 block to the quota
-abbrev pub set_memory : Inner → ℕ → Outcome Inner
-set_memory i blocks =
-    if nat_eq blocks 0 || nat_lt i.account.blocks blocks then goes (replied i 1 3 None)
-    else (if nat_eq blocks i.blocks then goes (replied i 1 0 None)
-    else gives (record (replied i 1 0 None) { blocks = blocks; core = recut blocks i.core }) [] Resized)
+-- What an entry comes to, by a call with so many arguments. Whatever an entry is called, it does one of these.
+pub data CallEffect : Type 0 where
+  -- a number is told, and maybe a value
+  Replies : (arguments reply : ℕ) (value : Option ℕ) → CallEffect
+  -- so is 0, and words are stored from an address on
+  RepliesWords : (arguments at : ℕ) (words : List ℕ) (value : Option ℕ) → CallEffect
+  -- the directory is changed, or it is told why not
+  RepliesChange : (arguments : ℕ) (change : FileChange) → CallEffect
+  -- a line is printed
+  WritesLine : (line : Line) → CallEffect
+  -- there is no line to read
+  WaitsForLine : CallEffect
+  -- the program gets another size
+  TakesSize : (blocks : ℕ) → CallEffect
+  -- the program is over and goes, or is over and stays
+  EndsProgram : CallEffect
+  StopsProgram : CallEffect
 
 -- an answer that is a refusal
-abbrev pub refused : Inner → ℕ → Refusal → Outcome Inner
-refused i arguments r = goes (replied i arguments (refusal_number r) None)
+abbrev pub refused : (arguments : ℕ) → Refusal → CallEffect
+refused arguments r = Replies arguments (refusal_number r) None
 
--- 4 times a file's words, and its mode
-abbrev pub file_told : Inner → Result Stat Refusal → Outcome Inner
-file_told i (Ok s) = goes (replied i 1 0 (Some (4 * s.words + s.mode)))
-file_told i (Err r) = refused i 1 r
-
--- words of a file are read into a buffer
-abbrev pub file_read : Inner → ℕ → Result (List ℕ) Refusal → Outcome Inner
-file_read i at (Ok words) = goes (record (replied i 3 0 None) { core = with_words i.core at words })
-file_read i at (Err r) = refused i 3 r
-
--- a change of the directory, by a call with so many arguments
+-- the program goes on with files as they are after a change, or with the refusal
 abbrev pub files_changed : Inner → ℕ → Result (List FileBody) Refusal → Outcome Inner
 files_changed i arguments (Ok files) = goes (record (replied i arguments 0 None) { files = files })
-files_changed i arguments (Err r) = refused i arguments r
+files_changed i arguments (Err r) = goes (replied i arguments (refusal_number r) None)
+
+-- the row of an entry that comes to this, with n own steps since the command
+abbrev pub call_effect_row : CallEffect → Inner → ℕ → Outcome Inner
+call_effect_row (Replies arguments reply value) i n = goes (replied i arguments reply value)
+call_effect_row (RepliesWords arguments at words value) i n = goes (record (replied i arguments 0 value) { core = with_words i.core at words })
+call_effect_row (RepliesChange arguments change) i n = files_changed i arguments (changed_files change i.account.tracks i.files)
+call_effect_row (WritesLine line) i n = gives (replied i 1 0 None) (line ∷ []) Went
+call_effect_row WaitsForLine i n = goes i
+call_effect_row (TakesSize blocks) i n = gives (record (replied i 1 0 None) { blocks = blocks; core = recut blocks i.core }) [] Resized
+call_effect_row EndsProgram i n = gives (without_program i) (ready_text n ∷ []) Stopped
+call_effect_row StopsProgram i n = stops [] (replied i 0 0 None) n
+
+-- a line is read into a buffer, and its length told
+abbrev pub line_read : ℕ → ℕ → Option Line → CallEffect
+line_read at count None = WaitsForLine
+line_read at count (Some l) = RepliesWords 1 at (words_of_line count l) (Some (length l))
+
+-- another size, from 1 block to the quota
+abbrev pub size_set : (blocks quota now : ℕ) → CallEffect
+size_set blocks quota now =
+    if nat_eq blocks 0 || nat_lt quota blocks then Replies 1 3 None else (if nat_eq blocks now then Replies 1 0 None else TakesSize blocks)
+
+-- 4 times a file's words, and its mode
+abbrev pub file_told : Result Stat Refusal → CallEffect
+file_told (Ok s) = Replies 1 0 (Some (4 * s.words + s.mode))
+file_told (Err r) = refused 1 r
+
+-- words of a file are read into a buffer
+abbrev pub file_read : ℕ → Result (List ℕ) Refusal → CallEffect
+file_read at (Ok words) = RepliesWords 3 at words None
+file_read at (Err r) = refused 3 r
 
 -- a call on a common file makes no operation where it has more than 432 words
 abbrev pub is_common_count : ℕ → Bool
@@ -100,34 +124,42 @@ abbrev pub common_buffer : CommonCall → ℕ
 common_buffer (common.Read name at count place) = at
 common_buffer _ = 0
 
--- the row of an entry that makes no common operation, with the line that it takes, n own steps since the command, and the clock at t
+-- what an entry that makes no common operation comes to, with the line that it takes and the clock at t
+abbrev pub call_effect : Call → Inner → Option Line → ℕ → CallEffect
+call_effect (ReadLine at count) i l t = if is_line_count count then line_read at count l else Replies 1 7 None
+call_effect (WriteLine at count) i l t = if is_line_count count then WritesLine (line_of_words (words_at i.core at count)) else Replies 1 7 None
+call_effect GetTime i l t = Replies 0 0 (Some t)
+call_effect GetMemory i l t = Replies 0 0 (Some (256 * i.blocks))
+call_effect (SetMemory blocks) i l t = size_set blocks i.account.blocks i.blocks
+call_effect (FileStat name) i l t = file_told (stat name i.files)
+call_effect (ReadFile name at count place) i l t = file_read at (read name place count i.files)
+call_effect (WriteFile name at count place) i l t = RepliesChange 3 (WritesFile name place (words_at i.core at count))
+call_effect (DeleteFile name) i l t = RepliesChange 1 (DeletesFile name)
+call_effect (RenameFile name to) i l t = RepliesChange 2 (RenamesFile name to)
+call_effect (ChangeMode name mode) i l t = RepliesChange 2 (SetsMode name mode)
+call_effect (Common call) i l t = Replies (common_arguments call) 7 None
+call_effect Dead i l t = EndsProgram
+call_effect Dormant i l t = StopsProgram
+
+-- its row, with n own steps since the command
 abbrev pub call_row : Call → Inner → Option Line → ℕ → ℕ → Outcome Inner
-call_row (ReadLine at count) i l n t = if is_line_count count then read_line i at count l else goes (replied i 1 7 None)
-call_row (WriteLine at count) i l n t = if is_line_count count then write_line i at count else goes (replied i 1 7 None)
-call_row GetTime i l n t = goes (replied i 0 0 (Some t))
-call_row GetMemory i l n t = goes (replied i 0 0 (Some (256 * i.blocks)))
-call_row (SetMemory blocks) i l n t = set_memory i blocks
-call_row (FileStat name) i l n t = file_told i (stat name i.files)
-call_row (ReadFile name at count place) i l n t = file_read i at (read name place count i.files)
-call_row (WriteFile name at count place) i l n t = files_changed i 3 (written name place (words_at i.core at count) i.account.tracks i.files)
-call_row (DeleteFile name) i l n t = files_changed i 1 (deleted name i.files)
-call_row (RenameFile name to) i l n t = files_changed i 2 (renamed name to i.files)
-call_row (ChangeMode name mode) i l n t = files_changed i 2 (moded name mode i.files)
-call_row (Common call) i l n t = goes (replied i (common_arguments call) 7 None)
-call_row Dead i l n t = gives (without_program i) (ready_text n ∷ []) Stopped
-call_row Dormant i l n t = stops [] (replied i 0 0 None) n
+call_row c i l n t = call_effect_row (call_effect c i l t) i n
 
 -- the common operation that a call makes
 abbrev pub call_asks : Call → List ℕ → Option CommonOp
 call_asks (Common call) core = common_asks call core
 call_asks _ core = None
 
--- a call that made a common operation, with so many arguments, takes its reply; words go to a buffer
+-- what a call that made a common operation comes to, with so many arguments, by the reply; words go to a buffer
+abbrev pub reply_told : (arguments at : ℕ) → Reply → CallEffect
+reply_told arguments at Done = Replies arguments 0 None
+reply_told arguments at (Size n) = Replies arguments 0 (Some n)
+reply_told arguments at (Words words) = RepliesWords arguments at words None
+reply_told arguments at (Refused r) = refused arguments r
+
+-- the program goes on, with the reply
 abbrev pub reply_taken : Inner → (arguments at : ℕ) → Reply → Outcome Inner
-reply_taken i arguments at Done = goes (replied i arguments 0 None)
-reply_taken i arguments at (Size n) = goes (replied i arguments 0 (Some n))
-reply_taken i arguments at (Words words) = goes (record (replied i arguments 0 None) { core = with_words i.core at words })
-reply_taken i arguments at (Refused r) = refused i arguments r
+reply_taken i arguments at r = call_effect_row (reply_told arguments at r) i 0
 
 -- the row of an entry that made a common operation
 abbrev pub call_replied : Call → Inner → Reply → Outcome Inner

@@ -4,7 +4,7 @@ use Rattle.std.specs.List.{list_all}
 use Rattle.ctss_types.specs.Names.{NamePair}
 use Rattle.ctss_types.specs.Words.{words_of, name_of}
 use Rattle.time_sharing.specs.Machine.{Line}
-pub use Rattle.program_model.specs.Octals.{is_octal_digit, octal_from}
+use Rattle.program_model.specs.Octals.{octal_in}
 use Rattle.user_model.specs.declared.Command.{Command}
 use Rattle.user_model.specs.declared.Command.TheVariants.{Empty, Logout, LoadGo, List as Lists, Print, Rename, Delete, ChangeMode, Input, CopyTo, CopyFrom, Assemble, Link, Start, Save, Resume, Registers, WordAt, Debug, RunFile, BadArguments, Unknown}
 
@@ -55,14 +55,10 @@ abbrev pub chmode_of : List Line → Command
 chmode_of (a ∷ b ∷ m ∷ []) = if_some (λ name. if_some (λ mode. ChangeMode name mode) (digit_in m)) (file_in a b)
 chmode_of _ = BadArguments
 
--- a word of one to five octal digits is a place
-abbrev pub place_in : Line → Option ℕ
-place_in w = if nat_le 1 (length w) && (nat_le (length w) 5 && list_all is_octal_digit w) then Some (octal_from 0 w) else None
-
--- the registers, or the word at a place
+-- the registers, or the word at a place of one to five octal digits
 abbrev pub post_mortem_of : List Line → Command
 post_mortem_of [] = Registers
-post_mortem_of (w ∷ []) = if_some (λ place. WordAt place) (place_in w)
+post_mortem_of (w ∷ []) = if_some (λ place. WordAt place) (octal_in 5 w)
 post_mortem_of _ = BadArguments
 
 -- TO or FROM, and a file

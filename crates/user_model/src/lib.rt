@@ -1,8 +1,9 @@
 //! One user's inner state and the rows of what a user's step does, as the machine made of rows has them.
 //!
 //! All of it stands in `specs/`: `Inner` (the state), `Texts` (what is printed), `Requests` (what a line asks for),
-//! `Commands` (what each command does, and a line of INPUT), `Programs` (a program's steps), `Session` (the rows) and `User`
-//! (the user's machine, closed, as contracts cite it), `Rows` (worked rows).
+//! `OwnFiles` (changes of the directory), `Commands` (what each command comes to, and a line of INPUT), `Programs` (a
+//! program's steps), `Session` (the rows) and `User` (the user's machine, closed, as contracts cite it), `Rows` (worked
+//! rows).
 #![tactic(auto)]
 
 ghost use Rattle.user_model.specs.Rows.{RowOfRequests, RowOfInput, RowOfAssembly, RowOfLinking, RowOfCopies};
@@ -13,45 +14,55 @@ ghost use Rattle.user_model.specs.CommandFiles.{FilesAreTyped};
 use ctss_types::FileName;
 use word36::Word;
 
-/// What a line asks for, by the table of commands.
+/// What a line asks for, by the table of commands. A variant's comment begins with the line as it is typed; a `Word`
+/// has its `name`, a `FileName` its `first second`.
 #[derive(Clone, Copy, Debug, PartialEq, Eq)]
 pub enum Command {
     /// A line without a word.
     Empty,
+    /// `LOGOUT`: the end of the session.
     Logout,
-    /// LOADGO: a program of this name is loaded, and goes.
+    /// `LOADGO name`: the program in `name BSS` is loaded, and goes.
     LoadGo(Word),
-    /// LISTF: the files are listed.
+    /// `LISTF`: the files, and the tracks in use.
     List,
-    /// PRINTF: a file's words are printed as lines.
+    /// `PRINTF first second`: the words of a file as lines.
     Print(FileName),
+    /// `RENAME first second first second`: the file gets other names, the last two.
     Rename { name: FileName, to: FileName },
+    /// `DELETE first second`: the file goes.
     Delete(FileName),
-    /// CHMODE: a file gets another mode, a digit.
+    /// `CHMODE first second mode`: 0 temporary, 1 permanent, 2 read-only, 3 read-only for good.
+    ///
+    /// The file gets this mode, a digit; above 3 it is refused.
     ChangeMode { name: FileName, mode: u8 },
-    /// INPUT: the lines that come go to a new file, up to an empty line.
+    /// `INPUT first second`: the lines that come go into a new file, up to an empty line.
     Input(FileName),
-    /// COPY TO: the file is copied to the common files.
+    /// `COPY TO first second`: one's own file is copied to the common files.
     CopyTo(FileName),
-    /// COPY FROM: a common file is copied to the user's.
+    /// `COPY FROM first second`: a common file is copied to one's own.
     CopyFrom(FileName),
-    /// FAP: the cards of a file are assembled, and their deck or module is put under this name.
+    /// `FAP name`: `name FAP` is assembled to the deck `name BSS`, or to the module `name REL`.
     Assemble(Word),
-    /// LINK: the modules that are named behind it are linked, and their deck is put under this name.
+    /// `LINK name module ..`: one to eight modules `module REL` are linked to the deck `name BSS`.
+    ///
+    /// The value has the deck's name; the modules' are read from the line.
     Link(Word),
-    /// START: the program that stopped goes on.
+    /// `START`: the program that stopped goes on.
     Start,
-    /// SAVE: the program that stopped is saved under this name.
+    /// `SAVE name`: the program that stopped is saved in `name SAVED`.
     Save(Word),
-    /// RESUME: a saved program of this name is loaded, and goes on.
+    /// `RESUME name`: the program in `name SAVED` comes back, and goes on.
     Resume(Word),
-    /// PM: the registers of the program that stopped.
+    /// `PM`: the registers of the program that stopped.
     Registers,
-    /// PM with a place: the word there.
+    /// `PM place`: the word at this place of it; places are octal, up to five digits.
     WordAt { place: u16 },
-    /// FAPDBG: the debugger is opened on the program that stopped.
+    /// `FAPDBG`: the debugger, on the program that stopped.
     Debug,
-    /// RUNCOM: the lines of a command file of this name stand before those typed.
+    /// `RUNCOM name word ..`: the lines of `name RUNCOM` as if typed, with the words as `$1` to `$9`.
+    ///
+    /// They come before the lines that are unread. The value has the name; the words are read from the line.
     RunFile(Word),
     /// A known command with words that it doesn't take.
     BadArguments,

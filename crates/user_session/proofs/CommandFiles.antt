@@ -6,13 +6,12 @@ use Rattle.ctss_types.specs.declared.file.Refusal.{Refusal}
 use Rattle.program_model.specs.Lines.{lines_of_words}
 use Rattle.program_model.specs.CommandLines.{lines_with, command_lines}
 use Rattle.cmd_program.specs.Lines.{lines_got}
-use Rattle.user_model.specs.Inner.{Inner}
 use Rattle.user_model.specs.Commands.{CommandLine, lines_added, file_run}
 
-pub lines_fed : (file : Result (List ℕ) Refusal) (lines : List (List ℕ)) (i : Inner) (x : CommandLine) (n t : ℕ) → Ok lines ≡ lines_got file
-    → file_run file i x n t ≡ lines_added (lines_with lines (drop 2 (words_of x.line)) (256 - x.fed)) i n t
+pub lines_fed : (file : Result (List ℕ) Refusal) (lines : List (List ℕ)) (x : CommandLine) → Ok lines ≡ lines_got file
+    → file_run file x ≡ lines_added (lines_with lines (drop 2 (words_of x.line)) (256 - x.fed))
 unfolding command_lines
-lines_fed (Ok ws) lines i x n t h =
+lines_fed (Ok ws) lines x h =
     let same : lines_of_words ws ≡ lines = cc in
-    ap (λ (ls : List (List ℕ)). lines_added (lines_with ls (drop 2 (words_of x.line)) (256 - x.fed)) i n t) same
-lines_fed (Err r) lines i x n t h = absurd cc
+    ap (λ (ls : List (List ℕ)). lines_added (lines_with ls (drop 2 (words_of x.line)) (256 - x.fed))) same
+lines_fed (Err r) lines x h = absurd cc

@@ -14,7 +14,7 @@ use Rattle.program_model.specs.Stops.{Stops}
 use Rattle.program_model.specs.declared.Call.{Call}
 use Rattle.program_model.specs.declared.EntryFault.{EntryFault}
 use Rattle.program_model.specs.Calls.{call_of}
-use Rattle.user_model.specs.Session.{works_in, is_none}
+use Rattle.user_model.specs.Session.{works_in, is_none, next_of, AtCommand}
 use Rattle.time_sharing.specs.Machine.{CommonOp, Reply}
 use Rattle.user_model.specs.Answers.{DidEntry, EntryReplied, CommandReplied, marked}
 use Rattle.user_model.specs.User.{User, in_store}
@@ -69,12 +69,12 @@ pub at_step : (told : Instructed) (s : Step) (t : ℕ) (p q : User) (c d : Store
 at_step told s t p q c d is h = subst (λ (x : Instructed). Instructs x t p q c d) is h
 
 -- a command
-pub obeyed : (turn : Turn) (t : ℕ) (p q : User) (c d : Stored) (l : Line) (command : Command) → works_in p.inner.state ≡ false → p.inner.debugger ≡ None → p.inner.input ≡ None → slice_get p.unread 0 ≡ Some l → command_of l ≡ command → p.on ≡ true →
+pub obeyed : (turn : Turn) (t : ℕ) (p q : User) (c d : Stored) (l : Line) (command : Command) → next_of (in_store c p).inner ≡ AtCommand → slice_get p.unread 0 ≡ Some l → command_of l ≡ command → p.on ≡ true →
     Obeys l command turn t p q c d → IsTurn turn t p q c d
-obeyed Waits t p q c d l command h shut none first what on row = absurd row
-obeyed (Done s) t p q c d l command h shut none first what on row = command_turn t p q c d l command s.ending s.clock h shut none first what on row
-obeyed (Asks op) t p q c d l command h shut none first what on row =
-    let asked = command_asked p c l command op h shut none first what on row.makes in
+obeyed Waits t p q c d l command next first what on row = absurd row
+obeyed (Done s) t p q c d l command next first what on row = command_turn t p q c d l command s.ending s.clock next first what on row
+obeyed (Asks op) t p q c d l command next first what on row =
+    let asked = command_asked p c l command op next first what on row.makes in
     record { can = asked.0; makes = asked.1; same = row.same; store = row.store }
 
 -- steps with a reply
@@ -82,9 +82,9 @@ pub entry_took : (t : ℕ) (r : Reply) (p q : User) (c d : Stored) (w : ℕ) (ca
     EntryReplied call op r s.ending s.clock p q c d → IsReplied s op r t p (marked q) c d
 entry_took t r p q c d w call op s h none at is what on said = entry_replied_turn t r p q c d w call op s.ending s.clock h none at is what on said
 
-pub command_took : (t : ℕ) (r : Reply) (p q : User) (c d : Stored) (l : Line) (command : Command) (op : CommonOp) (s : Step) → works_in p.inner.state ≡ false → p.inner.debugger ≡ None → p.inner.input ≡ None → slice_get p.unread 0 ≡ Some l → command_of l ≡ command → p.on ≡ true →
+pub command_took : (t : ℕ) (r : Reply) (p q : User) (c d : Stored) (l : Line) (command : Command) (op : CommonOp) (s : Step) → next_of (in_store c p).inner ≡ AtCommand → slice_get p.unread 0 ≡ Some l → command_of l ≡ command → p.on ≡ true →
     CommandReplied l command op r s.ending s.clock t p q c d → IsReplied s op r t p q c d
-command_took t r p q c d l command op s h shut none first what on said = command_replied_turn t r p q c d l command op s.ending s.clock h shut none first what on said
+command_took t r p q c d l command op s next first what on said = command_replied_turn t r p q c d l command op s.ending s.clock next first what on said
 
 -- what holds of an answer that is Ok
 pub ok_map : {A E : Type 0} (P Q : A → Type 0) (result : Result A E) → ((a : A) → P a → Q a) → IfOk result P → IfOk result Q

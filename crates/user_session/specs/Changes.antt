@@ -8,7 +8,7 @@ use Rattle.user_model.specs.declared.Command.{Command}
 use Rattle.program_model.specs.declared.Call.{Call}
 use Rattle.std.specs.declared.result.Result.{Result}
 use Rattle.program_model.specs.declared.ComRefusal.{ComRefusal}
-use Rattle.user_model.specs.Commands.{changed, lines_added, words_copied, command_replied}
+use Rattle.user_model.specs.Commands.{changed, effect_row, lines_added, words_copied, command_replied}
 use Rattle.user_model.specs.Programs.{call_replied, reply_taken, step_asks}
 use Rattle.user_model.specs.User.{User, in_store}
 use Rattle.user_model.specs.Answers.{IsRow}
@@ -29,11 +29,11 @@ DidPut line name words e asked t old new before after =
 
 -- a step that took a line as a command and put lines before those unread, or said why it didn't
 abbrev pub DidFeed : Line → Result (List Line) ComRefusal → Ending → Bool → ℕ → (old new : User) → (before after : Stored) → Type 0
-DidFeed line told e asked t old new before after = IsRow true true (Some line) (lines_added told (in_store before old).inner 1 t) true e asked old new before after
+DidFeed line told e asked t old new before after = IsRow true true (Some line) (effect_row (lines_added told) (in_store before old).inner 1 t) true e asked old new before after
 
 -- a step of a command that took the words of a common file
 abbrev pub Copies : Line → Option NamePair → List ℕ → Ending → Bool → ℕ → (old new : User) → (before after : Stored) → Type 0
-Copies line target words e asked t old new before after = IsRow true true (Some line) (words_copied target words (in_store before old).inner 1 t) true e asked old new before after
+Copies line target words e asked t old new before after = IsRow true true (Some line) (effect_row (words_copied target words) (in_store before old).inner 1 t) true e asked old new before after
 
 -- a step of a command that took this reply
 abbrev pub TookReply : Line → Command → Reply → Ending → Bool → ℕ → (old new : User) → (before after : Stored) → Type 0

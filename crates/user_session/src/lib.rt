@@ -12,7 +12,6 @@ mod debugger;
 mod entry;
 mod file_command;
 mod file_entry;
-mod input;
 mod link_command;
 mod program;
 mod run_file;

@@ -1,9 +1,9 @@
-ghost use Rattle.std.specs.Prelude.{◌≡◌, ◌<◌, ◌≤◌, ◌^◌, ◌∷◌, [], length, nat_eq, true, MatchOption, IfSome};
-ghost use Rattle.std.specs.List.{list_all};
+ghost use Rattle.std.specs.Prelude.{◌≡◌, ◌∷◌, [], length, nat_eq, MatchOption};
 ghost use Rattle.ctss_types.specs.Words.{words_of};
 ghost use Rattle.program_model.specs.DebugLines.{one_place, set_of, only, debug_by, debug_of};
-ghost use Rattle.program_model.specs.Octals.{is_octal_digit, octal_from, octal_in};
+ghost use Rattle.program_model.specs.Octals.{octal_in};
 
+use crate::octals::octal_in;
 use ctss_types::{LineText, first_word};
 use program_model::DebugLine;
 use word36::Word;
@@ -91,41 +91,6 @@ fn one_place(text: &[u8]) -> Option<u16>
     } else {
         None
     }
-}
-
-/// A word of one to so many octal digits as a number.
-fn octal_in(word: &[u8], most: usize) -> Option<u64>
-    requires { most ≤ 12 }
-    ensures value { result ≡ octal_in most word.now }
-    ensures below { IfSome result (λ n. n < 8 ^ most) }
-{
-    if 1 <= word.len() && word.len() <= most && are_octal(word) {
-        Some(octal_value(word))
-    } else {
-        None
-    }
-}
-
-/// Whether all are octal digits.
-fn are_octal(word: &[u8]) -> bool
-    ensures { result ≡ list_all is_octal_digit word.now }
-{
-    word.iter().all(|digit| 48 <= *digit && *digit <= 55)
-}
-
-/// The number that at most twelve octal digits spell.
-#[tactic(auto, using(crate::proofs::Octals::octals))]
-fn octal_value(word: &[u8]) -> u64
-    requires digits { list_all is_octal_digit word.now ≡ true }
-    requires few { length word.now ≤ 12 }
-    ensures value { result ≡ octal_from 0 word.now }
-    ensures below { result < 8 ^ length word.now }
-{
-    let mut number = 0;
-    'digits: for digit in word {
-        number = 8 * number + u64::from(*digit - b'0');
-    }
-    number
 }
 
 /// The first word of a text, where it has one, and what stands behind it.

@@ -1,7 +1,7 @@
 //! The run of a script, with its core looked at.
 ghost use Rattle.std.specs.Prelude.{◌≡◌, map, true, IfOk};
-ghost use Rattle.drum_slots.specs.Kept.{Serves};
-ghost use Rattle.track_store.specs.Tracks.{Serves as Holds};
+ghost use Rattle.drum_slots.specs.Kept.{ServesSlots};
+ghost use Rattle.track_store.specs.Tracks.{ServesTracks};
 ghost use Rattle.text_model.specs.Lawful.{IsLawful};
 ghost use Rattle.live_run.specs.Media.{media_seen};
 ghost use Rattle.picture_model.specs.Cores.{owner_in, owners_of};
@@ -22,8 +22,8 @@ fn maps_over<D: Medium, F: Medium>(
     disk: &mut F,
 ) -> Result<CoreMaps, NoMemory>
     requires lawful { IsLawful script.now }
-    requires drum { Serves (D.contents drum.old) (D.record_count drum.old) (D.words_each drum.old) 3840 }
-    requires disk { Holds (F.contents disk.old) (F.record_count disk.old) (F.words_each disk.old) 10000 }
+    requires drum { ServesSlots (D.contents drum.old) (D.record_count drum.old) (D.words_each drum.old) 3840 }
+    requires disk { ServesTracks (F.contents disk.old) (F.record_count disk.old) (F.words_each disk.old) 10000 }
     requires tells { (media_seen D.Medium F.Medium drum.old disk.old).tells ≡ true }
     ensures { IfOk result (λ maps. map owner_in maps ≡ owners_of script.now) }
 {

@@ -1,5 +1,5 @@
 ghost use Rattle.std.specs.Prelude.{◌≡◌, ◌+◌, ◌^◌, ◌∷◌, ℕ};
-ghost use Rattle.time_sharing.specs.Sums.{steps_of};
+ghost use Rattle.time_sharing.specs.Sums.{service_steps};
 ghost use Rattle.text_writer.specs.Sums.{AreSums, AreBelow, TheEntries};
 
 use ctss_types::{Cause, Entry};
@@ -16,7 +16,7 @@ pub struct Sums {
 
 /// The steps of a service of so many ticks.
 fn steps_of(ran: u64, cause: Cause) -> u64
-    ensures { result ≡ steps_of ran cause }
+    ensures { result ≡ service_steps ran cause }
 {
     match cause {
         Cause::Wait => ran.saturating_sub(1),

@@ -1,6 +1,6 @@
 use Rattle.std.specs.Prelude.{min, replicate}
 use Rattle.std.proofs.Common.{◌≡◌, ◌-◌, ◌*◌, ◌++◌, ℕ, take, drop, length, ◌∙◌, ap, arith}
-use Rattle.track_store.specs.Words.{joined, with_words}
+use Rattle.track_store.specs.Words.{tracks_joined, with_words}
 use Rattle.file_model.specs.Files.{overwritten}
 use Rattle.file_tracks.specs.Written.{from_track, to_track}
 use Rattle.file_tracks.proofs.Told.{told_map}
@@ -22,6 +22,6 @@ returns-clause-written g c =
       bits = patch;
       whole = ap length c.deref-2.ensures.value ∙ p.len ∙ ap (λ (k : ℕ). 432 * (k - from)) last;
       told = told_map o _ _ (λ contents x. c.deref-2.ensures.value ∙ x
-          ∙ (λ j. overwritten (place - 432 * from) ws (joined contents (take (kept j - from) (drop from ts)) ++ replicate (432 * (last j - from) - 432 * length (take (kept j - from) (drop from ts))) 0))) p.told;
+          ∙ (λ j. overwritten (place - 432 * from) ws (tracks_joined contents (take (kept j - from) (drop from ts)) ++ replicate (432 * (last j - from) - 432 * length (take (kept j - from) (drop from ts))) 0))) p.told;
       contents = c.in-Ok.ensures.contents ∙ (λ j. with_words (rows j) (take (last j - from) (drop from (c.deref.ensures.value j))) patch);
     }

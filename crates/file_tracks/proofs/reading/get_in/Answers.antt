@@ -8,7 +8,7 @@ use Rattle.file_tracks.proofs.Found.{all_taken}
 use Rattle.file_tracks.proofs.Puts.{old_bits}
 use Rattle.std.proofs.lemmas.List.Elements.{All-get_or}
 use Rattle.file_model.specs.Files.{got_of}
-use Rattle.track_store.specs.Words.{joined}
+use Rattle.track_store.specs.Words.{tracks_joined}
 use Rattle.file_tracks.specs.Stored.{HasTracks}
 use Rattle.file_tracks.proofs.Told.{told_map}
 use Rattle.file_tracks.proofs.Tables.{occurs_at, used_at}
@@ -58,7 +58,7 @@ returns-clause-any g c =
     let span = c.in-Ok.span.items in
     let e = c.in-Ok.ensures in
     let len : length span ≡ 432 * length file.tracks.items = e.len ∙ ap (λ (us : List ℕ). 432 * length us) ts in
-    let a = any_span o _ _ _ fs c.requires.ready.directory file.tracks.items span (λ t. occurs_at t fs at f low) len (told_map o _ _ (λ contents x. x ∙ ap (joined contents) ts) e.given) in
+    let a = any_span o _ _ _ fs c.requires.ready.directory file.tracks.items span (λ t. occurs_at t fs at f low) len (told_map o _ _ (λ contents x. x ∙ ap (tracks_joined contents) ts) e.given) in
     let long = enough _ _ _ len (All-get_or HasTracks fs at f low c.requires.ready.directory.tracked) in
     let min = least (length span) file.words c.min-len.result (let a = c.min-len.ensures in let b = c.len.ensures in let w = ap (λ (x : Filed). x.words) c.index-file.ensures in omega (arith, a, b, w)) long in
     let words = c.from_vec.ensures ∙ c.in-Ok-as_words.ensures ∙ ap (take c.min-len.result) c.deref-2.ensures.value ∙ ap (λ (n : ℕ). take n span) min in (

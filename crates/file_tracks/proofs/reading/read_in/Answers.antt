@@ -2,7 +2,7 @@ use Rattle.std.specs.Prelude.{Ok, take, drop}
 use Rattle.std.proofs.Common.{◌≡◌, ◌<◌, ◌≤◌, ◌+◌, ◌-◌, ◌*◌, ◌/◌, ◌%◌, ℕ, List, length, get_or, ◌∙◌, sym, ap, subst, arith}
 use Rattle.std.proofs.lemmas.List.Elements.{All-get_or}
 use Rattle.file_model.specs.Files.{read_of}
-use Rattle.track_store.specs.Words.{joined}
+use Rattle.track_store.specs.Words.{tracks_joined}
 use Rattle.file_tracks.specs.Places.{count_in, bit}
 use Rattle.file_tracks.specs.Stored.{body_on, files_on, HasTracks, IsWhole}
 use Rattle.file_tracks.specs.declared.table.Filed.{Filed}
@@ -75,7 +75,7 @@ returns-clause-any g c =
     let a = any_span o _ _ _ fs c.requires.ready.directory us span
     (λ t. let p = count_take t (to - from) (drop from f'.tracks.items) in let q = count_drop t from f'.tracks.items in let b = occurs_at t fs at f low in omega (arith, p, q, b))
     (c.in-Ok.ensures.len ∙ ap (λ (ts : List ℕ). 432 * length (take (to - from) (drop from ts))) tracks_2)
-    (told_map o _ _ (λ contents x. x ∙ ap (λ (ts : List ℕ). joined contents (take (to - from) (drop from ts))) tracks_2) c.in-Ok.ensures.given) in
+    (told_map o _ _ (λ contents x. x ∙ ap (λ (ts : List ℕ). tracks_joined contents (take (to - from) (drop from ts))) tracks_2) c.in-Ok.ensures.given) in
     let wf : IsWhole a.0 f' = All-get_or (IsWhole a.0) fs at f low a.1.1.0 in
     let clen = content-length a.0 f' hf wf in
     let enough : f'.words ≤ 432 * length f'.tracks.items = omega (arith, hf) in

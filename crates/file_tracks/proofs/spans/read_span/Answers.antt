@@ -4,7 +4,7 @@ use Rattle.std.proofs.lemmas.List.Elements.{All-same, All-nil, All-append, All-r
 use Rattle.std.proofs.lemmas.List.{length-replicate}
 use Rattle.faults.specs.Faults.{WhereTold}
 use Rattle.medium.specs.Medium.{CallList}
-use Rattle.track_store.specs.Words.{Gave, record_at, joined}
+use Rattle.track_store.specs.Words.{Gave, record_at, tracks_joined}
 use Rattle.file_tracks.proofs.Gives.{gave_none, gave_read, gave_more}
 use Rattle.file_tracks.proofs.Told.{told_all, told_map, told_both, joined_more, joined_end}
 use Rattle.file_tracks.proofs.spans.read_span.Goals as goal
@@ -21,7 +21,7 @@ reading-init g c =
       whole = ap length zero ∙ length-replicate {A = ℕ} 432 0;
       words = All-same (λ (n : ℕ). n < 2 ^ 36) _ _ w (All-nil (λ (n : ℕ). n < 2 ^ 36));
       len = ap length w;
-      given = told_all _ _ (λ contents. ap (λ (ws : List ℕ). ws ++ joined contents c.args.tracks.now) (sym w));
+      given = told_all _ _ (λ contents. ap (λ (ws : List ℕ). ws ++ tracks_joined contents c.args.tracks.now) (sym w));
       gave = subst (λ (ws : List ℕ). Gave was was ws) (sym w) (gave_none was);
     }
 

@@ -1,7 +1,7 @@
 use Rattle.std.specs.Prelude.{Option}
 use Rattle.std.proofs.Common.{ℕ, List, sym, ap, rules}
 use Rattle.file_model.specs.Files.{read}
-use Rattle.file_tracks.specs.Seen.{tells_of, seen}
+use Rattle.file_tracks.specs.Seen.{tells_of, files_seen}
 use Rattle.file_tracks.proofs.Known.{answers_over}
 use Rattle.file_tracks.proofs.Calls.{reads_usable, reads_goes}
 use Rattle.file_tracks.proofs.port.TrackPortFilePort.read.Goals as goal
@@ -15,7 +15,7 @@ pub returns-clause-stays : goal.returns-clause-stays
 returns-clause-stays g c =
     let e = c.read_in-answer.ensures in
     record {
-      left = λ well. ap (λ (o : Option (List (List ℕ))). seen o c.args.self.now.table.now.files.items) (e.contents well);
+      left = λ well. ap (λ (o : Option (List (List ℕ))). files_seen o c.args.self.now.table.now.files.items) (e.contents well);
       telling = λ well. ap tells_of (e.contents well);
       usable = reads_usable g.F.Medium c.args.self.now.store.now c.read_in-answer.new.store _ _ _ c.requires.usable c.read_in-answer.result e.keeps e.contents c.is_disk-self.ensures.yes;
     }

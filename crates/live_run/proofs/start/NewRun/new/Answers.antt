@@ -1,7 +1,14 @@
-use Rattle.std.proofs.Common.{◌≡◌, ℕ, ◌+◌, List, ◌∷◌, map, length, replicate, ap, ◌∙◌, arith}
+use Rattle.std.proofs.Common.{◌≡◌, ◌≤◌, ℕ, ◌+◌, List, ◌∷◌, map, length, sum, replicate, sym, ap, subst, ◌∙◌, arith}
 use Rattle.std.proofs.lemmas.List.{length-map, length-replicate}
 use Rattle.ctss_types.specs.declared.script.Account.{Account}
 use Rattle.live_run.proofs.start.NewRun.new.Goals as goal
+
+-- the accounts' blocks fit the drum
+pub new-requires-2 : goal.new-requires-2
+new-requires-2 c =
+    let quotas : c.deref.result.now ≡ map (λ (a : Account). a.blocks) c.args.script.now.accounts =
+    c.deref.ensures.value ∙ c.in_ok-quotas.ensures ∙ ap (map (λ (a : Account). a.blocks)) c.as_slice-accounts.ensures in
+    subst (λ (ns : List ℕ). sum ns ≤ c.args.script.now.params.drum) (sym quotas) c.requires.lawful.range.fits
 
 pub returns : goal.returns
 returns c =

@@ -2,7 +2,7 @@ use Rattle.std.proofs.Common.{◌≡◌, ℕ, false, arith, refl, sym, ap, subst
 use Rattle.std.proofs.lemmas.Bool.Decides.{nat_tests}
 use Rattle.system_model.specs.Run.{Run}
 use Rattle.user_cores.specs.Backing.{Held}
-use Rattle.supervisor.specs.Seen.{seen}
+use Rattle.supervisor.specs.Seen.{run_seen}
 use Rattle.ctss_types.specs.declared.session.Waiting.{Waiting}
 use Rattle.time_sharing.specs.System.{Service}
 use Rattle.plan_model.specs.Levels.{chosen, user_of, since_in}
@@ -18,7 +18,7 @@ use Rattle.supervisor.proofs.state.State.go_on.Goals as goal
 pub attend-requires-clause-serves : goal.attend-requires-clause-serves
 attend-requires-clause-serves g c =
     let had : Held = (g.C.Backing.state c.args.cores.now).held in
-    let old : Run = seen had.places c.args.self.now in
+    let old : Run = run_seen had.places c.args.self.now in
     let early = c.requires.time.early in
     let most = c.requires.time.most in
     record {
@@ -32,12 +32,12 @@ pub returns-in-Some-None-clause-ended : goal.returns-in-Some-None-clause-ended
 returns-in-Some-None-clause-ended g c =
     let had : Held = (g.C.Backing.state c.args.cores.now).held in
     let has : Held = (g.C.Backing.state c.attend.new.cores).held in
-    let old : Run = seen had.places c.args.self.now in
+    let old : Run = run_seen had.places c.args.self.now in
     let x : Waiting = record { user = c.in-Some-None.next.user; left = c.in-Some-None.next.left; since = since_in (chosen old.system.plan.levels) } in
     let v : Service = record { tick = c.args.self.now.clock; user = x.user; level = c.in-Some-None.next.level; ran = 0 } in
     let none = c.in-Some-None.is-1 in
     ends_map c.attend.result _ _ _ _ _ _ _ _
-    (go_begin c.args.limit c.in-Some-None.next.level x v old (seen has.places c.attend.new.self) had has c.in-Some-None.ensures.some none refl)
+    (go_begin c.args.limit c.in-Some-None.next.level x v old (run_seen has.places c.attend.new.self) had has c.in-Some-None.ensures.some none refl)
     (λ h. h)
     (λ f. (
       f.0,
@@ -53,13 +53,13 @@ pub returns-then-eq-clause-ended : goal.returns-then-eq-clause-ended
 returns-then-eq-clause-ended g c =
     let had : Held = (g.C.Backing.state c.args.cores.now).held in
     let has : Held = (g.C.Backing.state c.attend-then-eq.new.cores).held in
-    let old : Run = seen had.places c.args.self.now in
+    let old : Run = run_seen had.places c.args.self.now in
     let x : Waiting = record { user = c.in-Some-Some.next.user; left = c.in-Some-Some.next.left; since = since_in (chosen old.system.plan.levels) } in
     let v : Service = c.in-Some-Some.v in
     let some = c.in-Some-Some.is-1 in
     let same : v.user ≡ x.user = (let t = c.if-eq.ensures in grind (arith, nat_tests, t)) in
     ends_map c.attend-then-eq.result _ _ _ _ _ _ _ _
-    (go_same c.args.limit c.in-Some-Some.next.level x v old (seen has.places c.attend-then-eq.new.self) had has c.in-Some-Some.ensures.some some same)
+    (go_same c.args.limit c.in-Some-Some.next.level x v old (run_seen has.places c.attend-then-eq.new.self) had has c.in-Some-Some.ensures.some some same)
     (λ h. h)
     (λ f. (
       f.0,

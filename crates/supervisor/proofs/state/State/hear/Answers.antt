@@ -6,7 +6,7 @@ use Rattle.system_model.specs.Run.{Run, taken}
 use Rattle.system_model.proofs.SwapLaws.{taken_moves}
 use Rattle.system_model.specs.Joined.{hung_up}
 use Rattle.user_cores.specs.Backing.{Held}
-use Rattle.supervisor.specs.Seen.{seen}
+use Rattle.supervisor.specs.Seen.{run_seen}
 use Rattle.supervisor.specs.Steps.{IsTied}
 use Rattle.user_cores.specs.Settles.{IsResized}
 use Rattle.supervisor.proofs.Counting.{counted_none}
@@ -30,8 +30,8 @@ returns-clause-ok g c =
     let had : Held = (g.C.Backing.state c.args.cores.now).held in
     let has : Held = (g.C.Backing.state c.give_up.new.cores).held in
     let left = c.give_up.ensures.gives.left in
-    does_taken c.args.e (seen had.places c.args.self.now) (seen has.places c.take_event.new.self) had has c.requires.seat c.requires.going.held.sound
-    (ap (λ (p : Places). seen p c.take_event.new.self) left.places ∙ c.in_ok-cut.ensures.ok had.places)
+    does_taken c.args.e (run_seen had.places c.args.self.now) (run_seen has.places c.take_event.new.self) had has c.requires.seat c.requires.going.held.sound
+    (ap (λ (p : Places). run_seen p c.take_event.new.self) left.places ∙ c.in_ok-cut.ensures.ok had.places)
     (λ t u. left.stores t u ∙ ap (λ (k : ℕ). hung_up k had.stores u) c.in_ok-cut.ensures.cut)
     left.tells left.sizes.rules.common
 
@@ -39,12 +39,12 @@ pub returns-clause-leaves : goal.returns-clause-leaves
 returns-clause-leaves g c =
     let had : Held = (g.C.Backing.state c.args.cores.now).held in
     let has : Held = (g.C.Backing.state c.give_up.new.cores).held in
-    let old : Run = seen had.places c.args.self.now in
+    let old : Run = run_seen had.places c.args.self.now in
     let held = c.requires.going.held in
     let gives = c.give_up.ensures.gives in
-    let is = ap (λ (p : Places). seen p c.take_event.new.self) gives.left.places ∙ c.in_ok-cut.ensures.ok had.places in
+    let is = ap (λ (p : Places). run_seen p c.take_event.new.self) gives.left.places ∙ c.in_ok-cut.ensures.ok had.places in
     record {
-      counted = counted_none old (taken c.args.e old) (seen has.places c.take_event.new.self) _ _ is (taken_moves c.args.e old c.requires.seat held.sound) gives.none.calls;
+      counted = counted_none old (taken c.args.e old) (run_seen has.places c.take_event.new.self) _ _ is (taken_moves c.args.e old c.requires.seat held.sound) gives.none.calls;
       tied =
           subst (λ (us : List User). IsTied us has) (ap (λ (r : Run). r.system.users) (sym is))
           (tied_taken c.args.e old had has c.requires.seat held.sound held.tied (subst (λ (k : ℕ). IsResized k 0 had has) c.in_ok-cut.ensures.cut gives.left.sizes));

@@ -1,7 +1,7 @@
 use Rattle.std.proofs.Common.{refl}
 use Rattle.system_model.specs.Run.{Run, raised}
 use Rattle.user_cores.specs.Backing.{Held}
-use Rattle.supervisor.specs.Seen.{seen}
+use Rattle.supervisor.specs.Seen.{run_seen}
 use Rattle.image_map.proofs.Calls.{on_err}
 use Rattle.system_model.proofs.JoinedLaws.{raised_joined}
 use Rattle.system_model.proofs.SwapLaws.{raised_moves}
@@ -23,12 +23,12 @@ returns-in_err-raise-clause-leaves g c =
 pub returns-clause-ok : goal.returns-clause-ok
 returns-clause-ok g c =
     let had : Held = (g.C.Backing.state c.args.cores.now).held in
-    let old : Run = seen had.places c.args.self.now in
-    does_apart raised old (seen had.places c.raise.new.self) had had (c.in_ok-raise.ensures.ok had.places) (λ w. raised_joined w old) (λ t u. refl) refl refl
+    let old : Run = run_seen had.places c.args.self.now in
+    does_apart raised old (run_seen had.places c.raise.new.self) had had (c.in_ok-raise.ensures.ok had.places) (λ w. raised_joined w old) (λ t u. refl) refl refl
 
 pub returns-clause-leaves : goal.returns-clause-leaves
 returns-clause-leaves g c =
     let had : Held = (g.C.Backing.state c.args.cores.now).held in
-    let old : Run = seen had.places c.args.self.now in
+    let old : Run = run_seen had.places c.args.self.now in
     leaves_apart g.C.Backing c.args.self.now c.raise.new.self c.args.cores.now (raised old) c.requires.going (g.met.C.Backing.stays c.args.cores.now)
     (c.in_ok-raise.ensures.ok had.places) (raised_users old) (raised_moves old)

@@ -1,7 +1,7 @@
 use Rattle.std.proofs.Common.{refl}
 use Rattle.system_model.specs.Run.{Run}
 use Rattle.user_cores.specs.Backing.{Held}
-use Rattle.supervisor.specs.Seen.{seen}
+use Rattle.supervisor.specs.Seen.{run_seen}
 use Rattle.image_map.proofs.Calls.{on_err}
 use Rattle.system_model.specs.Cases.{broken_off}
 use Rattle.system_model.proofs.JoinedLaws.{broken_off_joined}
@@ -24,12 +24,12 @@ returns-in_err-break_off-clause-leaves g c =
 pub returns-clause-ok : goal.returns-clause-ok
 returns-clause-ok g c =
     let had : Held = (g.C.Backing.state c.args.cores.now).held in
-    let old : Run = seen had.places c.args.self.now in
-    does_apart (broken_off c.args.v) old (seen had.places c.break_off.new.self) had had (c.in_ok-break_off.ensures.ok had.places) (λ w. broken_off_joined w c.args.v old) (λ t u. refl) refl refl
+    let old : Run = run_seen had.places c.args.self.now in
+    does_apart (broken_off c.args.v) old (run_seen had.places c.break_off.new.self) had had (c.in_ok-break_off.ensures.ok had.places) (λ w. broken_off_joined w c.args.v old) (λ t u. refl) refl refl
 
 pub returns-clause-leaves : goal.returns-clause-leaves
 returns-clause-leaves g c =
     let had : Held = (g.C.Backing.state c.args.cores.now).held in
-    let old : Run = seen had.places c.args.self.now in
+    let old : Run = run_seen had.places c.args.self.now in
     leaves_apart g.C.Backing c.args.self.now c.break_off.new.self c.args.cores.now (broken_off c.args.v old) c.requires.going (g.met.C.Backing.stays c.args.cores.now)
     (c.in_ok-break_off.ensures.ok had.places) (broken_off_users c.args.v old) (broken_off_moves c.args.v old)

@@ -15,7 +15,7 @@ use Rattle.system_model.specs.Joined.{counted, at_places, stepped_to}
 use Rattle.system_model.proofs.JoinedLaws.{stepped_is}
 use Rattle.system_model.proofs.SwapLaws.{waited_moves, counted_moves}
 use Rattle.user_cores.specs.Backing.{BackState, Held}
-use Rattle.supervisor.specs.Seen.{seen}
+use Rattle.supervisor.specs.Seen.{run_seen}
 use Rattle.supervisor.specs.Steps.{IsTied}
 use Rattle.user_cores.specs.Settles.{IsResized, settled}
 use Rattle.supervisor.proofs.Counting.{counted_none}
@@ -71,7 +71,7 @@ pub returns-in-Ok-Waits-clause-ended : goal.returns-in-Ok-Waits-clause-ended
 returns-in-Ok-Waits-clause-ended g c =
     let had : Held = (g.C.Backing.state c.args.cores.now).held in
     let has : Held = (g.C.Backing.state c.turn.new.self).held in
-    let old : Run = seen had.places c.args.self.now in
+    let old : Run = run_seen had.places c.args.self.now in
     let users : List User = c.args.self.now.sessions.items in
     let u : ℕ = c.args.v.user in
     let within : u - 1 < length users = omega (arith, c.requires.serves.user.some, c.requires.serves.user.within) in
@@ -85,12 +85,12 @@ returns-in-Ok-Waits-clause-ended g c =
     let back : set users c.index.result c.turn.new.session ≡ users = ap (λ (k : ℕ). set users k c.turn.new.session) place ∙ ap (set users (u - 1)) (over.does.same ∙ sym same) ∙ set-get_or users (u - 1) nobody in
     let stay : after ≡ window = same_store tells window after over.had over.has over.was over.now over.does.store in
     let first : Stored = stored window.core over.had in
-    let is : seen has.places c.count_wait.new.self ≡ waited c.args.v old =
-    ap (λ (p : Places). seen p c.count_wait.new.self) worked.places ∙ c.count_wait.ensures had.places
+    let is : run_seen has.places c.count_wait.new.self ≡ waited c.args.v old =
+    ap (λ (p : Places). run_seen p c.count_wait.new.self) worked.places ∙ c.count_wait.ensures had.places
     ∙ (λ j. waited c.args.v (with_users old (back j) (c.reserve.ensures.items j))) in
     let was : had.tells ≡ true → had.stores u ≡ first = λ told.
     worked.was told ∙ sym (told_store tells over.had window (worked.disk told) over.was) in
-    does_waited c.args.v old (seen has.places c.count_wait.new.self) had has first c.requires.serves.user
+    does_waited c.args.v old (run_seen has.places c.count_wait.new.self) had has first c.requires.serves.user
     (ap not (ap (is_loaded had.places u) (sym (c.requires.going.held.tied.has u c.requires.serves.user.some c.requires.serves.user.within)) ∙ c.requires.loaded))
     (ap (λ (p : User). can_step (in_store first p)) same ∙ over.does.cannot)
     is was (words_stay u (g.C.Backing.state c.args.cores.now) (g.C.Backing.state c.turn.new.self) worked stay) worked.rest.tells worked.rest.rules.common
@@ -98,7 +98,7 @@ returns-in-Ok-Waits-clause-ended g c =
 pub returns-in-Ok-Waits-clause-leaves : goal.returns-in-Ok-Waits-clause-leaves
 returns-in-Ok-Waits-clause-leaves g c =
     let had : Held = (g.C.Backing.state c.args.cores.now).held in
-    let old : Run = seen had.places c.args.self.now in
+    let old : Run = run_seen had.places c.args.self.now in
     let users : List User = c.args.self.now.sessions.items in
     let u : ℕ = c.args.v.user in
     let within : u - 1 < length users = omega (arith, c.requires.serves.user.some, c.requires.serves.user.within) in
@@ -115,7 +115,7 @@ returns-in-Ok-Waits-clause-leaves g c =
     let back : set_users ≡ users = ap (λ (k : ℕ). set users k c.turn.new.session) place ∙ ap (set users (u - 1)) (over.does.same ∙ sym same) ∙ set-get_or users (u - 1) nobody in
     let are : c.count_wait.new.self.sessions.items ≡ users = ap (λ (r : Run). r.system.users) (c.count_wait.ensures had.places) ∙ waited_users c.args.v _ ∙ back in
     record {
-      counted = counted_none old (waited c.args.v mid) (seen had.places c.count_wait.new.self) _ _
+      counted = counted_none old (waited c.args.v mid) (run_seen had.places c.count_wait.new.self) _ _
           (c.count_wait.ensures had.places ∙ (λ j. waited c.args.v (with_users old set_users (c.reserve.ensures.items j))))
           (waited_moves c.args.v mid) worked.rest.calls;
       tied = subst (λ (us : List User). IsTied us has) (sym are) (tied_same users 0 had has (resized_none 0 had has worked.sizes worked.rest.rules) c.requires.going.held.tied);
@@ -129,7 +129,7 @@ pub returns-in-Ok-Done-clause-ended : goal.returns-in-Ok-Done-clause-ended
 returns-in-Ok-Done-clause-ended g c =
     let had : Held = (g.C.Backing.state c.args.cores.now).held in
     let has : Held = (g.C.Backing.state c.settle.new.cores).held in
-    let old : Run = seen had.places c.args.self.now in
+    let old : Run = run_seen had.places c.args.self.now in
     let p : User = c.turn.new.session in
     let t : Ending = c.in-Ok-Done.step.ending in
     let asked : Bool = c.in-Ok-Done.step.clock in
@@ -150,7 +150,7 @@ returns-in-Ok-Done-clause-ended g c =
     let blocks : c.blocks-blocks.result ≡ blocks_of p.inner = c.blocks-blocks.ensures.value in
     let places : has.places ≡ places_after t u (blocks_of p.inner) had.places =
     c.settle.ensures.settled.places ∙ (λ j. places_after t u (blocks j) (worked.places j)) in
-    let is : seen has.places c.count_step.new.self ≡ stepped_to c.args.v p t asked [] old =
+    let is : run_seen has.places c.count_step.new.self ≡ stepped_to c.args.v p t asked [] old =
     ap (at_places has.places) (c.count_step.ensures had.places)
     ∙ (λ j. at_places (places j) (counted c.args.v t asked [] (with_users old (set users (place j) p) (c.reserve.ensures.items j))))
     ∙ stepped_is c.args.v p t asked [] old c.requires.serves.user in
@@ -166,7 +166,7 @@ returns-in-Ok-Done-clause-ended g c =
     ∙ ap (store_after t (blocks_of p.inner)) (sym (told_store tells over.has after (worked.disk told) over.now)) in
     let others : (x : ℕ) → x ≢ u → has.stores x ≡ had.stores x = λ x n.
     c.settle.ensures.settled.others x n ∙ worked.rest.others x (omega arith) n in
-    does_stepped c.args.v p t asked None Done old (seen has.places c.count_step.new.self) had has first last (had.stores 0) (had.stores 0) c.requires.serves.user
+    does_stepped c.args.v p t asked None Done old (run_seen has.places c.count_step.new.self) had has first last (had.stores 0) (had.stores 0) c.requires.serves.user
     (ap not (ap (is_loaded had.places u) (sym (c.requires.going.held.tied.has u c.requires.serves.user.some c.requires.serves.user.within)) ∙ c.requires.loaded))
     says refl refl is was (λ told. refl) mine (λ told. others 0 (λ e. (let k = c.requires.serves.user.some in omega (arith, e, k)))) (λ x pos n. others x n)
     (c.settle.ensures.settled.tells ∙ worked.rest.tells) (c.settle.ensures.settled.sizes.rules.common ∙ worked.rest.rules.common)
@@ -174,7 +174,7 @@ returns-in-Ok-Done-clause-ended g c =
 pub returns-in-Ok-Done-clause-leaves : goal.returns-in-Ok-Done-clause-leaves
 returns-in-Ok-Done-clause-leaves g c =
     let had : Held = (g.C.Backing.state c.args.cores.now).held in
-    let old : Run = seen had.places c.args.self.now in
+    let old : Run = run_seen had.places c.args.self.now in
     let users : List User = c.args.self.now.sessions.items in
     let u : ℕ = c.args.v.user in
     let within : u - 1 < length users = omega (arith, c.requires.serves.user.some, c.requires.serves.user.within) in
@@ -194,7 +194,7 @@ returns-in-Ok-Done-clause-leaves g c =
     resized_from u u c.blocks-blocks.result (blocks_of p.inner) had at has settles.settled.sizes worked.sizes worked.rest.rules refl c.blocks-blocks.ensures.value in
     let are : c.count_step.new.self.sessions.items ≡ with_user u p users = ap (λ (r : Run). r.system.users) (c.count_step.ensures had.places) ∙ counted_users c.args.v t asked [] _ ∙ ap (λ (k : ℕ). set users k p) place in
     record {
-      counted = counted_none old (counted c.args.v t asked [] mid) (seen had.places c.count_step.new.self) _ _
+      counted = counted_none old (counted c.args.v t asked [] mid) (run_seen had.places c.count_step.new.self) _ _
           (c.count_step.ensures had.places ∙ (λ j. counted c.args.v t asked [] (with_users old set_users (c.reserve.ensures.items j))))
           (counted_moves c.args.v t asked None Done mid) (settles.none.calls ∙ worked.rest.calls);
       tied =
@@ -212,7 +212,7 @@ returns-in-Ok-Asks-clause-ended g c =
     let was : BackState = g.C.Backing.state c.args.cores.now in
     let now : BackState = g.C.Backing.state c.turn.new.self in
     let end : BackState = g.C.Backing.state c.share.new.cores in
-    let old : Run = seen was.held.places c.args.self.now in
+    let old : Run = run_seen was.held.places c.args.self.now in
     let users : List User = c.args.self.now.sessions.items in
     let u : ℕ = c.args.v.user in
     let within : u - 1 < length users = omega (arith, c.requires.serves.user.some, c.requires.serves.user.within) in
@@ -227,7 +227,7 @@ returns-in-Ok-Asks-clause-ended g c =
     let stay : after ≡ window = same_store tells window after over.had over.has over.was over.now over.does.store in
     let mid : Run = at_places now.held.places (with_users old (set users c.index.result c.turn.new.session) c.reserve.new.self.items) in
     let is : mid ≡ old = λ j. at_places (worked.places j) (with_users old (back j) (c.reserve.ensures.items j)) in
-    let new : Run = seen end.held.places c.share.new.self in
+    let new : Run = run_seen end.held.places c.share.new.self in
     let words = words_stay u was now worked stay in
     let kept : was.disk_faults ≤ now.disk_faults = c.in-Ok-Asks.ensures.turned.disk in
     ends_map c.share.result _ _ _ _ _ _ _ _

@@ -18,7 +18,7 @@ use Rattle.system_model.specs.Joined.{counted, at_places, stepped_to}
 use Rattle.system_model.proofs.JoinedLaws.{stepped_is}
 use Rattle.system_model.proofs.SwapLaws.{counted_moves}
 use Rattle.user_cores.specs.Backing.{Held, Shared}
-use Rattle.supervisor.specs.Seen.{seen}
+use Rattle.supervisor.specs.Seen.{run_seen}
 use Rattle.supervisor.specs.Steps.{IsTied}
 use Rattle.user_cores.specs.Settles.{IsResized, settled}
 use Rattle.supervisor.proofs.Counting.{counted_none}
@@ -52,7 +52,7 @@ returns-in-Ok-clause-ended g c =
     let same : user_at u users ≡ c.index_mut-session.result.now = get_or_default users (u - 1) nobody c.index_mut-session.result.now within ∙ ap (λ (k : ℕ). get_or users k c.index_mut-session.result.now) (sym place) ∙ sym c.index_mut-session.ensures.value in
     let mid : Held = (g.C.Backing.state c.share.new.self).held in
     let has : Held = (g.C.Backing.state c.settle.new.cores).held in
-    let old : Run = seen had.places c.args.self.now in
+    let old : Run = run_seen had.places c.args.self.now in
     let p : User = c.share.new.session in
     let t : Ending = c.in-Ok.field-0.step.ending in
     let asked : Bool = c.in-Ok.field-0.step.clock in
@@ -75,7 +75,7 @@ returns-in-Ok-clause-ended g c =
     let blocks : c.blocks-blocks.result ≡ blocks_of p.inner = c.blocks-blocks.ensures.value in
     let places : has.places ≡ places_after t u (blocks_of p.inner) had.places =
     c.settle.ensures.settled.places ∙ (λ j. places_after t u (blocks j) (worked.places j)) in
-    let is : seen has.places c.count_shared.new.self ≡ stepped_to c.args.v p t asked (common_entry made u reply) old =
+    let is : run_seen has.places c.count_shared.new.self ≡ stepped_to c.args.v p t asked (common_entry made u reply) old =
     ap (at_places has.places) (c.count_shared.ensures had.places)
     ∙ (λ j. at_places (places j) (counted c.args.v t asked (common_entry made (c.number.ensures.value j) reply) (with_users old (set users (place j) p) old.system.entries)))
     ∙ stepped_is c.args.v p t asked (common_entry made u reply) old c.requires.serves.user in
@@ -93,7 +93,7 @@ returns-in-Ok-clause-ended g c =
     c.settle.ensures.settled.others x n ∙ worked.rest.others x pos n in
     let zero : has.stores 0 ≡ mid.stores 0 =
     c.settle.ensures.settled.others 0 (λ e. (let a = c.requires.serves.user.some in omega (arith, a, e))) in
-    does_stepped c.args.v p t asked made reply old (seen has.places c.count_shared.new.self) had has first last common_first common_last c.requires.serves.user
+    does_stepped c.args.v p t asked made reply old (run_seen has.places c.count_shared.new.self) had has first last common_first common_last c.requires.serves.user
     (ap not (ap (is_loaded had.places u) (sym (c.requires.going.held.tied.has u c.requires.serves.user.some c.requires.serves.user.within)) ∙ c.requires.loaded))
     says
     (applied.answer ∙ ap (λ (q : ℕ). reply_to q applied.files c.args.op) quota)
@@ -112,7 +112,7 @@ returns-in-Ok-clause-leaves g c =
     let within : u - 1 < length users = omega (arith, c.requires.serves.user.some, c.requires.serves.user.within) in
     let place : c.index.result ≡ u - 1 = c.index.ensures.value in
     let same : user_at u users ≡ c.index_mut-session.result.now = get_or_default users (u - 1) nobody c.index_mut-session.result.now within ∙ ap (λ (k : ℕ). get_or users k c.index_mut-session.result.now) (sym place) ∙ sym c.index_mut-session.ensures.value in
-    let old : Run = seen had.places c.args.self.now in
+    let old : Run = run_seen had.places c.args.self.now in
     let mid : Held = (g.C.Backing.state c.share.new.self).held in
     let has : Held = (g.C.Backing.state c.settle.new.cores).held in
     let p : User = c.share.new.session in
@@ -125,7 +125,7 @@ returns-in-Ok-clause-leaves g c =
     let are : c.count_shared.new.self.sessions.items ≡ with_user u p users = ap (λ (r : Run). r.system.users) (c.count_shared.ensures had.places) ∙ counted_users c.args.v step.ending step.clock _ _ ∙ ap (λ (k : ℕ). set users k p) place in
     let at : Run = with_users old (set users c.index.result p) old.system.entries in
     record {
-      counted = counted_none old (counted c.args.v step.ending step.clock (common_entry (Some c.args.op) u c.in-Ok.field-0.reply) at) (seen had.places c.count_shared.new.self) _ _
+      counted = counted_none old (counted c.args.v step.ending step.clock (common_entry (Some c.args.op) u c.in-Ok.field-0.reply) at) (run_seen had.places c.count_shared.new.self) _ _
           (c.count_shared.ensures had.places ∙ (λ j. counted c.args.v step.ending step.clock (common_entry (Some c.args.op) (c.number.ensures.value j) c.in-Ok.field-0.reply) at))
           (counted_moves c.args.v step.ending step.clock (Some c.args.op) c.in-Ok.field-0.reply at) (settles.none.calls ∙ worked.rest.calls);
       tied =

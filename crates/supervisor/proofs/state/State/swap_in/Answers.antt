@@ -10,7 +10,7 @@ use Rattle.system_model.proofs.JoinedLaws.{brought_is}
 use Rattle.system_model.proofs.SwapLaws.{moved_moves}
 use Rattle.user_cores.specs.Backing.{Held}
 use Rattle.user_cores.specs.Swaps.{IsCutOff}
-use Rattle.supervisor.specs.Seen.{seen}
+use Rattle.supervisor.specs.Seen.{run_seen}
 use Rattle.supervisor.specs.Steps.{IsTied}
 use Rattle.supervisor.proofs.Counting.{counted_load}
 use Rattle.supervisor.proofs.Doing.{does_brought}
@@ -22,7 +22,7 @@ pub returns-in-Ok-clause-ended : goal.returns-in-Ok-clause-ended
 returns-in-Ok-clause-ended g c =
     let had : Held = (g.C.Backing.state c.args.cores.now).held in
     let has : Held = (g.C.Backing.state c.load.new.self).held in
-    let old : Run = seen had.places c.args.self.now in
+    let old : Run = run_seen had.places c.args.self.now in
     let users : List User = c.args.self.now.sessions.items in
     let u : ℕ = c.args.v.user in
     let size : size_of had.sizes u ≡ blocks_of (user_at u users).inner = c.requires.going.held.tied.has u c.requires.user.some c.requires.user.within in
@@ -34,11 +34,11 @@ returns-in-Ok-clause-ended g c =
     c.in-Ok.ensures.loads.done.fresh ∙ (λ j. clears had.places u (size j)) in
     let places : has.places ≡ loaded had.places u (blocks_of (user_at u users).inner) =
     c.in-Ok.ensures.loads.done.places ∙ (λ j. loaded had.places u (size j)) in
-    let is : seen has.places c.note_swap.new.self ≡ brought u old =
+    let is : run_seen has.places c.note_swap.new.self ≡ brought u old =
     ap (at_places has.places) (c.note_swap.ensures had.places)
     ∙ (λ j. at_places (places j) (moved u c.in-Ok.plan.dumped c.in-Ok.plan.read c.in-Ok.plan.fresh (with_users old users (c.reserve.ensures.items j))))
     ∙ brought_is u c.in-Ok.plan.dumped c.in-Ok.plan.read c.in-Ok.plan.fresh old dumped read fresh in
-    does_brought c.args.v old (seen has.places c.note_swap.new.self) had has c.requires.user
+    does_brought c.args.v old (run_seen has.places c.note_swap.new.self) had has c.requires.user
     (ap not (ap (is_loaded had.places u) (sym size) ∙ c.requires.absent))
     is (λ t x. c.in-Ok.ensures.loads.done.stores x) c.in-Ok.ensures.loads.done.tells c.in-Ok.ensures.loads.rules.common
 
@@ -60,7 +60,7 @@ pub returns-in-Ok-clause-leaves : goal.returns-in-Ok-clause-leaves
 returns-in-Ok-clause-leaves g c =
     let had : Held = (g.C.Backing.state c.args.cores.now).held in
     let has : Held = (g.C.Backing.state c.load.new.self).held in
-    let old : Run = seen had.places c.args.self.now in
+    let old : Run = run_seen had.places c.args.self.now in
     let users : List User = c.args.self.now.sessions.items in
     let u : ℕ = c.args.v.user in
     let dumped : ℕ = c.in-Ok.plan.dumped in
@@ -69,7 +69,7 @@ returns-in-Ok-clause-leaves g c =
     let loads = c.load.ensures.loads in
     let are : c.note_swap.new.self.sessions.items ≡ users = ap (λ (r : Run). r.system.users) (c.note_swap.ensures had.places) ∙ moved_users u dumped read fresh _ in
     record {
-      counted = counted_load old (moved u dumped read fresh old) (seen had.places c.note_swap.new.self) _ _ dumped read
+      counted = counted_load old (moved u dumped read fresh old) (run_seen had.places c.note_swap.new.self) _ _ dumped read
           (c.note_swap.ensures had.places ∙ (λ j. moved u dumped read fresh (with_users old users (c.reserve.ensures.items j))))
           (moved_moves u dumped read fresh old) c.in-Ok.ensures.loads.done.calls;
       tied = subst (λ (us : List User). IsTied us has) (sym are) (tied_same users 0 had has (resized_none 0 had has loads.sizes loads.rules) c.requires.going.held.tied);

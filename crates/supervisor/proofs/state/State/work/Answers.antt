@@ -11,7 +11,7 @@ use Rattle.system_model.specs.Cases.{user_at, with_user}
 use Rattle.system_model.specs.Runs.{passed, elapsed}
 use Rattle.system_model.proofs.PassLaws.{elapsed_is, elapsed_users, elapsed_entries}
 use Rattle.user_cores.specs.Backing.{Held}
-use Rattle.supervisor.specs.Seen.{seen}
+use Rattle.supervisor.specs.Seen.{run_seen}
 use Rattle.supervisor.specs.Steps.{IsTied}
 use Rattle.supervisor.proofs.Passing.{does_many, served_next}
 use Rattle.image_map.specs.Images.{size_of}
@@ -24,7 +24,7 @@ pub returns-clause-works : goal.returns-clause-works
 returns-clause-works g c =
     let had : Held = (g.C.Backing.state c.args.cores.now).held in
     let has : Held = (g.C.Backing.state c.advance-ticks.new.self).held in
-    let old : Run = seen had.places c.args.self.now in
+    let old : Run = run_seen had.places c.args.self.now in
     let users : List User = c.args.self.now.sessions.items in
     let u : ℕ = c.args.v.user in
     let n : ℕ = c.advance-ticks.result in
@@ -34,15 +34,15 @@ returns-clause-works g c =
     let within : u - 1 < length users = omega (arith, c.requires.first.user.some, c.requires.first.user.within) in
     let place : c.index.result ≡ u - 1 = c.index.ensures.value in
     let same : user_at u users ≡ c.index_mut-session.result.now = get_or_default users (u - 1) nobody c.index_mut-session.result.now within ∙ ap (λ (k : ℕ). get_or users k c.index_mut-session.result.now) (sym place) ∙ sym c.index_mut-session.ensures.value in
-    let is : seen has.places c.count_ticks.new.self ≡ passed n c.args.v p old =
-    ap (λ (q : Places). seen q c.count_ticks.new.self) c.advance-ticks.ensures.advanced.worked.places ∙ c.count_ticks.ensures had.places
+    let is : run_seen has.places c.count_ticks.new.self ≡ passed n c.args.v p old =
+    ap (λ (q : Places). run_seen q c.count_ticks.new.self) c.advance-ticks.ensures.advanced.worked.places ∙ c.count_ticks.ensures had.places
     ∙ (λ j. elapsed n c.args.v (with_users old (set users (place j) p) old.system.entries)) ∙ elapsed_is n c.args.v p old in
     let most : n ≤ c.args.stretch.most = c.advance-ticks.ensures.most in
     let are : c.count_ticks.new.self.sessions.items ≡ with_user u p users = ap (λ (r : Run). r.system.users) (c.count_ticks.ensures had.places) ∙ elapsed_users c.advance-ticks.result c.args.v _ ∙ ap (λ (k : ℕ). set users k p) place in
     let ticks = c.advance-ticks.ensures in
     record {
       many =
-          does_many c.args.stretch.limit n c.args.next.level (record { user = c.args.next.user; left = c.args.next.left; since = since_in (chosen old.system.plan.levels) }) c.args.v p old (seen has.places c.count_ticks.new.self) had has window after.core
+          does_many c.args.stretch.limit n c.args.next.level (record { user = c.args.next.user; left = c.args.next.left; since = since_in (chosen old.system.plan.levels) }) c.args.v p old (run_seen has.places c.count_ticks.new.self) had has window after.core
           c.requires.first.user c.requires.first.serves c.requires.first.first c.requires.first.mine
           (λ h. let k = c.requires.spare.left in omega (arith, k, most))
           (let k = c.requires.spare.up in omega (arith, k, most))
@@ -72,15 +72,15 @@ pub returns-clause-ready : goal.returns-clause-ready
 returns-clause-ready g c = λ fewer.
     let had : Held = (g.C.Backing.state c.args.cores.now).held in
     let has : Held = (g.C.Backing.state c.advance-ticks.new.self).held in
-    let old : Run = seen had.places c.args.self.now in
+    let old : Run = run_seen had.places c.args.self.now in
     let users : List User = c.args.self.now.sessions.items in
     let u : ℕ = c.args.v.user in
     let n : ℕ = c.advance-ticks.result in
     let p : User = c.advance-ticks.new.session in
     let place : c.index.result ≡ u - 1 = c.index.ensures.value in
-    let is : seen has.places c.count_ticks.new.self ≡ passed n c.args.v p old =
-    ap (λ (q : Places). seen q c.count_ticks.new.self) c.advance-ticks.ensures.advanced.worked.places ∙ c.count_ticks.ensures had.places
+    let is : run_seen has.places c.count_ticks.new.self ≡ passed n c.args.v p old =
+    ap (λ (q : Places). run_seen q c.count_ticks.new.self) c.advance-ticks.ensures.advanced.worked.places ∙ c.count_ticks.ensures had.places
     ∙ (λ j. elapsed n c.args.v (with_users old (set users (place j) p) old.system.entries)) ∙ elapsed_is n c.args.v p old in
-    served_next c.args.stretch.limit c.args.stretch.most n c.args.next.level (record { user = c.args.next.user; left = c.args.next.left; since = since_in (chosen old.system.plan.levels) }) c.args.v p c.args.stretch.still old (seen has.places c.count_ticks.new.self) has
+    served_next c.args.stretch.limit c.args.stretch.most n c.args.next.level (record { user = c.args.next.user; left = c.args.next.left; since = since_in (chosen old.system.plan.levels) }) c.args.v p c.args.stretch.still old (run_seen has.places c.count_ticks.new.self) has
     is (grind (arith, nat_tests, fewer)) c.requires.first.first c.requires.first.mine c.requires.spare.quiet c.requires.spare.low c.requires.spare.still
     ((λ j. is_loaded (c.advance-ticks.ensures.advanced.worked.places j) u (size_of (c.advance-ticks.ensures.advanced.worked.sizes j) u)) ∙ c.requires.loaded)

@@ -6,7 +6,7 @@ use Rattle.track_directories.specs.Directories.{lists_from}
 use Rattle.system_model.specs.Run.{Run}
 use Rattle.system_model.specs.Cases.{closed}
 use Rattle.system_model.proofs.CaseLaws.{closes}
-use Rattle.supervisor.specs.Seen.{Bare, seen, run_with, without_files}
+use Rattle.supervisor.specs.Seen.{Bare, run_seen, run_with, without_files}
 use Rattle.supervisor.specs.Closes.{record_with}
 use Rattle.supervisor.proofs.Closing.{files_in, closed_with}
 use Rattle.supervisor.proofs.supervisor.Supervisor.close.Goals as goal
@@ -15,7 +15,7 @@ pub returns-in-Ok-clause-closes : goal.returns-in-Ok-clause-closes
 returns-in-Ok-clause-closes g c =
     let own : List (List FileBody) = c.in-Ok.lists.own.items in
     let common : List FileBody = c.in-Ok.lists.common in
-    let is : (places : Places) → seen places c.close.new.self ≡ closed (run_with places c.args.self) =
+    let is : (places : Places) → run_seen places c.close.new.self ≡ closed (run_with places c.args.self) =
     λ places. c.in_ok-close.ensures.ok places ∙ ap (λ (b : Bare). closed (run_with places b)) c.self.view_is in
     let so : (places : Places) → c.in_ok-record_of-in-Ok.field-0 ≡ record_with own common (closed (run_with places c.args.self)) =
     λ places. c.in_ok-record_of-in-Ok.ensures ∙ ap (record_with own common) (is places) in

@@ -4,7 +4,7 @@ use Rattle.system_model.specs.Run.{Run}
 use Rattle.system_model.specs.Sound.{Sound}
 use Rattle.plan_model.specs.Loads.{no_places}
 use Rattle.user_cores.specs.Backing.{Held}
-use Rattle.supervisor.specs.Seen.{seen}
+use Rattle.supervisor.specs.Seen.{run_seen}
 use Rattle.supervisor.proofs.Counting.{counted_same, counted_on}
 use Rattle.supervisor.proofs.Doing.{does_fall}
 use Rattle.supervisor.proofs.Serving.{fails_map, fails_both, fails_to}
@@ -23,9 +23,9 @@ pub steps-init : goal.steps-init
 steps-init g c =
     record {
       leads = λ told. refl;
-      part = part_none c.args.limit (seen (g.C.Backing.state c.args.cores.now).held.places c.args.self.now.state) (g.C.Backing.state c.args.cores.now).held;
+      part = part_none c.args.limit (run_seen (g.C.Backing.state c.args.cores.now).held.places c.args.self.now.state) (g.C.Backing.state c.args.cores.now).held;
       lead = λ told. refl;
-      texts = texts_none c.args.limit (seen (g.C.Backing.state c.args.cores.now).held.places c.args.self.now.state) (g.C.Backing.state c.args.cores.now).held (texts_of c.args.self.now.state.sessions.items c.args.self.now.texts);
+      texts = texts_none c.args.limit (run_seen (g.C.Backing.state c.args.cores.now).held.places c.args.self.now.state) (g.C.Backing.state c.args.cores.now).held (texts_of c.args.self.now.state.sessions.items c.args.self.now.texts);
       grows = grow_none _;
       seats = refl;
       matched = c.requires.watch.matched;
@@ -46,7 +46,7 @@ run-ready-requires-clause-going g c =
     let leaves = c.in-Ok.ensures.leaves in
     record {
       usable = leaves.usable;
-      held = held_on c.args.limit (seen had.places c.steps.self.state) (seen mid.places c.step.new.self.state) had mid c.steps-test.true c.steps.invariant.held leaves.tied c.in-Ok.ensures.ended;
+      held = held_on c.args.limit (run_seen had.places c.steps.self.state) (run_seen mid.places c.step.new.self.state) had mid c.steps-test.true c.steps.invariant.held leaves.tied c.in-Ok.ensures.ended;
     }
 
 pub steps-smaller : goal.steps-smaller
@@ -54,8 +54,8 @@ steps-smaller g c =
     let had : Held = (g.C.Backing.state c.steps.cores).held in
     let mid : Held = (g.C.Backing.state c.step.new.cores).held in
     let has : Held = (g.C.Backing.state c.run-ready.new.cores).held in
-    let down = does_fall c.args.limit (seen had.places c.steps.self.state) (seen mid.places c.step.new.self.state) had mid c.steps-test.true c.in-Ok.ensures.ended in
-    let more = pass_falls c.args.limit (seen mid.places c.step.new.self.state) (seen has.places c.run-ready.new.self) mid has c.run-ready.ensures.works.many in
+    let down = does_fall c.args.limit (run_seen had.places c.steps.self.state) (run_seen mid.places c.step.new.self.state) had mid c.steps-test.true c.in-Ok.ensures.ended in
+    let more = pass_falls c.args.limit (run_seen mid.places c.step.new.self.state) (run_seen has.places c.run-ready.new.self) mid has c.run-ready.ensures.works.many in
     omega (arith, down, more)
 
 pub steps-preserved : goal.steps-preserved
@@ -64,10 +64,10 @@ steps-preserved g c =
     let had : Held = (g.C.Backing.state c.steps.cores).held in
     let mid : Held = (g.C.Backing.state c.step.new.cores).held in
     let has : Held = (g.C.Backing.state c.run-ready.new.cores).held in
-    let start : Run = seen first.places c.args.self.now.state in
-    let old : Run = seen had.places c.steps.self.state in
-    let next : Run = seen mid.places c.step.new.self.state in
-    let new : Run = seen has.places c.run-ready.new.self in
+    let start : Run = run_seen first.places c.args.self.now.state in
+    let old : Run = run_seen had.places c.steps.self.state in
+    let next : Run = run_seen mid.places c.step.new.self.state in
+    let new : Run = run_seen has.places c.run-ready.new.self in
     let inv = c.steps.invariant in
     let up = c.steps-test.true in
     let done = c.in-Ok.ensures.ended in
@@ -102,15 +102,15 @@ returns-in-Err-clause-ended g c =
     let first : Held = (g.C.Backing.state c.args.cores.now).held in
     let had : Held = (g.C.Backing.state c.steps.cores).held in
     let has : Held = (g.C.Backing.state c.step.new.cores).held in
-    let start : Run = seen first.places c.args.self.now.state in
-    let old : Run = seen had.places c.steps.self.state in
-    let new : Run = seen has.places c.step.new.self.state in
+    let start : Run = run_seen first.places c.args.self.now.state in
+    let old : Run = run_seen had.places c.steps.self.state in
+    let new : Run = run_seen has.places c.step.new.self.state in
     let inv = c.steps.invariant in
     fails_map c.in-Err.fault _ _ _ _ _ _
     (λ s. part_but_commons c.args.limit start old new first had has inv.tells inv.part s)
-    (λ f. (stops_at_load c.args.limit start old (seen no_places c.step.new.self.state) first had _ _ _ inv.part c.steps-test.true inv.held.sound inv.counted f.2 (ap (λ (r : Run). r.system.entries) f.0) (ap (λ (r : Run). r.system.users) f.0) (ap (λ (r : Run). r.system.clock) f.0), search rules))
+    (λ f. (stops_at_load c.args.limit start old (run_seen no_places c.step.new.self.state) first had _ _ _ inv.part c.steps-test.true inv.held.sound inv.counted f.2 (ap (λ (r : Run). r.system.entries) f.0) (ap (λ (r : Run). r.system.users) f.0) (ap (λ (r : Run). r.system.clock) f.0), search rules))
     (λ d. (
-      part_shown c.args.limit start old (seen no_places c.step.new.self.state) first had inv.part (ap (λ (r : Run). r.system.entries) d.0) (ap (λ (r : Run). r.system.users) d.0) (ap (λ (r : Run). r.system.clock) d.0),
+      part_shown c.args.limit start old (run_seen no_places c.step.new.self.state) first had inv.part (ap (λ (r : Run). r.system.entries) d.0) (ap (λ (r : Run). r.system.users) d.0) (ap (λ (r : Run). r.system.clock) d.0),
       rose_later _ _ _ inv.disk d.1,
     ))
     c.in-Err.ensures.ended
@@ -119,27 +119,27 @@ pub returns-clause-ended : goal.returns-clause-ended
 returns-clause-ended g c =
     let first : Held = (g.C.Backing.state c.args.cores.now).held in
     let had : Held = (g.C.Backing.state c.steps.cores).held in
-    run_done c.args.limit (seen first.places c.args.self.now.state) (seen had.places c.steps.self.state) first had (omega (arith, c.steps-test.false)) c.steps.invariant.leads
+    run_done c.args.limit (run_seen first.places c.args.self.now.state) (run_seen had.places c.steps.self.state) first had (omega (arith, c.steps-test.false)) c.steps.invariant.leads
 
 pub returns-clause-texts : goal.returns-clause-texts
 returns-clause-texts g c =
     let first : Held = (g.C.Backing.state c.args.cores.now).held in
     let had : Held = (g.C.Backing.state c.steps.cores).held in
-    texts_end c.args.limit (seen first.places c.args.self.now.state) (seen had.places c.steps.self.state) first had _ _ (omega (arith, c.steps-test.false)) c.steps.invariant.lead
+    texts_end c.args.limit (run_seen first.places c.args.self.now.state) (run_seen had.places c.steps.self.state) first had _ _ (omega (arith, c.steps-test.false)) c.steps.invariant.lead
 
 pub returns-in-Err-clause-texts : goal.returns-in-Err-clause-texts
 returns-in-Err-clause-texts g c =
     let first : Held = (g.C.Backing.state c.args.cores.now).held in
     let had : Held = (g.C.Backing.state c.steps.cores).held in
     let has : Held = (g.C.Backing.state c.step.new.cores).held in
-    let start : Run = seen first.places c.args.self.now.state in
-    let old : Run = seen had.places c.steps.self.state in
-    let new : Run = seen has.places c.step.new.self.state in
+    let start : Run = run_seen first.places c.args.self.now.state in
+    let old : Run = run_seen had.places c.steps.self.state in
+    let new : Run = run_seen has.places c.step.new.self.state in
     let inv = c.steps.invariant in
     fails_both c.in-Err.fault _ _ _ _ _ _ _ _ _
-    (λ s same. texts_stop c.args.limit start old (seen no_places c.step.new.self.state) first had _ _ _ inv.texts same (ap (λ (r : Run). r.system.entries) s.run) (ap (λ (r : Run). r.system.users) s.run) (ap (λ (r : Run). r.system.clock) s.run))
-    (λ f same. texts_stop c.args.limit start old (seen no_places c.step.new.self.state) first had _ _ _ inv.texts same (ap (λ (r : Run). r.system.entries) f.0) (ap (λ (r : Run). r.system.users) f.0) (ap (λ (r : Run). r.system.clock) f.0))
-    (λ d same. texts_stop c.args.limit start old (seen no_places c.step.new.self.state) first had _ _ _ inv.texts same (ap (λ (r : Run). r.system.entries) d.0) (ap (λ (r : Run). r.system.users) d.0) (ap (λ (r : Run). r.system.clock) d.0))
+    (λ s same. texts_stop c.args.limit start old (run_seen no_places c.step.new.self.state) first had _ _ _ inv.texts same (ap (λ (r : Run). r.system.entries) s.run) (ap (λ (r : Run). r.system.users) s.run) (ap (λ (r : Run). r.system.clock) s.run))
+    (λ f same. texts_stop c.args.limit start old (run_seen no_places c.step.new.self.state) first had _ _ _ inv.texts same (ap (λ (r : Run). r.system.entries) f.0) (ap (λ (r : Run). r.system.users) f.0) (ap (λ (r : Run). r.system.clock) f.0))
+    (λ d same. texts_stop c.args.limit start old (run_seen no_places c.step.new.self.state) first had _ _ _ inv.texts same (ap (λ (r : Run). r.system.entries) d.0) (ap (λ (r : Run). r.system.users) d.0) (ap (λ (r : Run). r.system.clock) d.0))
     c.in-Err.ensures.ended c.in-Err.ensures.texts
 
 pub returns-clause-leaves : goal.returns-clause-leaves
@@ -152,7 +152,7 @@ returns-clause-leaves g c =
       tells = inv.tells;
       held = inv.held;
       usable = inv.usable;
-      sound = sound_places no_places (seen (g.C.Backing.state c.steps.cores).held.places c.steps.self.state) inv.held.sound;
+      sound = sound_places no_places (run_seen (g.C.Backing.state c.steps.cores).held.places c.steps.self.state) inv.held.sound;
       matched = inv.matched;
       keeps = inv.keeps;
       faults_grow = inv.faults_grow;
@@ -163,8 +163,8 @@ pub returns-in-Err-clause-leaves : goal.returns-in-Err-clause-leaves
 returns-in-Err-clause-leaves g c =
     let had : Held = (g.C.Backing.state c.steps.cores).held in
     let has : Held = (g.C.Backing.state c.step.new.cores).held in
-    let old : Run = seen had.places c.steps.self.state in
-    let new : Run = seen has.places c.step.new.self.state in
+    let old : Run = run_seen had.places c.steps.self.state in
+    let new : Run = run_seen has.places c.step.new.self.state in
     let inv = c.steps.invariant in
     let stopped = c.in-Err.ensures.ended in
     let leaves = c.in-Err.ensures.leaves in

@@ -4,7 +4,7 @@ use Rattle.system_model.specs.Run.{Run}
 use Rattle.system_model.specs.Sound.{Sound}
 use Rattle.plan_model.specs.Loads.{no_places}
 use Rattle.user_cores.specs.Backing.{Held}
-use Rattle.supervisor.specs.Seen.{seen}
+use Rattle.supervisor.specs.Seen.{run_seen}
 use Rattle.supervisor.specs.Steps.{IsHeld}
 use Rattle.supervisor.specs.Shows.{texts_of, rows_of}
 use Rattle.supervisor.proofs.Counting.{counted_same, counted_on}
@@ -24,7 +24,7 @@ run-requires-clause-going g c =
     let leaves = c.in-Ok.ensures.leaves in
     record {
       usable = leaves.usable;
-      held = held_on c.args.limit (seen had.places c.args.self.now.state) (seen mid.places c.look.new.self.state) had mid c.requires.time.early c.requires.watch.going.held leaves.tied c.in-Ok.ensures.ended;
+      held = held_on c.args.limit (run_seen had.places c.args.self.now.state) (run_seen mid.places c.look.new.self.state) had mid c.requires.time.early c.requires.watch.going.held leaves.tied c.in-Ok.ensures.ended;
     }
 
 pub returns-clause-once : goal.returns-clause-once
@@ -32,9 +32,9 @@ returns-clause-once g c =
     let had : Held = (g.C.Backing.state c.args.cores.now).held in
     let mid : Held = (g.C.Backing.state c.look.new.cores).held in
     let has : Held = (g.C.Backing.state c.run.new.cores).held in
-    let old : Run = seen had.places c.args.self.now.state in
-    let next : Run = seen mid.places c.look.new.self.state in
-    let new : Run = seen has.places c.run.new.self in
+    let old : Run = run_seen had.places c.args.self.now.state in
+    let next : Run = run_seen mid.places c.look.new.self.state in
+    let new : Run = run_seen has.places c.run.new.self in
     let done = c.in-Ok.ensures.ended in
     let many = c.run.ensures.works.many in
     let rows : List Shown = rows_of c.look.new.self.texts in
@@ -52,9 +52,9 @@ returns-clause-leaves g c =
     let had : Held = (g.C.Backing.state c.args.cores.now).held in
     let mid : Held = (g.C.Backing.state c.look.new.cores).held in
     let has : Held = (g.C.Backing.state c.run.new.cores).held in
-    let old : Run = seen had.places c.args.self.now.state in
-    let next : Run = seen mid.places c.look.new.self.state in
-    let new : Run = seen has.places c.run.new.self in
+    let old : Run = run_seen had.places c.args.self.now.state in
+    let next : Run = run_seen mid.places c.look.new.self.state in
+    let new : Run = run_seen has.places c.run.new.self in
     let done = c.in-Ok.ensures.ended in
     let first = c.in-Ok.ensures.leaves in
     let works = c.run.ensures.works in
@@ -80,17 +80,17 @@ pub returns-in-Err-clause-fails : goal.returns-in-Err-clause-fails
 returns-in-Err-clause-fails g c =
     let had : Held = (g.C.Backing.state c.args.cores.now).held in
     let has : Held = (g.C.Backing.state c.look.new.cores).held in
-    let old : Run = seen had.places c.args.self.now.state in
+    let old : Run = run_seen had.places c.args.self.now.state in
     let part = part_none c.args.limit old had in
     fails_map c.in-Err.fault _ _ _ _ _ _
-    (λ s. part_but_commons c.args.limit old old (seen has.places c.look.new.self.state) had had has refl part s)
+    (λ s. part_but_commons c.args.limit old old (run_seen has.places c.look.new.self.state) had had has refl part s)
     (λ f. (
-      stops_at_load c.args.limit old old (seen no_places c.look.new.self.state) had had _ _ _ part c.requires.time.early c.requires.watch.going.held.sound
+      stops_at_load c.args.limit old old (run_seen no_places c.look.new.self.state) had had _ _ _ part c.requires.time.early c.requires.watch.going.held.sound
           (counted_same _ _ _ _ refl refl) f.2 (ap (λ (r : Run). r.system.entries) f.0) (ap (λ (r : Run). r.system.users) f.0) (ap (λ (r : Run). r.system.clock) f.0),
       f.1,
     ))
     (λ d. (
-      part_shown c.args.limit old old (seen no_places c.look.new.self.state) had had part (ap (λ (r : Run). r.system.entries) d.0) (ap (λ (r : Run). r.system.users) d.0) (ap (λ (r : Run). r.system.clock) d.0),
+      part_shown c.args.limit old old (run_seen no_places c.look.new.self.state) had had part (ap (λ (r : Run). r.system.entries) d.0) (ap (λ (r : Run). r.system.users) d.0) (ap (λ (r : Run). r.system.clock) d.0),
       d.1,
     ))
     c.in-Err.ensures.ended
@@ -98,8 +98,8 @@ returns-in-Err-clause-fails g c =
 pub returns-in-Err-clause-fails_texts : goal.returns-in-Err-clause-fails_texts
 returns-in-Err-clause-fails_texts g c =
     let had : Held = (g.C.Backing.state c.args.cores.now).held in
-    let old : Run = seen had.places c.args.self.now.state in
-    let new : Run = seen no_places c.look.new.self.state in
+    let old : Run = run_seen had.places c.args.self.now.state in
+    let new : Run = run_seen no_places c.look.new.self.state in
     let x = texts_of c.args.self.now.state.sessions.items c.args.self.now.texts in
     let none = texts_none c.args.limit old had x in
     fails_both c.in-Err.fault _ _ _ _ _ _ _ _ _
@@ -112,8 +112,8 @@ pub returns-in-Err-clause-leaves : goal.returns-in-Err-clause-leaves
 returns-in-Err-clause-leaves g c =
     let had : Held = (g.C.Backing.state c.args.cores.now).held in
     let has : Held = (g.C.Backing.state c.look.new.cores).held in
-    let old : Run = seen had.places c.args.self.now.state in
-    let new : Run = seen has.places c.look.new.self.state in
+    let old : Run = run_seen had.places c.args.self.now.state in
+    let new : Run = run_seen has.places c.look.new.self.state in
     let held = c.requires.watch.going.held in
     let stopped = c.in-Err.ensures.ended in
     let leaves = c.in-Err.ensures.leaves in

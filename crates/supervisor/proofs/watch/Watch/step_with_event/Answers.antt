@@ -6,7 +6,7 @@ use Rattle.user_cores.specs.Backing.{Held}
 use Rattle.console_texts.specs.Parts.{Shown, text_of}
 use Rattle.console_texts.specs.Following.{AreShown, followed}
 use Rattle.console_texts.specs.Watching.{transcripts_of, refused_by}
-use Rattle.supervisor.specs.Seen.{seen}
+use Rattle.supervisor.specs.Seen.{run_seen}
 use Rattle.supervisor.specs.Shows.{GoesOn, rows_of}
 use Rattle.supervisor.proofs.Doing.{does_sound}
 use Rattle.supervisor.proofs.Watching.{lengths_of, goes_by, told_by, event_rows, event_knows, event_same, some_due}
@@ -17,14 +17,14 @@ lengths-after-requires g c =
     let had : Held = (g.C.Backing.state c.args.cores.now).held in
     let has : Held = (g.C.Backing.state c.step_at.new.cores).held in
     subst (λ (us : List User). length us ≤ 30) (sym c.as_slice-2.ensures.value)
-    (does_sound c.args.limit (seen had.places c.args.self.now.state) (seen has.places c.step_at.new.self) had has c.requires.time.early c.requires.watch.going.held.sound c.in-Ok.ensures.ended).few
+    (does_sound c.args.limit (run_seen had.places c.args.self.now.state) (run_seen has.places c.step_at.new.self) had has c.requires.time.early c.requires.watch.going.held.sound c.in-Ok.ensures.ended).few
 
 pub returns-clause-texts : goal.returns-clause-texts
 returns-clause-texts g c =
     let had : Held = (g.C.Backing.state c.args.cores.now).held in
     let has : Held = (g.C.Backing.state c.step_at.new.cores).held in
-    let old : Run = seen had.places c.args.self.now.state in
-    let new : Run = seen has.places c.step_at.new.self in
+    let old : Run = run_seen had.places c.args.self.now.state in
+    let new : Run = run_seen has.places c.step_at.new.self in
     let rows : List Shown = rows_of c.args.self.now.texts in
     let before : c.as_slice-5.result.now ≡ lengths_of old.system.users = c.as_slice-5.ensures.value ∙ c.lengths-before.ensures ∙ ap lengths_of c.as_slice.ensures.value in
     let after : c.as_slice-6.result.now ≡ lengths_of new.system.users = c.as_slice-6.ensures.value ∙ c.lengths-after.ensures ∙ ap lengths_of c.as_slice-2.ensures.value in
@@ -45,8 +45,8 @@ pub returns-clause-matched : goal.returns-clause-matched
 returns-clause-matched g c =
     let had : Held = (g.C.Backing.state c.args.cores.now).held in
     let has : Held = (g.C.Backing.state c.step_at.new.cores).held in
-    let old : Run = seen had.places c.args.self.now.state in
-    let new : Run = seen has.places c.step_at.new.self in
+    let old : Run = run_seen had.places c.args.self.now.state in
+    let new : Run = run_seen has.places c.step_at.new.self in
     let rows : List Shown = rows_of c.args.self.now.texts in
     let before : c.as_slice-5.result.now ≡ lengths_of old.system.users = c.as_slice-5.ensures.value ∙ c.lengths-before.ensures ∙ ap lengths_of c.as_slice.ensures.value in
     let after : c.as_slice-6.result.now ≡ lengths_of new.system.users = c.as_slice-6.ensures.value ∙ c.lengths-after.ensures ∙ ap lengths_of c.as_slice-2.ensures.value in

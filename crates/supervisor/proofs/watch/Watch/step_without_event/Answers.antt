@@ -6,7 +6,7 @@ use Rattle.user_cores.specs.Backing.{Held}
 use Rattle.console_texts.specs.Parts.{Shown, text_of}
 use Rattle.console_texts.specs.Following.{AreShown, settled_in}
 use Rattle.console_texts.specs.Watching.{transcripts_of}
-use Rattle.supervisor.specs.Seen.{seen}
+use Rattle.supervisor.specs.Seen.{run_seen}
 use Rattle.supervisor.specs.Shows.{GoesOn, rows_of}
 use Rattle.supervisor.proofs.Doing.{does_sound}
 use Rattle.supervisor.proofs.Watching.{lengths_of, goes_by, told_by, rest_rows, rest_knows, rest_same, served_goes, served_told}
@@ -17,14 +17,14 @@ settle_texts-requires g c =
     let had : Held = (g.C.Backing.state c.args.cores.now).held in
     let has : Held = (g.C.Backing.state c.step_on.new.cores).held in
     subst (λ (us : List User). length us ≤ 30) (sym c.as_slice-2.ensures.value)
-    (does_sound c.args.limit (seen had.places c.args.self.now.state) (seen has.places c.step_on.new.self) had has c.requires.time.early c.requires.watch.going.held.sound c.in-Ok.ensures.ended).few
+    (does_sound c.args.limit (run_seen had.places c.args.self.now.state) (run_seen has.places c.step_on.new.self) had has c.requires.time.early c.requires.watch.going.held.sound c.in-Ok.ensures.ended).few
 
 pub returns-clause-texts : goal.returns-clause-texts
 returns-clause-texts g c =
     let had : Held = (g.C.Backing.state c.args.cores.now).held in
     let has : Held = (g.C.Backing.state c.step_on.new.cores).held in
-    let old : Run = seen had.places c.args.self.now.state in
-    let new : Run = seen has.places c.step_on.new.self in
+    let old : Run = run_seen had.places c.args.self.now.state in
+    let new : Run = run_seen has.places c.step_on.new.self in
     let rows : List Shown = rows_of c.args.self.now.texts in
     let is : rows_of c.settle_texts.new.texts ≡ map (rest_rows (lengths_of new.system.users) new) rows =
     c.settle_texts.ensures ∙ ap (λ (cs : List Console). map (settled_in cs (lengths_of c.as_slice-2.result.now)) rows) c.as_slice.ensures.value
@@ -36,8 +36,8 @@ pub returns-clause-matched : goal.returns-clause-matched
 returns-clause-matched g c =
     let had : Held = (g.C.Backing.state c.args.cores.now).held in
     let has : Held = (g.C.Backing.state c.step_on.new.cores).held in
-    let old : Run = seen had.places c.args.self.now.state in
-    let new : Run = seen has.places c.step_on.new.self in
+    let old : Run = run_seen had.places c.args.self.now.state in
+    let new : Run = run_seen has.places c.step_on.new.self in
     let rows : List Shown = rows_of c.args.self.now.texts in
     let is : rows_of c.settle_texts.new.texts ≡ map (rest_rows (lengths_of new.system.users) new) rows =
     c.settle_texts.ensures ∙ ap (λ (cs : List Console). map (settled_in cs (lengths_of c.as_slice-2.result.now)) rows) c.as_slice.ensures.value
@@ -49,10 +49,10 @@ pub returns-then-is_some-clause-texts : goal.returns-then-is_some-clause-texts
 returns-then-is_some-clause-texts g c =
     let had : Held = (g.C.Backing.state c.args.cores.now).held in
     let has : Held = (g.C.Backing.state c.step_on.new.cores).held in
-    served_goes c.args.limit (seen had.places c.args.self.now.state) (seen has.places c.step_on.new.self) (rows_of c.args.self.now.texts) c.requires.quiet c.requires.watch.going.held.sound (search rules) c.requires.watch.matched
+    served_goes c.args.limit (run_seen had.places c.args.self.now.state) (run_seen has.places c.step_on.new.self) (rows_of c.args.self.now.texts) c.requires.quiet c.requires.watch.going.held.sound (search rules) c.requires.watch.matched
 
 pub returns-then-is_some-clause-matched : goal.returns-then-is_some-clause-matched
 returns-then-is_some-clause-matched g c =
     let had : Held = (g.C.Backing.state c.args.cores.now).held in
     let has : Held = (g.C.Backing.state c.step_on.new.cores).held in
-    served_told c.args.limit (seen had.places c.args.self.now.state) (seen has.places c.step_on.new.self) had has (rows_of c.args.self.now.texts) c.requires.quiet c.requires.watch.going.held.sound (search rules) c.requires.watch.matched c.in-Ok.ensures.ended
+    served_told c.args.limit (run_seen had.places c.args.self.now.state) (run_seen has.places c.step_on.new.self) had has (rows_of c.args.self.now.texts) c.requires.quiet c.requires.watch.going.held.sound (search rules) c.requires.watch.matched c.in-Ok.ensures.ended

@@ -7,7 +7,7 @@ use Rattle.track_store.specs.declared.tracks.Tracks.{Tracks}
 use Rattle.file_tracks.specs.Stored.{IsDirectory}
 use Rattle.file_tracks.specs.Directories.{AreDirectories}
 use Rattle.file_tracks.specs.Lying.{LieOn}
-use Rattle.file_tracks.specs.Seen.{seen}
+use Rattle.file_tracks.specs.Seen.{files_seen}
 use Rattle.file_tracks.specs.declared.table.TrackTable.{TrackTable}
 use Rattle.track_directories.specs.Directories.{lists_from}
 use Rattle.file_tracks.specs.Tracked.{tracked}
@@ -46,7 +46,7 @@ returns-clause-lists g c = λ told.
     let own = take (length xs - 1) (drop 1 xs) in
     let split = sym c.as_slice.ensures.value ∙ tables_split xs d c.in-len1-up.len_at_least c.common-item.is in
     lists_seen s.contents own c.in_ok-own.own.items told c.in_ok-own.ensures.files
-    ∙ lists_are (λ (t : TrackTable). seen s.contents t.files.items) d own
+    ∙ lists_are (λ (t : TrackTable). files_seen s.contents t.files.items) d own
     ∙ ap (λ (ds : List TrackTable). lists_from 1 (length ds - 1) (files_at s.contents ds)) (sym split)
 
 pub returns-clause-common : goal.returns-clause-common

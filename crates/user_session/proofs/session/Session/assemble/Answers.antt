@@ -4,8 +4,6 @@ use Rattle.file_map.specs.Known.{known}
 use Rattle.cmd_fap.specs.declared.assembly.Assembly.TheVariants.{Deck, Module}
 use Rattle.cmd_fap.specs.Assemblies.{assembly_got}
 use Rattle.user_model.specs.Commands.{cards_name}
-use Rattle.user_model.specs.User.{in_store}
-use Rattle.user_session.specs.Stores.{stored}
 use Rattle.user_session.proofs.Assemblies.{deck_put, relocatable_put}
 use Rattle.user_session.proofs.Enters.{ok_map}
 use Rattle.user_session.proofs.session.Session.assemble.Goals as goal
@@ -25,7 +23,7 @@ returns-in-Ok-Deck-clause-row g c = λ core size.
       has = h.0;
       was = told.1;
       now = ap (λ (b : Bool). known b h.0) (sym tells) ∙ h.1;
-      does = rw (deck_put c.args.name (got (cards_name c.args.name) told.0) c.as_slice.result.now (in_store (stored core told.0) c.args.self.now).inner 1 c.args.now made, sym c.deck_name.ensures) h.2;
+      does = rw (deck_put c.args.name (got (cards_name c.args.name) told.0) c.as_slice.result.now made, sym c.deck_name.ensures) h.2;
     })
     (c.put_file.ensures.row core told.0 size are)
 
@@ -44,6 +42,6 @@ returns-in-Ok-Module-clause-row g c = λ core size.
       has = h.0;
       was = told.1;
       now = ap (λ (b : Bool). known b h.0) (sym tells) ∙ h.1;
-      does = rw (relocatable_put c.args.name (got (cards_name c.args.name) told.0) c.as_slice-in-Ok-Module.result.now (in_store (stored core told.0) c.args.self.now).inner 1 c.args.now made, sym c.module_name.ensures) h.2;
+      does = rw (relocatable_put c.args.name (got (cards_name c.args.name) told.0) c.as_slice-in-Ok-Module.result.now made, sym c.module_name.ensures) h.2;
     })
     (c.put_file-in-Ok-Module.ensures.row core told.0 size are)

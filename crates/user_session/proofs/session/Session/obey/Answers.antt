@@ -31,3 +31,8 @@ returns-in_ok-open_debugger-in-Debug-clause-row g c =
 
 pub returns-in-Logout-clause-row : goal.returns-in-Logout-clause-row
 returns-in-Logout-clause-row g c = let row = c.log_out.ensures.row (g.M.MemoryPort.words c.args.core.now) in search rules
+
+pub returns-in_ok-say_why-in-Unknown-clause-row : goal.returns-in_ok-say_why-in-Unknown-clause-row
+returns-in_ok-say_why-in-Unknown-clause-row g c =
+    let are = g.met.P.FilePort.is_known c.args.files.now c.requires.own.usable in
+    rw c.in-Unknown.is (over_these _ _ _ _ are are (refl, c.in_ok-say_why-in-Unknown.ensures.ok, recut_same _ _ c.requires.can.size, refl, refl, refl, refl))

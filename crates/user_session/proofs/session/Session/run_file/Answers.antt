@@ -2,7 +2,6 @@ use Rattle.std.proofs.Common.{◌≡◌, Ok}
 use Rattle.file_model.specs.Files.{got}
 use Rattle.cmd_program.specs.Lines.{lines_got}
 use Rattle.user_model.specs.Commands.{command_file}
-use Rattle.user_model.specs.User.{in_store}
 use Rattle.user_session.specs.Stores.{stored}
 use Rattle.user_session.proofs.CommandFiles.{lines_fed}
 use Rattle.user_session.proofs.Enters.{over_read}
@@ -16,6 +15,6 @@ returns-in_ok-done-in-Ok-clause-row g c = λ core size.
     over_read _ core core (g.P.FilePort.files c.args.files.now) _ _ (c.in_ok-lines.ensures.reads.files (λ e. cc)) (
       told.0,
       told.1,
-      rw (lines_fed (got (command_file c.args.name) told.0) c.as_slice.result.now (in_store (stored core told.0) c.args.self.now).inner _ 1 c.args.now read)
+      rw (lines_fed (got (command_file c.args.name) told.0) c.as_slice.result.now _ read)
           (c.in_ok-done-in-Ok.ensures.row (stored core told.0) size),
     )

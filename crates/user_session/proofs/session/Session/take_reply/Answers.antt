@@ -43,13 +43,13 @@ returns-clause-step g c = λ op asks.
     let p : User = in_store (stored core asks.had) c.args.self.now in
     let idle : works_in c.args.self.now.inner.state ≡ false = sym c.works.ensures ∙ c.if-works.false in
     let asked = asked_command p op c.in-Some.line idle (sym c.in-Some.ensures) asks.makes in
-    let makes : command_asks c.command_of.result p.inner ≡ Some op = ap (λ (d : Command). command_asks d p.inner) c.command_of.ensures ∙ asked.2 in
+    let makes : command_asks c.command_of.result p.inner ≡ Some op = ap (λ (d : Command). command_asks d p.inner) c.command_of.ensures ∙ asked.1 in
     ok_map _ _ c.copy_replied.result
     (λ s row. record {
       had = asks.had;
       has = row.0;
       was = asks.was;
       now = row.1;
-      does = command_took c.args.now c.args.reply.now c.args.self.now c.copy_replied.new.self (stored core asks.had) (stored core row.0) c.in-Some.line c.command_of.result op s idle asked.0 asked.1 (sym c.in-Some.ensures) (sym c.command_of.ensures) (asked_on p asks.can) (makes, row.2);
+      does = command_took c.args.now c.args.reply.now c.args.self.now c.copy_replied.new.self (stored core asks.had) (stored core row.0) c.in-Some.line c.command_of.result op s asked.0 (sym c.in-Some.ensures) (sym c.command_of.ensures) (asked_on p asks.can) (makes, row.2);
     })
     (c.copy_replied.ensures.row core asks.had c.requires.can.size asks.was)

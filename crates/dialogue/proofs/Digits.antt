@@ -49,4 +49,4 @@ number_all [] p (suc n) h = refl
 number_all (d ∷ ds) p zero h = absurd (omega (arith, h))
 number_all (d ∷ ds) p (suc n) h = number_all ds p n (omega (arith, h))
 
-pub ruleset octals = (digit_at, number_below, number_next, number_all)
+pub ruleset digits = (digit_at, number_below, number_next, number_all)

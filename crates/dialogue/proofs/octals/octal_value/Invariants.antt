@@ -1,6 +1,6 @@
 use Rattle.std.proofs.Common.{◌≡◌, ◌<◌, ◌^◌, drop}
 use Rattle.program_model.specs.Octals.{octal_from}
-use Rattle.dialogue.proofs.fap_debug.lines.octal_value.Given as goal
+use Rattle.dialogue.proofs.octals.octal_value.Given as goal
 
 abbrev pub invariant-digits : goal.invariant-digits
 invariant-digits l = record {

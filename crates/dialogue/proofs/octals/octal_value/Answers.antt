@@ -1,7 +1,7 @@
 use Rattle.std.proofs.Common.{◌<◌, arith}
 use Rattle.std.specs.Prelude.{slice_index}
-use Rattle.dialogue.proofs.Octals.{digit_at, number_below}
-use Rattle.dialogue.proofs.fap_debug.lines.octal_value.Goals as goal
+use Rattle.dialogue.proofs.Digits.{digit_at, number_below}
+use Rattle.dialogue.proofs.octals.octal_value.Goals as goal
 
 pub overflow_mul-number : goal.overflow_mul-number
 overflow_mul-number c =

@@ -1,5 +1,5 @@
 -- claim: what a console heard of its connections over many turns, and what they were sent.
-use Rattle.std.specs.Prelude.{◌≡◌, ℕ, ◌-◌, ◌<◌, ◌^◌, Bool, true, false, ◌&&◌, nat_eq, List, [], ◌∷◌, ◌++◌, length, take, drop, map, filter, get_or, Some}
+use Rattle.std.specs.Prelude.{◌≡◌, ℕ, ◌-◌, ◌<◌, ◌^◌, min, Bool, true, false, ◌&&◌, nat_eq, List, [], ◌∷◌, ◌++◌, length, take, drop, map, filter, get_or, Some}
 use Rattle.std.specs.List.{All, flat_map, list_any}
 use Rattle.ctss_types.specs.declared.script.Event.{Event}
 use Rattle.ctss_types.specs.declared.script.Event.TheVariants.{Dial, Hang}
@@ -36,9 +36,11 @@ OneAtATime [] = Unit {0}
 OneAtATime (v ∷ []) = Unit {0}
 OneAtATime (v ∷ w ∷ visits) = (v.hung ≡ true) × OneAtATime (w ∷ visits)
 
--- texts whose lengths are below 2^64
-abbrev pub AreCountable : List (List ℕ) → Type 0
-AreCountable texts = All (λ (text : List ℕ). length text < 2 ^ 64) texts
+-- What was sent of a text from a place on. If the text has less than 2^64 bytes, it is a beginning of the text from there on. Of a longer
+-- text this holds up to place 2^64 - 1, where a count of bytes stays.
+pub record IsSentFrom (place : ℕ) (text sent : List ℕ) : Type 0 where
+  pub whole : length text < 2 ^ 64 → sent ≡ take (length sent) (drop place text)
+  pub counted : take (2 ^ 64 - 1 - place) sent ≡ take (min (length sent) (2 ^ 64 - 1 - place)) (drop place text)
 
 -- a call on this connection that was answered by its end or by a fault
 abbrev pub ends_reading : LinkGot → Bool
@@ -64,13 +66,17 @@ ends_it id (DidWait millis failed) = false
 abbrev pub HaveEnded : List Done → List Visit → Type 0
 HaveEnded calls visits = All (λ (v : Visit). v.hung ≡ true → list_any (ends_it v.id) calls ≡ true) visits
 
+-- Given the calls of each turn: the core heard of the end of exactly those connections of which a call was answered by their end or by a
+-- fault, in the turn in which they came or a later one.
+abbrev pub EndsAreHeard : List (List Done) → List Visit → Type 0
+EndsAreHeard calls visits = All (λ (v : Visit). v.hung ≡ list_any (list_any (ends_it v.id)) (drop v.turn calls)) visits
+
 -- The console's connections over these turns, in order: the core heard of each what its bytes say, the place is where the text
--- ended at the beginning of the turn in which it came, and where the link tells its bytes, these are all that were taken from it,
--- and what was sent to it is a beginning of the text from its place on (of texts whose lengths a count of bytes can hold).
+-- ended at the beginning of the turn in which it came. If the link's bytes are observable, these are all that were taken from it, and what was
+-- sent to it is the text from its place on.
 pub record AreVisits (console : ℕ) (texts : List (List ℕ)) (turns : List TurnSeen) (events : List Timed) (link : LinkSeen) (visits : List Visit) : Type 0 where
   pub heard : events_at console events ≡ flat_map events_of_visit visits
   pub order : OneAtATime visits
   pub places : All (λ (v : Visit). v.place ≡ end_of (texts_behind texts (take v.turn turns)) (Some console)) visits
   pub taken : link.tells ≡ true → All (λ (v : Visit). (link.passed v.id).taken ≡ v.bytes) visits
-  pub sent : link.tells ≡ true → AreCountable (texts_behind texts turns)
-      → All (λ (v : Visit). (link.passed v.id).sent ≡ take (length (link.passed v.id).sent) (drop v.place (get_or (texts_behind texts turns) (console - 1) []))) visits
+  pub sent : link.tells ≡ true → All (λ (v : Visit). IsSentFrom v.place (get_or (texts_behind texts turns) (console - 1) []) (link.passed v.id).sent) visits

@@ -103,27 +103,29 @@ refused_short mode old new o bytes refusal number came whole refused why is writ
 
 -- a refusal that was cut off
 cut_refusal : (words : List (List ℕ)) (mode : Mode) → mode_of words ≡ Some mode → reads_script mode ≡ true → (old new : DevicesSeen) (o : Outcome) (bytes : List ℕ) (refusal : ScriptRefusal)
-    → IsRefused mode old.input.left new.input.left bytes refusal → o ≡ bare 4 0 0 → GrewByProperPrefix old.output.held (script_refused refusal.card (cause_number refusal.cause)) new.output.held → new.media ≡ old.media → IsCutOff words old new o
-cut_refusal words mode asked reads old new o bytes refusal read is part drum =
+    → IsRefused mode old.input.left new.input.left bytes refusal → o ≡ bare 4 0 0 → GrewByProperPrefix old.output.held (script_refused refusal.card (cause_number refusal.cause)) new.output.held → new.media ≡ old.media → new.link ≡ old.link
+    → IsCutOff words old new o
+cut_refusal words mode asked reads old new o bytes refusal read is part drum link =
     record {
       text = script_refused refusal.card (cause_number refusal.cause);
-      said = OfRefusal mode asked reads bytes refusal read drum (ap (λ (x : Outcome). x.run) is) refl;
+      said = OfRefusal mode asked reads bytes refusal read drum link (ap (λ (x : Outcome). x.run) is) refl;
       part = part;
       card = ap (λ (x : Outcome). x.card) is;
       cause = ap (λ (x : Outcome). x.cause) is;
     }
 
 pub cut_long : (words : List (List ℕ)) (mode : Mode) → mode_of words ≡ Some mode → reads_script mode ≡ true → (old new : DevicesSeen) (o : Outcome)
-    → ShrankBy 4194305 old.input.left new.input.left → o ≡ bare 4 0 0 → GrewByProperPrefix old.output.held (script_refused 0 8) new.output.held → new.media ≡ old.media → IsCutOff words old new o
-cut_long words mode asked reads old new o gone is part drum =
-    cut_refusal words mode asked reads old new o gone.0 too_long (long_read mode old.input.left new.input.left gone.0 gone.1 gone.2) is part drum
+    → ShrankBy 4194305 old.input.left new.input.left → o ≡ bare 4 0 0 → GrewByProperPrefix old.output.held (script_refused 0 8) new.output.held → new.media ≡ old.media → new.link ≡ old.link
+    → IsCutOff words old new o
+cut_long words mode asked reads old new o gone is part drum link =
+    cut_refusal words mode asked reads old new o gone.0 too_long (long_read mode old.input.left new.input.left gone.0 gone.1 gone.2) is part drum link
 
 pub cut_short : (words : List (List ℕ)) (mode : Mode) → mode_of words ≡ Some mode → reads_script mode ≡ true → (old new : DevicesSeen) (o : Outcome) (bytes : List ℕ) (refusal : ScriptRefusal) (number : ℕ)
     → old.input.left ≡ prepended bytes new.input.left → IsAtEnd new.input.left → script_for mode bytes ≡ Err refusal → number ≡ cause_number refusal.cause → o ≡ bare 4 0 0 → GrewByProperPrefix old.output.held (script_refused refusal.card number) new.output.held → new.media ≡ old.media
-    → IsCutOff words old new o
-cut_short words mode asked reads old new o bytes refusal number came whole refused why is part drum =
+    → new.link ≡ old.link → IsCutOff words old new o
+cut_short words mode asked reads old new o bytes refusal number came whole refused why is part drum link =
     cut_refusal words mode asked reads old new o bytes refusal (record { came = came; whole = λ h. whole; refused = refused }) is
-    (subst (λ (n : ℕ). GrewByProperPrefix old.output.held (script_refused refusal.card n) new.output.held) why part) drum
+    (subst (λ (n : ℕ). GrewByProperPrefix old.output.held (script_refused refusal.card n) new.output.held) why part) drum link
 
 spelled : (mode : Mode) (left rest : Option (List ℕ)) (bytes : List ℕ) (script : Script) → left ≡ prepended bytes rest → IsAtEnd rest → script_for mode bytes ≡ Ok script → IsSpelled mode left rest script
 spelled mode left rest bytes script came whole is = record { bytes = bytes; came = came; whole = whole; spelled = is }

@@ -121,7 +121,7 @@ module _ (was now : InputSeen) (had has : OutputSeen) (o : Outcome) (u : EndsUnr
 
   pub unread_cut : (words : List (List ℕ)) (mode : Mode) → mode_of words ≡ Some mode → reads_script mode ≡ true → (media : MediaSeen) (link : LinkSeen) → o.status ≡ 4
       → IsCutOff words (devices was had media link) (devices now has media link) o
-  unread_cut words mode asked reads media link h = cut_long words mode asked reads _ _ o (u.gone (grind (arith, h, nat_tests))) (u.cut h) (u.part h) refl
+  unread_cut words mode asked reads media link h = cut_long words mode asked reads _ _ o (u.gone (grind (arith, h, nat_tests))) (u.cut h) (u.part h) refl refl
 
   script_by : (b : Bool) → list_any (nat_eq o.status) (2 ∷ 4 ∷ []) ≡ b → WhereTold was.left (Allows o.status)
   script_by true is = told_long was.left o.status (u.many is) (with_memory o.status is)

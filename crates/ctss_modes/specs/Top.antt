@@ -135,7 +135,7 @@ pub data IsTextOf (words : List (List ℕ)) (old new : DevicesSeen) (run : Recor
   OfWords : mode_of words ≡ None → new.input ≡ old.input → run ≡ empty_record → text ≡ words_refused
       → IsTextOf words old new run text
   OfRefusal : (mode : Mode) → mode_of words ≡ Some mode → reads_script mode ≡ true → (bytes : List ℕ) (refusal : ScriptRefusal)
-      → IsRefused mode old.input.left new.input.left bytes refusal → new.media ≡ old.media → run ≡ empty_record
+      → IsRefused mode old.input.left new.input.left bytes refusal → new.media ≡ old.media → new.link ≡ old.link → run ≡ empty_record
       → text ≡ script_refused refusal.card (cause_number refusal.cause) → IsTextOf words old new run text
   OfRun : (mode : Mode) → mode_of words ≡ Some mode → (script : Script) → Comes mode old new script
       → IsDone script old.media new.media run → text ≡ text_for mode script run → IsTextOf words old new run text

@@ -51,6 +51,12 @@ pub fn write_next_base<S: Source, K: Sink>(
 pub struct NextSession {}
 
 impl ShowProgram for NextSession {
+    ghost use Rattle.std.specs.Prelude.{codes};
+
+    ghost Answers = { λ words old new result. IsAnswer (asked words) old new result };
+
+    ghost usage_line = { codes "words refused: none is wanted, and a script behind <" };
+
     fn usage() -> &'static [u8] {
         b"words refused: none is wanted, and a script behind <"
     }

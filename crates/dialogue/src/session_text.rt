@@ -100,6 +100,9 @@ fn doubly_text(name: Word) -> LineText
     ensures { result ≡ doubly_text name }
 {
     let name = name_text(name);
+    if name.is_empty() {
+        return LineText::of(b"DOUBLY");
+    }
     LineText::joined(b"DOUBLY ", name.as_slice())
 }
 
@@ -109,6 +112,9 @@ fn undefined_text(name: Word) -> LineText
     ensures { result ≡ undefined_text name }
 {
     let name = name_text(name);
+    if name.is_empty() {
+        return LineText::of(b"UNDEFINED");
+    }
     LineText::joined(b"UNDEFINED ", name.as_slice())
 }
 

@@ -6,7 +6,7 @@ use Rattle.ctss_types.specs.declared.session.Waiting.{Waiting}
 use Rattle.plan_model.specs.Levels.{is_user, is_in, without_user, first_of}
 use Rattle.plan_model.specs.Spent.{less}
 use Rattle.level_queues.specs.Sound.{times, count, AreEmpty}
-use Rattle.level_queues.proofs.Counts.{none_times, none_count}
+use Rattle.plan_model.proofs.Times.{none_times, none_count}
 
 -- where the user isn't, nothing changes
 spent_none : (n u : ℕ) (xs : List Waiting) → times u xs ≡ 0 → map (less n u) xs ≡ xs

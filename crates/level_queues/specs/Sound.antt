@@ -1,16 +1,8 @@
 -- proof: what is true of the rows: nine, each user in them at most once, and users of 1 to 30; and when users may rise.
-use Rattle.std.specs.Prelude.{◌≡◌, ℕ, zero, suc, ◌+◌, ◌≤◌, ◌<◌, Bool, true, false, cond, nat_eq, List, [], ◌∷◌, length, drop, Option, Some, None}
+use Rattle.std.specs.Prelude.{◌≡◌, ℕ, zero, suc, ◌+◌, ◌≤◌, ◌<◌, Bool, true, false, nat_eq, List, [], ◌∷◌, length, drop, Option, Some, None}
 use Rattle.ctss_types.specs.declared.session.Waiting.{Waiting}
 use Rattle.plan_model.specs.Levels.{is_served}
-
--- how often a user stands in a row, and in the rows
-abbrev pub times : ℕ → List Waiting → ℕ
-times u [] = 0
-times u (x ∷ xs) = cond (nat_eq x.user u) 1 0 + times u xs
-
-abbrev pub count : ℕ → List (List Waiting) → ℕ
-count u [] = 0
-count u (row ∷ rows) = times u row + count u rows
+pub use Rattle.plan_model.specs.Times.{times, count}
 
 -- the first rows, so many of them, have no users
 abbrev pub AreEmpty : ℕ → List (List Waiting) → Type 0

@@ -8,4 +8,5 @@ pub mod Beginnings
 pub mod Shown
 pub mod TextsInParts
 pub mod LiveTexts
-mod Loading
+pub mod Sounding
+pub mod Loading

@@ -1,7 +1,7 @@
 //! What a run has in common with the run of a script, where its events come while it goes on.
 //!
 //! The definitions stand in `specs/`. The functions here do nothing: each carries a law.
-ghost use Rattle.live_run.specs.Beginnings.{StoppedRunsAreBeginnings, StoppedPartsAreBeginnings, StoppedLoadsAreFew};
+ghost use Rattle.live_run.specs.Beginnings.{StoppedRunsAreBeginnings, StoppedPartsAreBeginnings, StoppedLoadsAreFew, StoppedPartLoadsAreFew};
 ghost use Rattle.live_run.specs.Parts.{LiveRunsAreReplays, CallsAreRuns};
 ghost use Rattle.live_run.specs.Texts.{TextsInParts, LateEventsShowNothing, LiveTextsAreReplayed, CallsShowTexts};
 
@@ -29,10 +29,10 @@ pub fn stopped_parts_are_beginnings()
     ensures { StoppedPartsAreBeginnings }
 {}
 
-/// A run that a load stopped asks no more of the drum than the whole run.
-#[tactic(auto, using(crate::proofs::Loading::stopped_loads_are_few))]
+/// A run that a load stopped asks no more of the drum than the whole run. This holds for a script that was read, and for a run in parts.
 pub fn stopped_loads_are_few()
-    ensures { StoppedLoadsAreFew }
+    ensures script { StoppedLoadsAreFew }
+    ensures parts { StoppedPartLoadsAreFew }
 {}
 
 /// To go on in parts, with events that come meanwhile, shows what one long run shows.

@@ -4,3 +4,4 @@ pub mod Behind
 pub mod Shown
 pub mod Ends
 pub mod Outcomes
+pub mod Stopping

@@ -28,7 +28,7 @@ use Rattle.console_server.specs.History.{heard_in}
 use Rattle.console_server.specs.Server.{IsCause, CutAt, Waiting, Hanging, Accepting, Dialling, Reading, Advancing, MayMeet, IsTurnUntil, GivenUntil, calls_until, ends_with}
 use Rattle.console_server.specs.Conversation.{HasShown, calls_of_turns, events_of_turns, desk_behind, texts_behind}
 use Rattle.live_serve.specs.Talks.{empty_desk, silent, events_given, IsTalk, IsCutTalk, TalkIsDone, TalkIsCut}
-use Rattle.live_serve.specs.Live.{IsLiveRecord, HasNoFiles, IsStopped, IsLost, IsServed, HasSpent, RunEnds, AtStart, InTurn, AtEnd, BeforeTurns, InTurns, AtLoad, BehindTurns}
+use Rattle.live_serve.specs.Live.{IsLiveRecord, HasNoFiles, IsStopped, IsLost, IsServed, HasSpent, RunEnds, AtStart, InTurn, AtEnd, BeforeTurns, NotOpened, InTurns, AtLoad, BehindTurns}
 use Rattle.live_serve.specs.Hosts.{as_served, EndsSo, Hosts}
 use Rattle.live_serve.specs.declared.fault.ServingFault.{ServingFault}
 use Rattle.ctss_types.specs.declared.file.FileBody.{FileBody}
@@ -352,16 +352,16 @@ hosts_unbegun base port turns was now l m wrote fault bare back same is begun ca
     subst (IsServed base port turns was now l m) (sym e.1)
     (lost_at_start base port turns was now l m (record_so_far (run_with no_places bare)) same (sym calls ∙ begun.calls) begun.shown
     (subst (Rose was.disk_faults) disk (begun.cause (subst (λ (w : Result Unit StepFault). IsErrOf w DiskFault) (sym is) (ap Err e.0)))))
-hosts_unbegun base port turns was now l m wrote fault bare back same is begun calls disk (Err f) e = BeforeTurns (sym calls ∙ begun.calls) [] (subst (DidAll [] l) (sym same) (Nothing l)) (omega arith)
+hosts_unbegun base port turns was now l m wrote fault bare back same is begun calls disk (Err f) e = BeforeTurns (sym calls ∙ begun.calls) same
 
 -- and one whose listener could not be opened
 pub hosts_unopened : (base : Script) (port turns : ℕ) (was now : MediaSeen) (l m : LinkSeen) (wrote : Result Unit StepFault) (bare : Bare) (back : BackState) → Did (DidOpen port true) l m → IsBegun base was wrote (whole_of bare back)
     → back.calls ≡ now.drum_calls → HasSpent base port turns was now l m
-hosts_unopened base port turns was now l m wrote bare back opened begun calls = BeforeTurns (sym calls ∙ begun.calls) (DidOpen port true ∷ []) (Then (DidOpen port true) [] l m m opened (Nothing m)) (omega arith)
+hosts_unopened base port turns was now l m wrote bare back opened begun calls = NotOpened (sym calls ∙ begun.calls) opened
 
 -- nothing was called
 pub spent_nothing : (base : Script) (port turns : ℕ) (m : MediaSeen) (l : LinkSeen) → HasSpent base port turns m m l l
-spent_nothing base port turns m l = BeforeTurns refl [] (Nothing l) (omega arith)
+spent_nothing base port turns m l = BeforeTurns refl refl
 
 pub on_err : {T E : Type 0} (r : Result T E) (P : Type 0) → P → OnErr r P
 on_err (Ok x) P h = tt

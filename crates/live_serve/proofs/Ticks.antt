@@ -23,7 +23,7 @@ late_over : (over : Bool) (tick console : ℕ) → AreLate tick (if_over over (t
 late_over true tick console = (omega arith, tt)
 late_over false tick console = tt
 
-late_hangs : (tick console : ℕ) (failed : List Bool) → AreLate tick (hangs tick console failed)
+pub late_hangs : (tick console : ℕ) (failed : List Bool) → AreLate tick (hangs tick console failed)
 late_hangs tick console [] = tt
 late_hangs tick console (true ∷ failed) = (omega arith, late_hangs tick (suc console) failed)
 late_hangs tick console (false ∷ failed) = late_hangs tick (suc console) failed
@@ -32,7 +32,7 @@ late_dial : (tick : ℕ) (console : Option ℕ) → AreLate tick (dial tick cons
 late_dial tick None = tt
 late_dial tick (Some console) = (omega arith, tt)
 
-late_dials : (tick : ℕ) (texts : List (List ℕ)) (seats : List (Option Talk)) (ids : List ℕ) → AreLate tick (dials tick texts seats ids)
+pub late_dials : (tick : ℕ) (texts : List (List ℕ)) (seats : List (Option Talk)) (ids : List ℕ) → AreLate tick (dials tick texts seats ids)
 late_dials tick texts seats [] = tt
 late_dials tick texts seats (id ∷ ids) =
     late_both tick (dial tick (free_from 1 seats)) (dials tick texts (seats_with texts id seats) ids) (late_dial tick (free_from 1 seats)) (late_dials tick texts (seats_with texts id seats) ids)

@@ -1,3 +1,4 @@
 pub mod Talks
 pub mod Live
 pub mod Hosts
+pub mod Stops

@@ -17,8 +17,7 @@ use Rattle.live_run.specs.Media.{MediaSeen}
 use Rattle.live_run.specs.Parts.{Part, run_in, live_script}
 use Rattle.live_run.specs.Beginnings.{IsBeginning}
 use Rattle.time_sharing.specs.System.{Entry}
-use Rattle.console_link.specs.Links.{LinkSeen, Done as DidCall}
-use Rattle.console_server.specs.Readings.{DidAll}
+use Rattle.console_link.specs.Links.{LinkSeen, Did, DidOpen}
 use Rattle.console_server.specs.Server.{CutAt, Advancing}
 use Rattle.console_server.specs.declared.fault.ServeFault.{ServeFault}
 use Rattle.console_server.specs.declared.fault.ServeFault.TheVariants as serve
@@ -86,11 +85,12 @@ pub record IsLost (base : Script) (port turns : ℕ) (was now : MediaSeen) (a b 
   pub bare : HasNoFiles rec
   pub cause : Rose was.disk_faults now.disk_faults
 
--- No record came, as memory lacked or the listener failed: before the first turn, when the drum was not called, and the link not, or to be
--- opened; in a turn; or after all turns. The drum was called as the loads of these entries say, which where drum and disk tell their records
+-- No record came, as memory ran out or the listener failed: before the first turn, when neither drum nor link was called; when the listener
+-- could not be opened; in a turn; or after all turns. The drum was called as the loads of these entries say, which where drum and disk tell their records
 -- are those of some whole steps, a beginning of the run's; or, if the drum had failed before, as it was then.
 pub data HasSpent (base : Script) (port turns : ℕ) (was now : MediaSeen) (a b : LinkSeen) : Type 0 where
-  BeforeTurns : now.drum_calls ≡ was.drum_calls → (calls : List DidCall) → DidAll calls a b → length calls ≤ 1 → HasSpent base port turns was now a b
+  BeforeTurns : now.drum_calls ≡ was.drum_calls → b ≡ a → HasSpent base port turns was now a b
+  NotOpened : now.drum_calls ≡ was.drum_calls → Did (DidOpen port true) a b → HasSpent base port turns was now a b
   InTurns : (at : CutAt) (talk : IsCutTalk base was.tells port turns at a b) (entries : List Entry) → IsCounted [] entries was.drum_calls now.drum_calls
       → (was.tells ≡ true → (r : Run) × StepsInTurn base talk r × (entries ≡ r.system.entries)) → HasSpent base port turns was now a b
   AtLoad : (talk : IsCutTalk base was.tells port turns Advancing a b) → (was.tells ≡ true → (rec : Record) × StopsInTurn base talk was now rec) → HasSpent base port turns was now a b

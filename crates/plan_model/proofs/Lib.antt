@@ -4,3 +4,5 @@ pub mod LoadLaws
 pub mod RiseLaws
 pub mod RowsComputed
 pub mod SpentLaws
+pub mod StaysLoaded
+pub mod Times

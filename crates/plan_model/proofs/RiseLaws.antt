@@ -77,7 +77,7 @@ greatest_within (suc l) n = by_test (nat_le (2 ^ suc l) n) (greatest_within l n)
     by_test true h = omega arith
     by_test false h = omega (arith, h)
 
-level_within : (wq words : ℕ) → level_of_words wq words ≤ 8
+pub level_within : (wq words : ℕ) → level_of_words wq words ≤ 8
 unfolding level_of_words
 level_within wq words = greatest_within 8 _
 

@@ -4,3 +4,4 @@ pub mod Loads
 pub mod Plan
 pub mod Rows
 pub mod Spent
+pub mod Times

@@ -44,14 +44,14 @@ same_begun o p i j now later services idlings clocks =
     ap (λ (x : Option Service). begun x i now) services ∙ ap (λ (x : Option ℕ). begun p x now) idlings
     ∙ ap (begun p j) clocks
 
-same_number : (x y : ℕ) → Some x ≡ Some y → x ≡ y
+pub same_number : (x y : ℕ) → Some x ≡ Some y → x ≡ y
 same_number x y e = cc
 
-same_service : (x y : Service) → Some x ≡ Some y → x ≡ y
+pub same_service : (x y : Service) → Some x ≡ Some y → x ≡ y
 same_service x y e = cc
 
 -- what holds of a user's state still does after a write, where it holds of what is written
-put_keeps : {S : Type 0} (Q : S → Type 0) (d : S) (xs : List S) (u v : ℕ) (a : S) → Q (at d xs v) → (u ≡ v → Q a)
+pub put_keeps : {S : Type 0} (Q : S → Type 0) (d : S) (xs : List S) (u v : ℕ) (a : S) → Q (at d xs v) → (u ≡ v → Q a)
     → Q (at d (put xs u a) v)
 put_keeps Q d xs u v a h k =
     elim (eqb_tells v u) [
@@ -69,7 +69,7 @@ before_service swap true t u None r more = refl
 before_service swap true t u (Some op) r more = refl
 
 -- a service that goes on after a step
-goes_on_went : (e : Ending) (left : Bool) → cause_of e left ≡ None → e ≡ Went
+pub goes_on_went : (e : Ending) (left : Bool) → cause_of e left ≡ None → e ≡ Went
 goes_on_went Went left h = refl
 goes_on_went Stopped left h = cc
 goes_on_went Resized left h = cc

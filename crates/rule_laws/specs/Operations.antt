@@ -1,5 +1,5 @@
 -- claim: the machine by its operations: what a step does at each word of each operation, said without the decoder.
-use Rattle.std.specs.Prelude.{◌≡◌, ℕ, Bool, true, false, ◌<◌, ◌≤◌, ◌^◌, List, length, slice_index, if◌then◌else◌}
+use Rattle.std.specs.Prelude.{◌≡◌, ℕ, Bool, true, false, ◌<◌, ◌≤◌, ◌^◌, List, length, slice_index}
 use Rattle.cpu_regs.specs.declared.regs.Regs.{Regs}
 use Rattle.cpu_regs.specs.Registers.{xr}
 use Rattle.opcode_table.specs.Table.{class_of, kind_of}
@@ -7,8 +7,8 @@ use Rattle.opcode_table.specs.Words.{encoded, HasFields, IsClean}
 use Rattle.opcode_table.specs.declared.op.Class.{Class}
 use Rattle.opcode_table.specs.declared.op.Class.TheVariants as class
 use Rattle.opcode_table.specs.declared.op.Instr.{Instr}
-use Rattle.machine_model.specs.Step.{Step, at, outside}
-use Rattle.machine_model.specs.Machine.{step_of, row, is_xec, once, indexed, place_in}
+use Rattle.machine_model.specs.Step.{illegal, outside}
+use Rattle.machine_model.specs.Machine.{step_of, row, is_xec, indexed, place_in}
 use Rattle.rule_laws.specs.Words.{cleared}
 
 -- a word is one of an operation with these fields, whatever stands in the positions that its class doesn't use
@@ -17,11 +17,6 @@ pub record IsWordOf (i : Instr) (w : ℕ) : Type 0 where
   pub fields : HasFields i
   pub clean : IsClean i
   pub word : encoded i ≡ cleared (class_of i.op) w
-
--- such a word is the next one
-pub record IsNext (i : Instr) (r : Regs) (core : List ℕ) : Type 0 where
-  pub within : r.ic < length core
-  pub word : IsWordOf i (slice_index core r.ic)
 
 -- the address less the index number
 abbrev pub direct : Instr → Regs → ℕ
@@ -37,14 +32,39 @@ WorksAt class.Tagged flag i r core y = y ≡ i.address
 WorksAt class.Prefixed flag i r core y = y ≡ i.address
 WorksAt class.Group flag i r core y = y ≡ i.address
 
--- what the operation does at its place: its row; and XEC the word there, as if that stood in its own place
-abbrev pub done_at : Instr → Regs → List ℕ → ℕ → Step
-done_at i r core y = if is_xec (kind_of i.op) then at core y (λ w. once w r core) else row (kind_of i.op) i r core y
+-- the word at an address is the instruction's
+pub record IsAt (i : Instr) (y : ℕ) (core : List ℕ) : Type 0 where
+  pub within : y < length core
+  pub word : IsWordOf i (slice_index core y)
 
--- What a step does where an operation's word is the next one: what the operation does at its place. Where the word with that place lies outside
--- the core, the address is outside.
+-- an indirect address outside the core is needed
+pub record IsBeyond (i : Instr) (r : Regs) (core : List ℕ) : Type 0 where
+  pub addressed : class_of i.op ≡ class.Addressed
+  pub flag : i.flag ≡ true
+  pub beyond : length core ≤ direct i r
+
+-- an XEC is the next instruction, with the address that it works at
+pub record Executes (i : Instr) (r : Regs) (core : List ℕ) (y : ℕ) : Type 0 where
+  pub next : IsAt i r.ic core
+  pub xec : is_xec (kind_of i.op) ≡ true
+  pub works : WorksAt (class_of i.op) i.flag i r core y
+
+-- What a step does, by the instruction that is the next one: what its operation does at the address that it works at. An XEC does
+-- what the instruction at its address would do in its own place, unless that is an XEC. Words of no operation are illegal, and
+-- addresses beyond the core are outside.
 pub record OperationsDo : Type 0 where
-  pub does : (i : Instr) (r : Regs) (core : List ℕ) (y : ℕ) → IsNext i r core → WorksAt (class_of i.op) i.flag i r core y
-      → step_of r core ≡ done_at i r core y
-  pub beyond : (i : Instr) (r : Regs) (core : List ℕ) → IsNext i r core → class_of i.op ≡ class.Addressed → i.flag ≡ true
-      → length core ≤ direct i r → step_of r core ≡ outside (direct i r)
+  pub does : (i : Instr) (r : Regs) (core : List ℕ) (y : ℕ) → IsAt i r.ic core → is_xec (kind_of i.op) ≡ false
+      → WorksAt (class_of i.op) i.flag i r core y → step_of r core ≡ row (kind_of i.op) i r core y
+  pub beyond : (i : Instr) (r : Regs) (core : List ℕ) → IsAt i r.ic core → IsBeyond i r core → step_of r core ≡ outside (direct i r)
+  pub unknown : (r : Regs) (core : List ℕ) → r.ic < length core → ((i : Instr) → IsWordOf i (slice_index core r.ic) → ⊥)
+      → slice_index core r.ic < 2 ^ 36 → step_of r core ≡ illegal
+  pub past : (r : Regs) (core : List ℕ) → length core ≤ r.ic → step_of r core ≡ outside r.ic
+  pub executes : (i j : Instr) (r : Regs) (core : List ℕ) (y z : ℕ) → Executes i r core y → IsAt j y core → is_xec (kind_of j.op) ≡ false
+      → WorksAt (class_of j.op) j.flag j r core z → step_of r core ≡ row (kind_of j.op) j r core z
+  pub executes_beyond : (i j : Instr) (r : Regs) (core : List ℕ) (y : ℕ) → Executes i r core y → IsAt j y core → is_xec (kind_of j.op) ≡ false
+      → IsBeyond j r core → step_of r core ≡ outside (direct j r)
+  pub executes_itself : (i j : Instr) (r : Regs) (core : List ℕ) (y : ℕ) → Executes i r core y → IsAt j y core → is_xec (kind_of j.op) ≡ true
+      → step_of r core ≡ illegal
+  pub executes_unknown : (i : Instr) (r : Regs) (core : List ℕ) (y : ℕ) → Executes i r core y → y < length core
+      → ((j : Instr) → IsWordOf j (slice_index core y) → ⊥) → slice_index core y < 2 ^ 36 → step_of r core ≡ illegal
+  pub executes_past : (i : Instr) (r : Regs) (core : List ℕ) (y : ℕ) → Executes i r core y → length core ≤ y → step_of r core ≡ outside y

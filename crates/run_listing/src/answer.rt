@@ -76,6 +76,12 @@ pub fn write_listing<S: Source, K: Sink>(
 pub struct ListCards {}
 
 impl ShowProgram for ListCards {
+    ghost use Rattle.std.specs.Prelude.{codes};
+
+    ghost Answers = { λ words old new result. IsAnswer (asked words) old new result };
+
+    ghost usage_line = { codes "words refused: list or trace N (1 to 100000) is wanted, and FAP cards behind <" };
+
     fn usage() -> &'static [u8] {
         b"words refused: list or trace N (1 to 100000) is wanted, and FAP cards behind <"
     }

@@ -47,6 +47,12 @@ pub fn write_picture<S: Source, K: Sink>(
 pub struct RunPicture {}
 
 impl ShowProgram for RunPicture {
+    ghost use Rattle.std.specs.Prelude.{codes};
+
+    ghost Answers = { λ words old new result. IsAnswer (asked words) old new result };
+
+    ghost usage_line = { codes "words refused: svg, text, figures or csv is wanted, and a script behind <" };
+
     fn usage() -> &'static [u8] {
         b"words refused: svg, text, figures or csv is wanted, and a script behind <"
     }

@@ -14,5 +14,5 @@ pub use command_line::ArgList;
 pub use ctss_modes::{Outcome, RunText};
 pub use input::{InputShow, show_input};
 pub use media::run_script;
-pub use program::{ShowProgram, run};
+pub use program::{ShowProgram, run, run_program};
 pub use show::{RunShow, show_script};

@@ -1,7 +1,12 @@
 //! Such a program, but for its `main`.
-ghost use Rattle.std.specs.Prelude.{if◌then◌else◌, nat_eq};
+ghost use Rattle.std.specs.Prelude.{◌≡◌, ℕ, List, if◌then◌else◌, nat_eq};
 ghost use Rattle.command_line.specs.Explained.{explained};
 ghost use Rattle.command_line.specs.Said.{Says};
+ghost use Rattle.ctss_modes.specs.declared.outcome.Outcome.{Outcome};
+ghost use Rattle.ctss_modes.specs.Devices.{output_seen};
+ghost use Rattle.script_show.specs.Programs.{HasAnswered};
+ghost use Rattle.script_show.specs.Seen.{streams};
+ghost use Rattle.script_show.specs.Shown.{StreamsSeen};
 ghost use Rattle.text_model.specs.Parts.{line};
 
 use command_line::outcome::{explain, say_line};
@@ -11,21 +16,30 @@ use ctss_modes::Outcome;
 use std::alloc::Global;
 use std::io;
 
-/// A program that shows the run of a script.
+/// A program that writes a text of what comes in.
 pub trait ShowProgram {
-    /// What may be typed, said where the words are refused.
-    fn usage() -> &'static [u8];
+    /// What its words, its streams before and after, and its outcome have in common.
+    ghost Answers: { List (List ℕ) → StreamsSeen → StreamsSeen → Outcome → Type 0 };
 
-    /// What its words ask for, written of the script that comes in.
+    /// The usage line.
+    ghost usage_line: { List ℕ };
+
+    /// Returns the usage line, which is written if the words are refused.
+    fn usage() -> &'static [u8]
+        ensures { result.now ≡ usage_line };
+
+    /// Writes what its words ask for of what comes in.
     fn answer<S: Source, K: Sink>(
         alloc: Global,
         words: &ArgList,
         input: &mut S,
         output: &mut K,
-    ) -> Outcome;
+    ) -> Outcome
+        ensures { Answers words.now (streams S.Source K.Sink input.old output.old)
+            (streams S.Source K.Sink input.new output.new) result };
 }
 
-/// What a status that is not 0 means, on one line; of refused words what may be typed.
+/// Explains a status other than 0, on one line; of refused words it says what may be typed.
 fn explain_answer<E: Sink>(errors: &mut E, outcome: &Outcome, usage: &[u8])
     ensures { Says (if nat_eq outcome.now.status 1 then line usage.now
         else explained outcome.now.status outcome.now.card outcome.now.cause)
@@ -38,7 +52,24 @@ fn explain_answer<E: Sink>(errors: &mut E, outcome: &Outcome, usage: &[u8])
     }
 }
 
-/// Runs a program over standard input, standard output and standard error, and answers the status.
+/// Answers the words over streams, and returns the status. A status other than 0 is explained on `errors`.
+pub fn run_program<P: ShowProgram, S: Source, K: Sink, E: Sink>(
+    alloc: Global,
+    words: &ArgList,
+    input: &mut S,
+    output: &mut K,
+    errors: &mut E,
+) -> u8
+    ensures { HasAnswered (P.Answers words.now (streams S.Source K.Sink input.old output.old)
+        (streams S.Source K.Sink input.new output.new)) P.usage_line (output_seen E.Sink errors.old)
+        (output_seen E.Sink errors.new) result }
+{
+    let outcome = P::answer(alloc, words, input, output);
+    explain_answer(errors, &outcome, P::usage());
+    outcome.status
+}
+
+/// Runs a program over standard input, standard output and standard error, and returns the status.
 pub fn run<P: ShowProgram>(rt: &HostRuntime) -> u8 {
     let mut errors = StdSink::new(rt.stderr());
     let Ok(words) = program_words(rt) else {
@@ -47,7 +78,5 @@ pub fn run<P: ShowProgram>(rt: &HostRuntime) -> u8 {
     };
     let mut source = StdSource::new(rt.reader());
     let mut sink = StdSink::new(io::writer(rt));
-    let outcome = P::answer(rt.alloc(), &words, &mut source, &mut sink);
-    explain_answer(&mut errors, &outcome, P::usage());
-    outcome.status
+    run_program::<P, _, _, _>(rt.alloc(), &words, &mut source, &mut sink, &mut errors)
 }

@@ -8,7 +8,7 @@ use Rattle.ctss_types.specs.declared.script.Event.TheVariants.{Dial, Hang}
 use Rattle.ctss_types.specs.declared.script.Timed.{Timed}
 use Rattle.console_wire.specs.Items.{items_from, piece_from}
 use Rattle.console_server.specs.Readings.{Gave, bytes_of, timed, all_timed}
-use Rattle.console_server.specs.Turns.{Talk, HeardOf, Told, if_over, events_heard, all_events_heard, seat_after, all_seats_after, free_from, put_first, dial, seat_told, all_seats_told, IsToldOf, AreTold, losses, hangs}
+use Rattle.console_server.specs.Turns.{Talk, HeardOf, Told, events_heard, all_events_heard, seat_after, all_seats_after, free_from, put_first, dial, seat_told, all_seats_told, IsToldOf, AreTold, losses, hangs}
 use Rattle.console_server.specs.Visits.{events_at}
 use Rattle.console_server.proofs.DeskLaws.{false_is}
 use Rattle.serve_laws.proofs.Watching.{none_heard, none_told}

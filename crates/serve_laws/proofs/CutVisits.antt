@@ -1,5 +1,5 @@
 -- The visits of turns and of one that failed.
-use Rattle.std.specs.Prelude.{Bool, true, false, length, take, drop, replicate, get_or, Some, None}
+use Rattle.std.specs.Prelude.{Bool, true, false, length, take, drop, get_or, Some, None}
 use Rattle.std.specs.List.{All, Contains, list_any}
 use Rattle.std.proofs.Common.{◌≡◌, ℕ, zero, suc, ◌-◌, ◌*◌, ◌≤◌, List, [], ◌∷◌, ◌++◌, refl, sym, ◌∙◌, ap, subst}
 use Rattle.std.proofs.lemmas.List.{append_assoc, append-nil, take-append-drop, take_at, drop_at}
@@ -9,21 +9,23 @@ use Rattle.console_link.specs.declared.link.Accepted.TheVariants as accepted
 use Rattle.console_link.specs.Links.{LinkSeen, Passed, Done, DidAccept, DidWait}
 use Rattle.live_core.specs.Core.{Grows}
 use Rattle.console_server.specs.Readings.{DidAll}
-use Rattle.console_server.specs.Turns.{Desk, HeardOf, TurnAnswers, end_of, hangs, dials, seated, calls_accepted, last_accept, all_calls_heard, all_events_heard, seats_to_write, events_of_turn}
+use Rattle.console_server.specs.Turns.{Talk, desk_after, Desk, HeardOf, TurnAnswers, end_of, hangs, dials, seated, calls_accepted, last_accept, all_calls_heard, all_events_heard, seats_to_write, events_of_turn}
 use Rattle.console_server.specs.History.{events_in}
 use Rattle.console_server.specs.Server.{CutAt, Waiting, Hanging, Accepting, Dialling, Reading, Advancing, calls_until, IsTurnUntil, GivenUntil}
-use Rattle.console_server.specs.Conversation.{TurnSeen, AreTurns, calls_of_turns, events_of_turns, desk_behind, texts_behind}
-use Rattle.console_server.specs.Visits.{Visit, events_at, AreCountable}
+use Rattle.console_server.specs.Conversation.{TurnSeen, calls_of_turns, events_of_turns, desk_behind, texts_behind}
+use Rattle.console_server.specs.Visits.{Visit, events_at, ends_it, IsSentFrom, EndsAreHeard}
 use Rattle.console_server.proofs.DeskLaws.{none_called}
 use Rattle.console_server.proofs.HistoryLaws.{texts_end}
-use Rattle.serve_laws.specs.VisitLaws.{accepted_in, accepted_each, accepted_until, CutEventsAreVisits}
+use Rattle.serve_laws.specs.VisitLaws.{accepted_in, calls_each, accepted_each, accepted_until, CutEventsAreVisits}
 use Rattle.serve_laws.proofs.Watching.{Watch, none_heard, watched, all_watched, IsNow, Watched}
 use Rattle.serve_laws.proofs.AtConsole.{at_both}
 use Rattle.serve_laws.proofs.VisitSteps.{turn_read}
 use Rattle.serve_laws.proofs.Passing.{passed_all, tells_still, tells_same, did_split}
 use Rattle.serve_laws.proofs.KeptSteps.{Kept, accept_quiet, kept_read}
-use Rattle.serve_laws.proofs.EndSteps.{HasEnded, any_back, EndsRead, none_heard_end, all_heard_end, until_heard_end, any_watched, none_ended, ended_read, ended_turns}
-use Rattle.serve_laws.proofs.Visiting.{Came, came_still, all_came, heard_turns, kept_turns, grows_none, short_at, nothing_watched, nothing_kept, nothing_at, visits_of, all_heard, all_in_order, all_places, all_taken, all_sent, all_ended}
+use Rattle.serve_laws.proofs.OpenSteps.{AreOpen, open_same, wait_open, accepts_open}
+use Rattle.serve_laws.proofs.HungSteps.{AnswersEnd, all_answer, until_answer, none_answer, last_none, before_reads, seat_ends, Ends, ends_of, since_read, since_turns}
+use Rattle.serve_laws.proofs.EndSteps.{AnyVisit, HasEnded, any_back, EndsRead, none_heard_end, all_heard_end, until_heard_end, any_watched, none_ended, ended_read, ended_turns}
+use Rattle.serve_laws.proofs.Visiting.{Came, came_still, all_came, heard_turns, kept_turns, grows_none, nothing_watched, nothing_kept, nothing_at, visits_of, all_heard, all_in_order, all_places, all_taken, all_sent, all_ended, all_since, none_open, none_since}
 
 -- what the link answered until then
 
@@ -35,7 +37,7 @@ heard_until turn Dialling = []
 heard_until turn Reading = turn.heard
 heard_until turn Advancing = turn.heard
 
-abbrev until : TurnAnswers → CutAt → TurnAnswers
+abbrev pub until : TurnAnswers → CutAt → TurnAnswers
 until turn at = record { accepts = accepted_until turn at; heard = heard_until turn at; told = [] }
 
 -- the calls until then, which are those of a turn up to its reads but for the wait and the last accept
@@ -112,6 +114,56 @@ within_until texts desk turn at p k =
     subst (λ (ds : List Done). list_any p ds ≡ true) (sym (calls_are texts desk turn at))
     (any_back p (first_call at ∷ []) (news ++ (last ++ heard)) (any_back p news (last ++ heard) (any_back p last heard k)))
 
+-- the calls until then that were answered by a connection's end
+
+answers_until : (i : ℕ) (texts : List (List ℕ)) (desk : Desk) (turn : TurnAnswers) (at : CutAt) → IsTurnUntil texts desk turn at →
+    AnswersEnd (get_or (seated texts desk.seats (accepted_until turn at)) i None) (get_or (heard_until turn at) i none_heard).reads (get_or (heard_until turn at) i none_heard).over
+answers_until i texts desk turn Waiting is = none_answer i (seated texts desk.seats [])
+answers_until i texts desk turn Hanging is = none_answer i (seated texts desk.seats [])
+answers_until i texts desk turn Accepting is = none_answer i (seated texts desk.seats turn.accepts)
+answers_until i texts desk turn Dialling is = none_answer i (seated texts desk.seats turn.accepts)
+answers_until i texts desk turn Reading is = until_answer i (seated texts desk.seats turn.accepts) turn.heard is.1
+answers_until i texts desk turn Advancing is = all_answer i (seated texts desk.seats turn.accepts) turn.heard is.1
+
+first_none : (k : ℕ) (at : CutAt) → list_any (ends_it k) (first_call at ∷ []) ≡ false
+first_none k Waiting = refl
+first_none k Hanging = refl
+first_none k Accepting = refl
+first_none k Dialling = refl
+first_none k Reading = refl
+first_none k Advancing = refl
+
+last_call_none : (k : ℕ) (turn : TurnAnswers) (at : CutAt) → list_any (ends_it k) (last_call turn at) ≡ false
+last_call_none k turn Waiting = refl
+last_call_none k turn Hanging = refl
+last_call_none k turn Accepting = refl
+last_call_none k turn Dialling = refl
+last_call_none k turn Reading = last_none k turn.accepts
+last_call_none k turn Advancing = last_none k turn.accepts
+
+first_open : (at : CutAt) (a b : LinkSeen) → DidAll (first_call at ∷ []) a b → (k : ℕ) → b.is_open k ≡ a.is_open k
+first_open Waiting a b did = wait_open true a b did
+first_open Hanging a b did = wait_open false a b did
+first_open Accepting a b did = wait_open false a b did
+first_open Dialling a b did = wait_open false a b did
+first_open Reading a b did = wait_open false a b did
+first_open Advancing a b did = wait_open false a b did
+
+ends_until_of : (i : ℕ) (texts : List (List ℕ)) (desk : Desk) (turn : TurnAnswers) (at : CutAt) (a c : LinkSeen) → DidAll (calls_until texts desk turn at) a c → AreOpen a.is_open desk.seats → IsTurnUntil texts desk turn at →
+    (t : Talk) → get_or (seated texts desk.seats (accepted_until turn at)) i None ≡ Some t → list_any (ends_it t.id) (calls_until texts desk turn at) ≡ (get_or (heard_until turn at) i none_heard).over
+ends_until_of i texts desk turn at a c did opens lawful t is =
+    let news = calls_accepted texts desk.seats (accepted_until turn at) in
+    let last = last_call turn at in
+    let seats = seated texts desk.seats (accepted_until turn at) in
+    let heard = all_calls_heard seats (heard_until turn at) in
+    let parts = did_split (first_call at ∷ []) (news ++ (last ++ heard)) a c (subst (λ (ds : List Done). DidAll ds a c) (calls_are texts desk turn at) did) in
+    let taken = did_split news (last ++ heard) parts.0 c parts.2 in
+    let open_then : AreOpen (taken.0).is_open seats =
+    accepts_open texts desk.seats (accepted_until turn at) parts.0 taken.0 taken.1 (open_same a parts.0 desk.seats (first_open at a parts.0 parts.1) opens) in
+    ap (list_any (ends_it t.id)) (calls_are texts desk turn at)
+    ∙ before_reads t.id texts desk.seats (accepted_until turn at) (first_call at ∷ []) last heard (first_none t.id at) (last_call_none t.id turn at)
+    ∙ seat_ends (taken.0).is_open i seats (heard_until turn at) open_then (answers_until i texts desk turn at lawful) t is
+
 -- the events that were given until then, and the rest of what came
 
 abbrev IfAdvancing : CutAt → Type 0 → Type 0
@@ -126,7 +178,7 @@ begins_rest : (n : ℕ) (events xs ys : List Timed) → events ≡ take n xs →
 begins_rest n events xs ys is =
     ap (λ (l : List Timed). l ++ ys) (sym (take-append-drop n xs)) ∙ append_assoc (take n xs) (drop n xs) ys ∙ ap (λ (l : List Timed). l ++ (drop n xs ++ ys)) (sym is)
 
-rest_until : (tick : ℕ) (texts : List (List ℕ)) (desk : Desk) (turn : TurnAnswers) (at : CutAt) (events : List Timed) → GivenUntil tick texts desk turn at events →
+pub rest_until : (tick : ℕ) (texts : List (List ℕ)) (desk : Desk) (turn : TurnAnswers) (at : CutAt) (events : List Timed) → GivenUntil tick texts desk turn at events →
     (rest : List Timed) × (events_of_turn tick texts desk (until turn at) ≡ events ++ rest) × IfAdvancing at (rest ≡ [])
 rest_until tick texts desk turn Waiting events h =
     let all = events_of_turn tick texts desk (until turn Waiting) in (all, sym (ap (λ (l : List Timed). l ++ all) h), tt)
@@ -169,6 +221,10 @@ accepted_last (suc k) [] t = refl
 accepted_last zero (u ∷ turns) t = refl
 accepted_last (suc k) (u ∷ turns) t = accepted_last k turns t
 
+long_each : (texts : List (List ℕ)) (desk : Desk) (turns : List TurnSeen) → length (calls_each texts desk turns) ≡ length turns
+long_each texts desk [] = refl
+long_each texts desk (t ∷ turns) = ap suc (long_each t.shown (desk_after texts desk t.answers) turns)
+
 pub cut_events_are_visits : CutEventsAreVisits
 cut_events_are_visits console texts desk turns answers at events a c one free unlost lawful did given =
     let i = console - 1 in
@@ -199,9 +255,18 @@ cut_events_are_visits console texts desk turns answers at events a c one free un
     ended_read console one n here left cut (calls_of_turns texts desk turns) (calls_until here left answers at) (events_at console before) w (ends_until i here left answers at lawful_until) (within_until here left answers at)
     (any_watched P (get_or left.seats i None) (get_or left.failed i false) (events_at console before) w h)
     (ended_turns console one 0 texts desk turns [] [] nothing_watched lawful (any_watched P (get_or desk.seats i None) (get_or desk.failed i false) [] nothing_watched start) (none_ended (get_or desk.failed i false))) in
+    let parts = did_split (calls_of_turns texts desk turns) (calls_until here left answers at) a c did in
+    let since : Ends (calls_each texts desk turns) (get_or left.failed i false) w × AreOpen (parts.0).is_open left.seats =
+    since_turns console one 0 texts desk turns [] [] nothing_watched a parts.0 refl lawful parts.1 (subst (AreOpen a.is_open) (sym free) (none_open a.is_open 32)) (nothing_at AnyVisit i desk free unlost)
+    (none_since (get_or desk.failed i false)) in
+    let heard_ends : IsTurnUntil here left answers at → EndsAreHeard (calls_each texts desk turns ++ calls_until here left answers at ∷ []) (visits_of end) = λ lawful_until.
+    all_since P (calls_each texts desk turns ++ calls_until here left answers at ∷ []) (get_or seats i None) false heard end read
+    (ends_of (calls_each texts desk turns) (calls_until here left answers at) false end
+    (since_read console one n here left cut (calls_each texts desk turns) (calls_until here left answers at) (events_at console before) w (long_each texts desk turns)
+    (ends_until_of i here left answers at parts.0 c parts.2 since.1 lawful_until)
+    (any_watched P (get_or left.seats i None) (get_or left.failed i false) (events_at console before) w h) since.0)) in
     let rest = rest_until (1000 * n) here left answers at events given in
     let places = all_places P (get_or seats i None) false heard end read in
-    let parts = did_split (calls_of_turns texts desk turns) (calls_until here left answers at) a c did in
     let kept : c.tells ≡ true → Kept console whole c seats end = λ tells.
     let told : a.tells ≡ true = sym (tells_same (calls_of_turns texts desk turns ++ calls_until here left answers at) a c did) ∙ tells in
     let kept_before : Kept console whole parts.0 left.seats w =
@@ -217,11 +282,10 @@ cut_events_are_visits console texts desk turns answers at events a c one free un
         order = all_in_order P (get_or seats i None) false heard end read;
         places = λ k d lt. (places k d lt).place ∙ ap (λ (l : List (List ℕ)). end_of l (Some console)) (texts_taken (get_or (visits_of end) k d).turn texts turns last refl);
         taken = λ tells. all_taken console whole c seats end (kept tells);
-        sent = λ tells short. subst
-            (λ (l : List (List ℕ)). All (λ (v : Visit). (c.passed v.id).sent ≡ take (length (c.passed v.id).sent) (drop v.place (get_or l i []))) (visits_of end)) ends
-            (all_sent console whole c seats end (short_at i (texts_behind texts all) (subst AreCountable (sym ends) short)) (kept tells));
+        sent = λ tells. subst (λ (l : List (List ℕ)). All (λ (v : Visit). IsSentFrom v.place (get_or l i []) (c.passed v.id).sent) (visits_of end)) ends (all_sent console whole c seats end (kept tells));
       },
       λ k d lt. subst (λ (l : List ℕ). Contains l (get_or (visits_of end) k d).id) (accepted_last (get_or (visits_of end) k d).turn turns last) (places k d lt).number,
       λ lawful_until. all_ended P (calls_of_turns texts desk turns ++ calls_until here left answers at) (get_or seats i None) false heard end read (over lawful_until),
+      heard_ends,
       λ is. ap (events_at console) (subst (λ (x : CutAt). IfAdvancing x (rest.0 ≡ [])) is rest.2),
     )

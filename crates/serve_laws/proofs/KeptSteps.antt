@@ -1,9 +1,9 @@
 -- What passed over a console's connections in a turn: what each sent, and what it was sent.
 use Rattle.std.specs.Prelude.{Bool, true, false, nat_eq, nat_lt, min, ◌^◌, if◌then◌else◌, length, drop, get_or, Option, Some, None}
 use Rattle.std.specs.List.{All}
-use Rattle.std.proofs.Common.{◌≡◌, ◌≢◌, ℕ, ◌+◌, ◌-◌, ◌<◌, ◌≤◌, List, [], ◌∷◌, ◌++◌, refl, sym, ◌∙◌, ap, subst, arith, ◌⊎◌, inl, inr, length-append, length-drop}
+use Rattle.std.proofs.Common.{◌≡◌, ◌≢◌, ℕ, ◌+◌, ◌-◌, ◌≤◌, List, [], ◌∷◌, ◌++◌, refl, sym, ◌∙◌, ap, subst, arith, ◌⊎◌, inl, inr, length-append}
 use Rattle.std.proofs.lemmas.Bool.{cases_eq}
-use Rattle.std.proofs.lemmas.List.{append_assoc, take-append-drop, drop-drop, drop_at, drop-append-le, drop_all}
+use Rattle.std.proofs.lemmas.List.{append_assoc, take-append-drop, drop-append-le, drop_all}
 use Rattle.std.proofs.lemmas.List.Elements.{All-append, All-cons, All-nil}
 use Rattle.console_link.specs.declared.link.Accepted.TheVariants as accepted
 use Rattle.console_link.specs.declared.link.LinkTook.{LinkTook}
@@ -15,6 +15,7 @@ use Rattle.console_server.specs.Turns.{Talk, Desk, TurnAnswers, IsTurn, HeardOf,
 use Rattle.console_server.specs.Visits.{Visit}
 use Rattle.serve_laws.proofs.Watching.{Watch, hung, ended, ended_if, new_visit, come, all_come, with_bytes, read, watched, none_heard, none_told, IsNow, OnNow}
 use Rattle.serve_laws.proofs.AtConsole.{same, other, same_of, not_same, some_is, none_is, number_of, seat_heard, seat_sent, told_lawful, put_here, put_there}
+use Rattle.serve_laws.proofs.SentSteps.{Begins, most, IsSentTo, none_sent, sent_on, sent_same, next_place, first_place}
 use Rattle.serve_laws.proofs.Passing.{passed_all, passed_is, tells_still, did_split, WasGiven, given_one, given_still, new_given, new_differs, OnSeat, IsApart, all_heard_off, all_heard_on, all_told_off, all_told_on, on_heard, on_told, on_put}
 
 -- an accept that isn't ready
@@ -25,12 +26,8 @@ accept_quiet ids k p = by_test (nat_lt (length ids) 32)
     by_test true = refl
     by_test false = refl
 
--- bytes at the beginning of others
-abbrev pub Begins : List ℕ → List ℕ → Type 0
-Begins xs whole = (more : List ℕ) × (whole ≡ xs ++ more)
-
-none_sent : (bytes : List ℕ) (puts : List Wrote) → bytes ≡ [] → puts ≡ [] → bytes ++ sent_of puts ≡ []
-none_sent bytes puts is none = (λ i. is i ++ sent_of (none i))
+no_puts : (bytes : List ℕ) (puts : List Wrote) → bytes ≡ [] → puts ≡ [] → bytes ++ sent_of puts ≡ []
+no_puts bytes puts is none = (λ i. is i ++ sent_of (none i))
 
 -- what is sent is the beginning of what may be
 sent_begins : (lost : Bool) (puts : List Wrote) (may : ℕ) (rest : List ℕ) → IsPutting lost puts may rest → Begins (sent_of puts) rest
@@ -41,20 +38,20 @@ sent_begins lost (p ∷ puts) may rest h = by_answer (λ m r k. sent_begins lost
     by_answer goes_on (took.Bytes n) k =
         let more = goes_on (may - n) (drop n rest) k.3 in
         (more.0, sym (take-append-drop n rest) ∙ (λ i. sym k.2 i ++ more.1 i) ∙ sym (append_assoc p.bytes (sent_of puts) more.0))
-    by_answer goes_on took.NotYet k = (rest, sym (ap (λ (l : List ℕ). l ++ rest) (none_sent p.bytes puts k.0 k.2)))
-    by_answer goes_on took.Failed k = (rest, sym (ap (λ (l : List ℕ). l ++ rest) (none_sent p.bytes puts k.0 k.2)))
+    by_answer goes_on took.NotYet k = (rest, sym (ap (λ (l : List ℕ). l ++ rest) (no_puts p.bytes puts k.0 k.2)))
+    by_answer goes_on took.Failed k = (rest, sym (ap (λ (l : List ℕ). l ++ rest) (no_puts p.bytes puts k.0 k.2)))
 
 -- what goes on from a place of a text goes on from there in a longer one
-begins_longer : (place : ℕ) (ys text whole rest : List ℕ) → Grows text whole → Begins ys (drop place text) → drop place whole ≡ rest → Begins ys rest
-begins_longer place ys text whole rest grows begins is = by_place (decide place (length text))
+begins_longer : (place : ℕ) (ys text whole : List ℕ) → Grows text whole → Begins ys (drop place text) → Begins ys (drop place whole)
+begins_longer place ys text whole grows begins = by_place (decide place (length text))
   where
     decide : (a b : ℕ) → (a ≤ b) ⊎ (b ≤ a)
     decide a b = grind arith
 
-    by_place : (place ≤ length text) ⊎ (length text ≤ place) → Begins ys rest
+    by_place : (place ≤ length text) ⊎ (length text ≤ place) → Begins ys (drop place whole)
     by_place (inl le) =
-        (begins.0 ++ grows.0, sym is ∙ ap (drop place) grows.1 ∙ drop-append-le place text grows.0 le ∙ ap (λ (l : List ℕ). l ++ grows.0) begins.1 ∙ append_assoc ys begins.0 grows.0)
-    by_place (inr le) = (rest, ap (λ (l : List ℕ). l ++ rest) (sym (none_of ys begins.0 (sym (drop_all place text le) ∙ begins.1))))
+        (begins.0 ++ grows.0, ap (drop place) grows.1 ∙ drop-append-le place text grows.0 le ∙ ap (λ (l : List ℕ). l ++ grows.0) begins.1 ∙ append_assoc ys begins.0 grows.0)
+    by_place (inr le) = (drop place whole, ap (λ (l : List ℕ). l ++ drop place whole) (sym (none_of ys begins.0 (sym (drop_all place text le) ∙ begins.1))))
       where
         none_of : (xs more : List ℕ) → [] ≡ xs ++ more → xs ≡ []
         none_of [] more e = refl
@@ -64,15 +61,11 @@ begins_longer place ys text whole rest grows begins is = by_place (decide place 
             not_cons y zs f = cc
 
 module _ (console : ℕ) (whole : List ℕ) where
-  -- a count of bytes can hold the text's length
-  abbrev pub IsShort : Type 0
-  IsShort = length whole < 2 ^ 64
-
   -- what passed over a visit's connection
   pub record Carried (s : LinkSeen) (v : Visit) : Type 0 where
     pub given : WasGiven s v.id
     pub taken : (s.passed v.id).taken ≡ v.bytes
-    pub sent : IsShort → Begins (s.passed v.id).sent (drop v.place whole)
+    pub sent : IsSentTo most v.place whole (s.passed v.id).sent
 
   pub record IsOver (s : LinkSeen) (seats : List (Option Talk)) (v : Visit) : Type 0 where
     pub carried : Carried s v
@@ -80,12 +73,12 @@ module _ (console : ℕ) (whole : List ℕ) where
 
   -- it is sent its text from there on
   abbrev pub IsPlaceOf : LinkSeen → Visit → Talk → Type 0
-  IsPlaceOf s v t = (t.place ≡ v.place + length (s.passed v.id).sent) × (t.place ≤ length whole)
+  IsPlaceOf s v t = t.place ≡ min (v.place + length (s.passed v.id).sent) most
 
   -- the seat of the visit that isn't over
   abbrev pub IsSeatOf : LinkSeen → Visit → Option Talk → Type 0
   IsSeatOf s v None = Unit {0}
-  IsSeatOf s v (Some t) = (t.id ≡ v.id) × (IsShort → IsPlaceOf s v t)
+  IsSeatOf s v (Some t) = (t.id ≡ v.id) × IsPlaceOf s v t
 
   pub record IsOn (s : LinkSeen) (seats : List (Option Talk)) (v : Visit) : Type 0 where
     pub carried : Carried s v
@@ -102,12 +95,12 @@ module _ (console : ℕ) (whole : List ℕ) where
       record {
         given = given v.id c.given;
         taken = ap (λ (p : Passed). p.taken) is ∙ c.taken;
-        sent = λ short. let rest = c.sent short in (rest.0, rest.1 ∙ ap (λ (p : Passed). p.sent ++ rest.0) (sym is));
+        sent = sent_same most v.place whole (a.passed v.id).sent (b.passed v.id).sent (ap (λ (p : Passed). p.sent) is) c.sent;
       }
 
   seat_still : (a b : LinkSeen) (v : Visit) (o : Option Talk) → b.passed v.id ≡ a.passed v.id → IsSeatOf a v o → IsSeatOf b v o
   seat_still a b v None is h = tt
-  seat_still a b v (Some t) is h = (h.0, λ short. ((h.1 short).0 ∙ ap (λ (p : Passed). v.place + length p.sent) (sym is), (h.1 short).1))
+  seat_still a b v (Some t) is h = (h.0, h.1 ∙ ap (λ (p : Passed). min (v.place + length p.sent) most) (sym is))
 
   on_more : (Q R : ℕ → Type 0) (o : Option Talk) → ((k : ℕ) → Q k → R k) → OnSeat Q o → OnSeat R o
   on_more Q R None f h = tt
@@ -217,7 +210,7 @@ module _ (console : ℕ) (whole : List ℕ) where
                     carried = record {
                       given = heard_given v.id on.carried.given;
                       taken = ap (λ (p : Passed). p.taken) passed ∙ ap (λ (l : List ℕ). l ++ bytes_of reads) on.carried.taken;
-                      sent = λ short. let rest = on.carried.sent short in (rest.0, rest.1 ∙ ap (λ (p : Passed). p.sent ++ rest.0) (sym passed));
+                      sent = sent_same most v.place whole (a.passed v.id).sent (b.passed v.id).sent (ap (λ (p : Passed). p.sent) passed) on.carried.sent;
                     };
                     apart = λ j ne. heard_apart v.id j (on.apart j ne);
                     seat = subst (IsSeatOf b (record v { bytes = v.bytes ++ bytes_of reads })) (sym here) (seat_is over passed was);
@@ -225,7 +218,7 @@ module _ (console : ℕ) (whole : List ℕ) where
                 where
                   seat_is : (o : Bool) → b.passed v.id ≡ record (a.passed v.id) { taken = (a.passed v.id).taken ++ bytes_of reads } → IsSeatOf a v (Some t) → IsSeatOf b (record v { bytes = v.bytes ++ bytes_of reads }) (seat_after (Some t) reads o)
                   seat_is true passed was = tt
-                  seat_is false passed was = (was.0, λ short. ((was.1 short).0 ∙ ap (λ (p : Passed). v.place + length p.sent) (sym passed), (was.1 short).1))
+                  seat_is false passed was = (was.0, was.1 ∙ ap (λ (p : Passed). min (v.place + length p.sent) most) (sym passed))
 
               by_over : (over : Bool) → get_or (all_seats_after seats hs) (console - 1) None ≡ seat_after (Some t) reads over → Kept b (all_seats_after seats hs) (read (Some t) reads over w)
               by_over true here = end_step b (all_seats_after seats hs) w.past (with_bytes (bytes_of reads) w.now) here given past (goes_on true here w.now h.now)
@@ -251,21 +244,15 @@ module _ (console : ℕ) (whole : List ℕ) where
           ∙ all_told_on shown 0 (console - 1) t seats ts (a.passed t.id) are is apart
           ∙ ap (λ (k : ℕ). record (a.passed k) { sent = (a.passed k).sent ++ sent_of (get_or ts (console - 1) none_told).puts }) id
 
-      -- what is sent now goes on where what was sent ended
-      sent_goes_on : (t : Talk) (v : Visit) → Grows (get_or shown (console - 1) []) whole → get_or seats (console - 1) None ≡ Some t → (on : IsOn a seats v) (short : IsShort) → Begins (sent_of (get_or ts (console - 1) none_told).puts) (on.carried.sent short).0
-      sent_goes_on t v grows is on short =
-          let was = subst (IsSeatOf a v) is on.seat in
-          let sent = (a.passed v.id).sent in
-          let begun = on.carried.sent short in
-          let rest = begun.0 in
+      -- what is sent now goes on from the seat's place
+      sent_goes_on : (t : Talk) → Grows (get_or shown (console - 1) []) whole → get_or seats (console - 1) None ≡ Some t → Begins (sent_of (get_or ts (console - 1) none_told).puts) (drop t.place whole)
+      sent_goes_on t grows is =
           let puts = (get_or ts (console - 1) none_told).puts in
           let lost = (get_or ts (console - 1) none_told).lost in
           let zero_plus : console - 1 ≡ 0 + (console - 1) = omega arith in
           let lawful : IsPutting lost puts 4096 (drop t.place (get_or shown (console - 1) [])) =
           subst (λ (o : Option Talk). IsToldOf (get_or shown (console - 1) []) o puts lost) is (told_lawful shown 0 (console - 1) (console - 1) seats ts zero_plus are) in
-          let from_here : drop t.place whole ≡ rest =
-          ap (λ (n : ℕ). drop n whole) (was.1 short).0 ∙ sym (drop-drop (length sent) v.place whole) ∙ ap (drop (length sent)) begun.1 ∙ drop_at sent rest (length sent) refl in
-          begins_longer t.place (sent_of puts) (get_or shown (console - 1) []) whole rest grows (sent_begins lost puts 4096 (drop t.place (get_or shown (console - 1) [])) lawful) from_here
+          begins_longer t.place (sent_of puts) (get_or shown (console - 1) []) whole grows (sent_begins lost puts 4096 (drop t.place (get_or shown (console - 1) [])) lawful)
 
       pub kept_told : (w : Watch) → Grows (get_or shown (console - 1) []) whole → Kept a seats w → Kept b (all_seats_told seats ts) w
       kept_told w grows h = record { given = given; past = past; now = by_seat (get_or seats (console - 1) None) refl (seat_sent shown 0 (console - 1) seats ts are) w.now h.now }
@@ -293,9 +280,8 @@ module _ (console : ℕ) (whole : List ℕ) where
                 carried = record {
                   given = told_given v.id on.carried.given;
                   taken = ap (λ (p : Passed). p.taken) passed ∙ on.carried.taken;
-                  sent = λ short.
-                      let rest = (more short).0 in
-                      (rest, (on.carried.sent short).1 ∙ ap (λ (l : List ℕ). (a.passed v.id).sent ++ l) (more short).1 ∙ sym (append_assoc (a.passed v.id).sent (sent_of puts) rest) ∙ ap (λ (p : Passed). p.sent ++ rest) (sym passed));
+                  sent = sent_same most v.place whole ((a.passed v.id).sent ++ sent_of puts) (b.passed v.id).sent (ap (λ (p : Passed). p.sent) passed)
+                      (sent_on most v.place t.place whole (a.passed v.id).sent (sent_of puts) was.1 (sent_goes_on t grows is) on.carried.sent);
                 };
                 apart = λ j ne. told_apart v.id j (on.apart j ne);
                 seat = subst (IsSeatOf b v) (sym (next ∙ ap (λ (o : Option Talk). seat_told o puts (get_or ts (console - 1) none_told).lost) is)) (seat_is (get_or ts (console - 1) none_told).lost);
@@ -304,42 +290,15 @@ module _ (console : ℕ) (whole : List ℕ) where
               passed : b.passed v.id ≡ record (a.passed v.id) { sent = (a.passed v.id).sent ++ sent_of puts }
               passed = told_on_it t v is on
 
-              more : (short : IsShort) → Begins (sent_of puts) (on.carried.sent short).0
-              more short = sent_goes_on t v grows is on short
-
               was : IsSeatOf a v (Some t)
               was = subst (IsSeatOf a v) is on.seat
 
               long : length (b.passed v.id).sent ≡ length (a.passed v.id).sent + length (sent_of puts)
               long = ap (λ (p : Passed). length p.sent) passed ∙ length-append (a.passed v.id).sent (sent_of puts)
 
-              left : (short : IsShort) → length whole - v.place ≡ length (a.passed v.id).sent + (length (sent_of puts) + length (more short).0)
-              left short =
-                  sym (length-drop v.place whole) ∙ ap length (on.carried.sent short).1 ∙ length-append (a.passed v.id).sent (on.carried.sent short).0
-                  ∙ ap (λ (n : ℕ). length (a.passed v.id).sent + n) (ap length (more short).1 ∙ length-append (sent_of puts) (more short).0)
-
-              within : (short : IsShort) → t.place + length (sent_of puts) ≤ length whole
-              within short =
-                  fits (length whole) v.place t.place (length (a.passed v.id).sent) (length (sent_of puts)) (length (more short).0) (was.1 short).0 (was.1 short).1 (left short)
-                where
-                  fits : (size place now sent new rest : ℕ) → now ≡ place + sent → now ≤ size → size - place ≡ sent + (new + rest) → now + new ≤ size
-                  fits size place now sent new rest e le d = omega (arith, e, le, d)
-
               seat_is : (l : Bool) → IsSeatOf b v (seat_told (Some t) puts l)
               seat_is true = tt
-              seat_is false = (was.0, λ short. (count short ∙ more_place short ∙ ap (λ (n : ℕ). v.place + n) (sym long), subst (λ (n : ℕ). n ≤ length whole) (sym (count short)) (within short)))
-                where
-                  least : (n most : ℕ) → n ≤ most → most < 2 ^ 64 → min n (2 ^ 64 - 1) ≡ n
-                  least n most le lt = omega (arith, le, lt)
-
-                  count : (short : IsShort) → min (t.place + length (sent_of puts)) (2 ^ 64 - 1) ≡ t.place + length (sent_of puts)
-                  count short = least (t.place + length (sent_of puts)) (length whole) (within short) short
-
-                  more_place : (short : IsShort) → t.place + length (sent_of puts) ≡ v.place + (length (a.passed v.id).sent + length (sent_of puts))
-                  more_place short = plus t.place v.place (length (a.passed v.id).sent) (length (sent_of puts)) (was.1 short).0
-                    where
-                      plus : (n p m l : ℕ) → n ≡ p + m → n + l ≡ p + (m + l)
-                      plus n p m l e = omega (arith, e)
+              seat_is false = (was.0, next_place most v.place t.place (length (a.passed v.id).sent) (length (sent_of puts)) (length (b.passed v.id).sent) was.1 long)
 
   module _ (one : 1 ≤ console) (turn : ℕ) (texts : List (List ℕ)) (grows : Grows (get_or texts (console - 1) []) whole) where
     end_within : end_of texts (Some console) ≤ length whole
@@ -347,6 +306,12 @@ module _ (console : ℕ) (whole : List ℕ) where
       where
         fits : (n m k : ℕ) → k ≡ n + m → min n (2 ^ 64 - 1) ≤ k
         fits n m k e = omega (arith, e)
+
+    end_most : end_of texts (Some console) ≤ most
+    end_most = least (length (get_or texts (console - 1) []))
+      where
+        least : (n : ℕ) → min n most ≤ most
+        least n = omega arith
 
     -- one new connection
     module _ (a b : LinkSeen) (tells : a.tells ≡ true) (id : ℕ) (seats : List (Option Talk)) (did : Did (DidAccept (accepted.New id)) a b) where
@@ -393,7 +358,7 @@ module _ (console : ℕ) (whole : List ℕ) where
             given = come_given (talk_of texts (Some c) id) refl h.given;
             past = come_past (talk_of texts (Some c) id) w refl h.past;
             now = record {
-              carried = record { given = new_given id a b tells did; taken = ap (λ (p : Passed). p.taken) nothing_yet; sent = λ short. (drop (end_of texts (Some console)) whole, ap (λ (p : Passed). p.sent ++ drop (end_of texts (Some console)) whole) (sym nothing_yet)) };
+              carried = record { given = new_given id a b tells did; taken = ap (λ (p : Passed). p.taken) nothing_yet; sent = sent_same most (end_of texts (Some console)) whole [] (b.passed id).sent (ap (λ (p : Passed). p.sent) nothing_yet) (none_sent most (end_of texts (Some console)) whole end_within) };
               apart = λ j ne. subst (IsApart id) (sym (put_there 1 j (talk_of texts (Some c) id) seats (elsewhere j ne))) (given_apart (get_or seats j None) (h.given j));
               seat = subst (IsSeatOf b (new_visit console turn texts id)) (sym (put_here 1 c (console - 1) (talk_of texts (Some c) id) seats free (is ∙ number_of console one))) seat;
             };
@@ -413,10 +378,7 @@ module _ (console : ℕ) (whole : List ℕ) where
           place_is = ap (λ (n : ℕ). end_of texts (Some n)) is
 
           seat : IsSeatOf b (new_visit console turn texts id) (Some (talk_of texts (Some c) id))
-          seat = (refl, λ short. (place_is ∙ plus_none (end_of texts (Some console)) (length (b.passed id).sent) (ap (λ (p : Passed). length p.sent) nothing_yet), subst (λ (n : ℕ). n ≤ length whole) (sym place_is) end_within))
-            where
-              plus_none : (n m : ℕ) → m ≡ 0 → n ≡ n + m
-              plus_none n m e = omega (arith, e)
+          seat = (refl, place_is ∙ first_place most (end_of texts (Some console)) (length (b.passed id).sent) end_most (ap (λ (p : Passed). length p.sent) nothing_yet))
 
       kept_come : (w : Watch) → Kept a seats w → Kept b (seats_with texts id seats) (come console turn texts (free_from 1 seats) id w)
       kept_come w h = by_free (free_from 1 seats) refl

@@ -11,7 +11,11 @@ pub mod Watching
 pub mod AtConsole
 pub mod VisitSteps
 pub mod Passing
+pub mod SentSteps
+pub mod OpenSteps
 pub mod KeptSteps
 pub mod EndSteps
+pub mod HungSteps
 pub mod Visiting
 pub mod CutVisits
+pub mod Loading

@@ -2,7 +2,6 @@
 use Rattle.std.specs.Prelude.{Bool, true, false, nat_eq, length, map}
 use Rattle.std.proofs.Common.{◌≡◌, ℕ, ◌+◌, ◌-◌, ◌≤◌, List, [], ◌∷◌, refl, sym, ◌∙◌, ap, subst, arith, length-append}
 use Rattle.std.proofs.lemmas.Bool.Decides.{nat_tests}
-use Rattle.faults.specs.Faults.{Rose}
 use Rattle.console_link.specs.declared.link.LinkGot.{LinkGot}
 use Rattle.console_link.specs.declared.link.LinkGot.TheVariants as got
 use Rattle.faults.proofs.Rises.{rose_later}

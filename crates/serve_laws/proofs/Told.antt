@@ -1,15 +1,13 @@
 -- A link lists all calls of a talk.
-use Rattle.std.proofs.Common.{◌≡◌, ℕ, ◌+◌, ◌-◌, ◌*◌, ◌≤◌, ◌<◌, Bool, false, List, [], ◌∷◌, ◌++◌, length, map, Option, Some, None, refl, sym, ap, subst, ◌∙◌, arith, length-append}
+use Rattle.std.proofs.Common.{◌≡◌, ℕ, ◌+◌, ◌-◌, ◌*◌, ◌≤◌, false, List, [], ◌∷◌, ◌++◌, length, map, Option, Some, None, refl, sym, ap, ◌∙◌, arith, length-append}
 use Rattle.std.proofs.lemmas.List.{length-map}
-use Rattle.ctss_types.specs.declared.script.Script.{Script}
-use Rattle.ctss_types.specs.declared.script.Timed.{Timed}
 use Rattle.console_link.specs.Links.{LinkSeen, CallList, Done, DidOpen, DidClose, call_of}
 use Rattle.console_server.specs.Readings.{DidAll}
 use Rattle.console_server.specs.Turns.{Talk, Desk, desk_after}
 use Rattle.console_server.specs.Server.{calls_until}
 use Rattle.console_server.specs.Conversation.{TurnSeen, calls_of_turns, desk_behind, texts_behind}
 use Rattle.serve_laws.proofs.CallLaws.{calls_are_told, desk_length, few_calls_until, few_calls_in_turns}
-use Rattle.live_serve.specs.Talks.{empty_desk, silent, close_of, closes_of_desk, IsTalk, IsCutTalk}
+use Rattle.live_serve.specs.Talks.{empty_desk, silent, closes_of_desk}
 use Rattle.serve_laws.specs.Laws.{ListsFew, CallsOfTalksAreTold, CallsOfCutTalksAreTold}
 
 seats_behind : (texts : List (List ℕ)) (desk : Desk) (turns : List TurnSeen) → length desk.seats ≡ 32 → length (desk_behind texts desk turns).seats ≡ 32

@@ -1,8 +1,8 @@
 -- The visits of many turns.
-use Rattle.std.specs.Prelude.{Bool, true, false, ◌^◌, replicate, length, take, drop, get_or, Option, Some, None}
+use Rattle.std.specs.Prelude.{length, Bool, true, false, replicate, take, drop, get_or, Option, Some, None}
 use Rattle.std.specs.List.{All, AllZip, Contains, flat_map, list_any}
-use Rattle.std.proofs.Common.{◌≡◌, ℕ, zero, suc, ◌-◌, ◌*◌, ◌<◌, ◌≤◌, List, [], ◌∷◌, ◌++◌, refl, sym, ◌∙◌, ap, subst, arith}
-use Rattle.std.proofs.lemmas.List.{append_assoc, append-nil, take_at}
+use Rattle.std.proofs.Common.{◌≡◌, ℕ, zero, suc, ◌-◌, ◌*◌, ◌≤◌, List, [], ◌∷◌, ◌++◌, refl, sym, ◌∙◌, ap, subst, arith}
+use Rattle.std.proofs.lemmas.List.{append_assoc, append-nil}
 use Rattle.std.proofs.lemmas.List.Elements.{All-append, All-cons, All-nil, Contains-get_or}
 use Rattle.ctss_types.specs.declared.script.Event.{Event}
 use Rattle.ctss_types.specs.declared.script.Event.TheVariants.{Dial, Hang}
@@ -13,15 +13,18 @@ use Rattle.console_server.specs.Readings.{DidAll, Nothing}
 use Rattle.console_server.specs.Turns.{Talk, Desk, if_over, end_of, calls_of_turn, events_of_turn, desk_after}
 use Rattle.console_server.specs.History.{events_in}
 use Rattle.console_server.specs.Conversation.{TurnSeen, AreTurns, calls_of_turns, events_of_turns, desk_behind, texts_behind}
-use Rattle.console_server.specs.Visits.{Visit, OneAtATime, events_of_visit, events_at, AreCountable, HaveEnded, ends_it}
+use Rattle.console_server.specs.Visits.{Visit, OneAtATime, events_of_visit, events_at, IsSentFrom, HaveEnded, EndsAreHeard, ends_it}
 use Rattle.console_server.proofs.DeskLaws.{false_is}
-use Rattle.serve_laws.specs.VisitLaws.{accepted_in, EventsAreVisits}
+use Rattle.serve_laws.specs.VisitLaws.{accepted_in, calls_heard_of, EventsAreVisits}
 use Rattle.serve_laws.proofs.Watching.{Watch, new_visit, watched, all_watched, said, IsNow, OnNow, Watched}
 use Rattle.serve_laws.proofs.AtConsole.{at_both}
 use Rattle.serve_laws.proofs.VisitSteps.{fm_both, turn_step}
 use Rattle.serve_laws.proofs.Passing.{tells_still, tells_same, did_split, OnSeat, WasGiven}
-use Rattle.serve_laws.proofs.KeptSteps.{Begins, IsOver, IsOn, Kept, kept_turn}
-use Rattle.serve_laws.proofs.EndSteps.{HasEnded, any_watched, ended_turns, none_ended}
+use Rattle.serve_laws.proofs.SentSteps.{sent_from}
+use Rattle.serve_laws.proofs.KeptSteps.{IsOver, IsOn, Kept, kept_turn}
+use Rattle.serve_laws.proofs.OpenSteps.{AreOpen}
+use Rattle.serve_laws.proofs.HungSteps.{HasEnded as HasEndedSince, ended_since, Ends, since_last}
+use Rattle.serve_laws.proofs.EndSteps.{HasEnded, AnyVisit, any_watched, ended_turns, none_ended}
 
 -- the texts
 
@@ -183,14 +186,6 @@ none_lost zero i = refl
 none_lost (suc n) zero = refl
 none_lost (suc n) (suc i) = none_lost n i
 
-pub short_at : (i : ℕ) (texts : List (List ℕ)) → AreCountable texts → length (get_or texts i []) < 2 ^ 64
-short_at i [] h = omega arith
-short_at zero (t ∷ texts) h = h 0 t (omega arith)
-short_at (suc i) (t ∷ texts) h = short_at i texts (λ k d lt. h (suc k) d (omega (arith, lt)))
-
-as_taken : (xs whole : List ℕ) → Begins xs whole → xs ≡ take (length xs) whole
-as_taken xs whole h = sym (ap (take (length xs)) h.1 ∙ take_at xs h.0 (length xs) refl)
-
 pub nothing_heard : (P : Visit → Type 0) → Watched P None false [] nothing_watched
 nothing_heard P = record { hung = All-nil (λ (v : Visit). v.hung ≡ true); heard = refl; now = tt; places = All-nil P; place = tt }
 
@@ -221,12 +216,12 @@ all_taken console whole b seats w k =
     all_visits (λ (v : Visit). (b.passed v.id).taken ≡ v.bytes) w.past w.now
     (λ j d lt. (k.past j d lt).carried.taken) (now_more (IsOn console whole b seats) (λ (v : Visit). (b.passed v.id).taken ≡ v.bytes) w.now (λ v on. on.carried.taken) k.now)
 
-pub all_sent : (console : ℕ) (whole : List ℕ) (b : LinkSeen) (seats : List (Option Talk)) (w : Watch) → length whole < 2 ^ 64 → Kept console whole b seats w →
-    All (λ (v : Visit). (b.passed v.id).sent ≡ take (length (b.passed v.id).sent) (drop v.place whole)) (visits_of w)
-all_sent console whole b seats w short k =
-    all_visits (λ (v : Visit). (b.passed v.id).sent ≡ take (length (b.passed v.id).sent) (drop v.place whole)) w.past w.now
-    (λ j d lt. as_taken _ _ ((k.past j d lt).carried.sent short))
-    (now_more (IsOn console whole b seats) (λ (v : Visit). (b.passed v.id).sent ≡ take (length (b.passed v.id).sent) (drop v.place whole)) w.now (λ v on. as_taken _ _ (on.carried.sent short)) k.now)
+pub all_sent : (console : ℕ) (whole : List ℕ) (b : LinkSeen) (seats : List (Option Talk)) (w : Watch) → Kept console whole b seats w →
+    All (λ (v : Visit). IsSentFrom v.place whole (b.passed v.id).sent) (visits_of w)
+all_sent console whole b seats w k =
+    all_visits (λ (v : Visit). IsSentFrom v.place whole (b.passed v.id).sent) w.past w.now
+    (λ j d lt. sent_from _ whole _ (k.past j d lt).carried.sent)
+    (now_more (IsOn console whole b seats) (λ (v : Visit). IsSentFrom v.place whole (b.passed v.id).sent) w.now (λ v on. sent_from v.place whole (b.passed v.id).sent on.carried.sent) k.now)
 
 -- those of whose end the core heard are those that are over
 pub all_ended : (P : Visit → Type 0) (calls : List Done) (seat : Option Talk) (lost : Bool) (events : List Event) (w : Watch) → Watched P seat lost events w → All (HasEnded calls) w.past → HaveEnded calls (visits_of w)
@@ -239,6 +234,24 @@ all_ended P calls seat lost events w h ends = all_visits Ends w.past w.now (λ k
     by_now None fits = tt
     by_now (Some v) fits = λ is. false_is (sym is ∙ not_over seat lost v fits)
 
+pub all_since : (P : Visit → Type 0) (calls : List (List Done)) (seat : Option Talk) (lost : Bool) (events : List Event) (w : Watch) → Watched P seat lost events w → Ends calls false w → EndsAreHeard calls (visits_of w)
+all_since P calls seat lost events w h ends = all_visits Tells w.past w.now (λ k d lt. h.hung k d lt ∙ sym (ends.past k d lt)) (by_now w.now h.now ends.now)
+  where
+    Tells : Visit → Type 0
+    Tells v = v.hung ≡ ended_since calls v
+
+    by_now : (now : Option Visit) → IsNow seat lost now → OnNow (λ (v : Visit). (v.turn ≤ length calls) × (ended_since calls v ≡ false)) now → OnNow Tells now
+    by_now None fits k = tt
+    by_now (Some v) fits k = not_over seat lost v fits ∙ sym k.1
+
+-- no connection is open yet
+pub none_open : (f : ℕ → Bool) (n : ℕ) → AreOpen f (replicate n no_talk)
+none_open f zero = tt
+none_open f (suc n) = (tt, none_open f n)
+
+pub none_since : (lost : Bool) → Ends [] lost nothing_watched
+none_since lost = record { past = All-nil (HasEndedSince []); now = tt }
+
 -- nothing is heard yet of a desk without connections
 pub nothing_at : (P : Visit → Type 0) (i : ℕ) (desk : Desk) → desk.seats ≡ replicate 32 None → desk.failed ≡ replicate 32 false → Watched P (get_or desk.seats i None) (get_or desk.failed i false) [] nothing_watched
 nothing_at P i desk free unlost =
@@ -246,6 +259,16 @@ nothing_at P i desk free unlost =
     let lost : get_or desk.failed i false ≡ false = ap (λ (l : List Bool). get_or l i false) unlost ∙ none_lost 32 i in
     subst (λ (o : Option Talk). Watched P o (get_or desk.failed i false) [] nothing_watched) (sym seat)
     (subst (λ (l : Bool). Watched P None l [] nothing_watched) (sym lost) (nothing_heard P))
+
+-- the core heard of those that ended, but for the last turn's writes
+ends_heard : (console : ℕ) (one : 1 ≤ console) (texts : List (List ℕ)) (desk : Desk) (turns : List TurnSeen) (a b : LinkSeen) (P : Visit → Type 0) (seat : Option Talk) (lost : Bool) (events : List Event) →
+    desk.seats ≡ replicate 32 None → desk.failed ≡ replicate 32 false → AreTurns texts desk turns → DidAll (calls_of_turns texts desk turns) a b → Watched P seat lost events (all_watched console 0 texts desk turns nothing_watched) →
+    EndsAreHeard (calls_heard_of texts desk turns) (visits_of (all_watched console 0 texts desk turns nothing_watched))
+ends_heard console one texts desk [] a b P seat lost events free unlost lawful did h = All-nil (λ (v : Visit). v.hung ≡ ended_since [] v)
+ends_heard console one texts desk (t ∷ turns) a b P seat lost events free unlost lawful did h =
+    all_since P (calls_heard_of texts desk (t ∷ turns)) seat lost events (all_watched console 0 texts desk (t ∷ turns) nothing_watched) h
+    (since_last console one 0 texts desk t turns [] [] nothing_watched a b refl lawful did (subst (AreOpen a.is_open) (sym free) (none_open a.is_open 32)) (nothing_at AnyVisit (console - 1) desk free unlost)
+    (none_since (get_or desk.failed (console - 1) false)))
 
 pub events_are_visits : EventsAreVisits
 events_are_visits console texts desk turns a b one free unlost lawful did =
@@ -270,8 +293,9 @@ events_are_visits console texts desk turns a b one free unlost lawful did =
         order = all_in_order P seat lost (events_at console events) w h;
         places = λ k d lt. (all_places P seat lost (events_at console events) w h k d lt).place;
         taken = λ tells. all_taken console whole b seats w (kept tells);
-        sent = λ tells short. all_sent console whole b seats w (short_at i (texts_behind texts turns) short) (kept tells);
+        sent = λ tells. all_sent console whole b seats w (kept tells);
       },
       λ k d lt. (all_places P seat lost (events_at console events) w h k d lt).number,
       all_ended P (calls_of_turns texts desk turns) seat lost (events_at console events) w h ends,
+      ends_heard console one texts desk turns a b P seat lost (events_at console events) free unlost lawful did h,
     )

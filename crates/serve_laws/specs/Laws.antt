@@ -1,17 +1,26 @@
--- claim: the script of live consoles is one that is read, and its replay is what was written; and all calls of a link are told.
+-- claim: the script of live consoles is one that is read, and its replay is what was written; what a turn that a load stopped asks of the drum;
+-- and all calls of a link are told.
 use Rattle.std.specs.Prelude.{◌≡◌, ◌≤◌, ◌+◌, ◌-◌, ◌*◌, ℕ, Bool, true, false, List, ◌++◌, length, Some, Ok}
 use Rattle.ctss_types.specs.declared.script.Script.{Script}
 use Rattle.ctss_types.specs.declared.script.Timed.{Timed}
+use Rattle.ctss_types.specs.declared.history.Record.{Record}
 use Rattle.text_model.specs.Canonical.{script_text_of}
 use Rattle.text_model.specs.Reading.{script_of, max_bytes}
+use Rattle.text_model.specs.Report.{report_of}
 use Rattle.script_read.specs.Bases.{base_of}
 use Rattle.ctss_io.specs.Outside.{after}
 use Rattle.text_model.specs.declared.mode.Mode.TheVariants.{Replay, Serve}
 use Rattle.console_link.specs.declared.link.CallMade.{CallMade}
 use Rattle.console_link.specs.Links.{LinkSeen, CallList}
+use Rattle.time_sharing.specs.Sums.{dumped_in, read_in}
+use Rattle.system_model.specs.Record.{record_of}
+use Rattle.supervisor.specs.Counts.{calls_to_load}
+use Rattle.live_run.specs.Media.{MediaSeen}
 use Rattle.live_run.specs.Parts.{live_script}
 use Rattle.console_server.specs.Server.{CutAt}
 use Rattle.live_serve.specs.Talks.{IsTalk, IsCutTalk}
+use Rattle.live_serve.specs.Live.{StopsInTurn}
+use Rattle.live_serve.specs.Stops.{script_so_far}
 use Rattle.ctss_modes.specs.declared.outcome.Outcome.{Outcome}
 use Rattle.ctss_modes.specs.Devices.{DevicesSeen}
 use Rattle.ctss_modes.specs.Top.{IsRun}
@@ -24,14 +33,32 @@ LiveScriptsAreRead =
     → length (script_text_of (live_script base events (1000 * turns))) ≤ max_bytes
     → script_of (script_text_of (live_script base events (1000 * turns))) ≡ Ok (live_script base events (1000 * turns))
 
--- What live consoles wrote is a script's text and a report. Where that text isn't too long, a run of `replay` to which it came, and all of it,
--- has the same record, and has written just the report.
+-- A run of `replay` of a script's text is a run of that script. If the records on drum and disk are observable in this run and in the first
+-- run, both have the same record, and exactly the first run's report is written.
+pub record IsReplayed (script : Script) (told : Bool) (first : Record) (was now : DevicesSeen) (again : Outcome) (replay : IsRun Replay was now again) : Type 0 where
+  pub script_is : replay.script ≡ script
+  pub same : told ≡ true → was.media.tells ≡ true → again.run ≡ first
+  pub written : told ≡ true → was.media.tells ≡ true → now.output.held ≡ after was.output.held (report_of script first false)
+
+-- Live consoles write the text of their run's script, and then the report of their run. If that text isn't too long, it reads as that
+-- script, and each run of `replay` that has exactly this text to read repeats the run.
 abbrev pub LiveRunsAreReplayed : Type 0
 LiveRunsAreReplayed =
-    (port turns : ℕ) (old new : DevicesSeen) (served : Outcome) → turns ≤ 100000 → old.media.tells ≡ true → IsRun (Serve port turns) old new served
-    → (script report : List ℕ) × (new.output.held ≡ after old.output.held (script ++ report))
-    × (length script ≤ max_bytes → (was now : DevicesSeen) (again : Outcome) → was.media.tells ≡ true → was.input.left ≡ Some script → IsRun Replay was now again
-    → (again.run ≡ served.run) × (now.output.held ≡ after was.output.held report))
+    (port turns : ℕ) (old new : DevicesSeen) (served : Outcome) → turns ≤ 100000 → (run : IsRun (Serve port turns) old new served)
+    → (new.output.held ≡ after old.output.held (script_text_of run.script ++ report_of run.script served.run false))
+    × (length (script_text_of run.script) ≤ max_bytes
+    → (script_of (script_text_of run.script) ≡ Ok run.script)
+    × ((was now : DevicesSeen) (again : Outcome) (replay : IsRun Replay was now again) → was.input.left ≡ Some (script_text_of run.script)
+    → IsReplayed run.script old.media.tells served.run was now again replay))
+
+-- If a load stopped a turn of live consoles, they ask no more of the drum than the run of their script so far. The blocks that they have
+-- moved and all that the next load would move are at most those that this script's record moves.
+abbrev pub LiveStoppedLoadsAreFew : Type 0
+LiveStoppedLoadsAreFew =
+    (bytes : List ℕ) (base : Script) (told : Bool) (port turns : ℕ) (at : CutAt) (a b : LinkSeen) → base_of bytes ≡ Ok base → (talk : IsCutTalk base told port turns at a b)
+    → (was now : MediaSeen) (rec : Record) (stop : StopsInTurn base talk was now rec) →
+    let all = record_of (script_so_far base talk) in
+    dumped_in rec.entries + read_in rec.entries + calls_to_load stop.load.due.user stop.turn.run ≤ dumped_in all.entries + read_in all.entries
 
 -- the link listed so many calls more at most
 pub record ListsFew (most : ℕ) (list : CallList) (b : LinkSeen) : Type 0 where

@@ -7,7 +7,7 @@
 
 mod consoles;
 
-ghost use Rattle.serve_laws.specs.Laws.{LiveScriptsAreRead, LiveRunsAreReplayed, CallsOfTalksAreTold, CallsOfCutTalksAreTold};
+ghost use Rattle.serve_laws.specs.Laws.{LiveScriptsAreRead, LiveRunsAreReplayed, LiveStoppedLoadsAreFew, CallsOfTalksAreTold, CallsOfCutTalksAreTold};
 
 pub use consoles::{
     bytes_pass, calls_are_told, cut_events_are_visits, events_are_visits, few_calls, own_counts,
@@ -19,9 +19,15 @@ pub fn live_scripts_are_read()
     ensures { LiveScriptsAreRead }
 {}
 
-/// `replay` of the first part of what `serve` wrote gives its second part.
+/// `serve` writes its script's text and then the report of its run. If that text isn't too long, it reads as that script, and
+/// `replay` of it writes exactly that report.
 pub fn live_runs_are_replayed()
     ensures { LiveRunsAreReplayed }
+{}
+
+/// If a load stopped a turn of live consoles, they ask no more of the drum than the run of their script so far.
+pub fn live_stopped_loads_are_few()
+    ensures { LiveStoppedLoadsAreFew }
 {}
 
 /// A link that lists its calls lists all that live consoles made, where it has room for 164,000 a turn and 100 more.

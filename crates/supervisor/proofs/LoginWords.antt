@@ -6,8 +6,8 @@ use Rattle.time_sharing.specs.System.{at}
 use Rattle.ctss_types.specs.declared.script.Account.{Account}
 use Rattle.system_model.specs.World.{asked_by, password_by, account_in}
 use Rattle.user_model.specs.Requests.{word_name}
-use Rattle.supervisor.specs.declared.accounts.Login.TheVariants.{Right, Unknown, Already}
-use Rattle.supervisor.specs.Logins.{login_by}
+use Rattle.accounts.specs.declared.table.Login.TheVariants.{Right, Unknown, Already}
+use Rattle.accounts.specs.Logins.{login_by}
 
 pub asked_two : (ws : List Line) → length ws ≡ 2 → asked_by ws ≡ cond (bytes_eq (get_or ws 0 []) (codes "LOGIN")) (word_name (get_or ws 1 [])) None
 asked_two [] e = absurd (omega (arith, e))

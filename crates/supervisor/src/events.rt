@@ -10,9 +10,9 @@ ghost use Rattle.system_model.specs.Cases.{quit_taken, hang_taken, spent_taken, 
 ghost use Rattle.system_model.specs.Sound.{Sound, HasSeat};
 ghost use Rattle.supervisor.specs.Seen.{run_seen, number_of, BecomesIf, StaysIf, LeavesIf, CutsIf};
 
-use crate::accounts::Login;
+use accounts::Login;
 use crate::login::{asked, mark_on, password_in};
-use crate::notes::{idle_note, leave_consoles, note, note_some, service_left, stop_note};
+use schedule_notes::{idle_note, leave_consoles, note, note_some, service_left, stop_note};
 use crate::state::State;
 use ctss_types::{Console, ConsoleNo, Entry, Event, EventKind, LineText, NoMemory, Timed, UserNo};
 use level_queues::Queues;

@@ -5,11 +5,9 @@
 //! the schedule stands in `notes`, who a name and a password are in `accounts`, and the words of a line in `words`.
 #![tactic(auto)]
 
-mod accounts;
 mod events;
 mod finish;
 mod login;
-mod notes;
 mod once;
 mod service;
 mod start;

@@ -5,7 +5,7 @@ ghost use Rattle.time_sharing.specs.System.{at};
 ghost use Rattle.system_model.specs.World.{asked as asked_in, password_by};
 ghost use Rattle.system_model.specs.Cases.{user_at};
 
-use crate::accounts::Accounts;
+use accounts::Accounts;
 use crate::words::split;
 use ctss_types::{LineText, UserNo};
 use dialogue::command_table::word_name;

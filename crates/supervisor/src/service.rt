@@ -10,7 +10,7 @@ ghost use Rattle.plan_model.specs.Loads.{no_places};
 ghost use Rattle.std.specs.Option.{is_some};
 ghost use Rattle.supervisor.specs.Seen.{left_queues, Becomes, BecomesIf, StaysIf, run_seen};
 
-use crate::notes::{cause_of, idle_from, leave_consoles, note, note_clock, note_step};
+use schedule_notes::{cause_of, idle_from, leave_consoles, note, note_clock, note_step};
 use crate::state::State;
 use ctss_types::{Cause, Ending, Entry, NoMemory, Service, UserNo};
 use level_queues::{Charge, Queues};

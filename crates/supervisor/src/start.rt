@@ -9,7 +9,7 @@ ghost use Rattle.system_model.specs.Record.{start_of};
 ghost use Rattle.system_model.specs.Sound.{Sound};
 ghost use Rattle.supervisor.specs.Seen.{run_seen};
 
-use crate::accounts::Accounts;
+use accounts::Accounts;
 use crate::state::State;
 use ctss_types::{Account, Console, NoMemory, Script};
 use level_queues::Queues;

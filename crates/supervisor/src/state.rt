@@ -7,8 +7,8 @@ ghost use Rattle.system_model.specs.Run.{with_one_event, due_of};
 ghost use Rattle.system_model.specs.Cases.{closed};
 ghost use Rattle.supervisor.specs.Seen.{run_seen, bare_of, BecomesIf, StaysIf};
 
-use crate::accounts::Accounts;
-use crate::notes::{end_note, idle_note, note_some};
+use accounts::Accounts;
+use schedule_notes::{end_note, idle_note, note_some};
 use console_texts::Transcripts;
 use ctss_types::{Console, Entry, Event, Item, NoMemory, Service, Timed};
 use level_queues::Queues;

@@ -32,10 +32,15 @@ stop_text why place = why ++ (codes " AT " ++ octal_digits 5 place)
 unfoldable pub fault_text : ℕ × ℕ → Line
 fault_text f = codes "CARD " ++ (decimal f.0 ++ (codes " FAULT " ++ decimal f.1))
 
+-- a word and a text, with a blank between them unless there is no text: no line ends with a blank
+abbrev pub with_text : Line → Line → Line
+with_text word [] = word
+with_text word (x ∷ text) = word ++ 32 ∷ x ∷ text
+
 -- a name that two of the linked modules enter
 unfoldable pub doubly_text : ℕ → Line
-doubly_text name = codes "DOUBLY " ++ text_of_name name
+doubly_text name = with_text (codes "DOUBLY") (text_of_name name)
 
 -- a name that none of the linked modules enters
 unfoldable pub undefined_text : ℕ → Line
-undefined_text name = codes "UNDEFINED " ++ text_of_name name
+undefined_text name = with_text (codes "UNDEFINED") (text_of_name name)

@@ -52,7 +52,7 @@ returns-in-Err-Refused-clause-answers g c = λ link.
     cut_short words mode asked reads _ _ c.refuse_script.result c.in-Ok.bytes.items refusal number c.in-Ok.ensures.bytes c.in-Ok.ensures.end said why
     (did.cut h)
     (subst (λ (r : ScriptRefusal). GrewByProperPrefix (g.K.Sink.held c.args.sink.now) (script_refused r.card number) (g.K.Sink.held c.refuse_script.new.sink)) c.in-Err-Refused.refusal-is (did.part h))
-    refl)
+    refl refl)
     did.cause did.memory did.silent
 
 pub returns-clause-answers : goal.returns-clause-answers

@@ -1,4 +1,4 @@
-use Rattle.std.proofs.Common.{rules, ◌≡◌, ℕ, ◌<◌, false, refl, ap, ◌∙◌, arith}
+use Rattle.std.proofs.Common.{rules, ◌≡◌, ℕ, ◌<◌, ◌≤◌, false, refl, ap, ◌∙◌, arith}
 use Rattle.plan_model.specs.Levels.{Levels, waits, is_in}
 use Rattle.level_queues.proofs.Counts.{room, sound_enter}
 use Rattle.level_queues.proofs.Spending.{empty_enter}
@@ -9,8 +9,9 @@ pub add_in-requires-clause-room : goal.add_in-requires-clause-room
 unfolding waits
 add_in-requires-clause-room c =
     let out : is_in c.args.user c.self.inside.rows ≡ false = ap (λ (q : Levels). is_in c.args.user q.rows) c.self.view_is ∙ c.requires.out in
+    let some : 1 ≤ c.args.user = omega (arith, c.number.ensures.value, c.number.ensures.range.0) in
     let few : c.args.user < 31 = omega (arith, c.number.ensures.value, c.number.ensures.range.1) in
-    room c.self.inside.wq c.self.inside.quantum c.self.inside.rows c.args.user c.args.level c.self.invariant.0 out few
+    room c.self.inside.wq c.self.inside.quantum c.self.inside.rows c.args.user c.args.level c.self.invariant.0 out some few
 
 pub invariant_of-self : goal.invariant_of-self
 unfolding waits

@@ -4,6 +4,6 @@
 mod notes;
 
 pub use notes::{
-    cause_of, end_note, idle_from, idle_note, leave_consoles, note, note_clock, note_some, note_step,
-    service_left, stop_note,
+    cause_of, end_note, idle_from, idle_note, leave_consoles, note, note_clock, note_some,
+    note_step, service_left, stop_note,
 };

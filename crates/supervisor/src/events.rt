@@ -10,12 +10,12 @@ ghost use Rattle.system_model.specs.Cases.{quit_taken, hang_taken, spent_taken, 
 ghost use Rattle.system_model.specs.Sound.{Sound, HasSeat};
 ghost use Rattle.supervisor.specs.Seen.{run_seen, number_of, BecomesIf, StaysIf, LeavesIf, CutsIf};
 
-use accounts::Login;
 use crate::login::{asked, mark_on, password_in};
-use schedule_notes::{idle_note, leave_consoles, note, note_some, service_left, stop_note};
 use crate::state::State;
+use accounts::Login;
 use ctss_types::{Console, ConsoleNo, Entry, Event, EventKind, LineText, NoMemory, Timed, UserNo};
 use level_queues::Queues;
+use schedule_notes::{idle_note, leave_consoles, note, note_some, service_left, stop_note};
 use user_session::{Put, Session};
 use word36::Word;
 

@@ -5,8 +5,8 @@ ghost use Rattle.time_sharing.specs.System.{at};
 ghost use Rattle.system_model.specs.World.{asked as asked_in, password_by};
 ghost use Rattle.system_model.specs.Cases.{user_at};
 
-use accounts::Accounts;
 use crate::words::split;
+use accounts::Accounts;
 use ctss_types::{LineText, UserNo};
 use dialogue::command_table::word_name;
 use user_session::Session;

@@ -10,10 +10,10 @@ ghost use Rattle.plan_model.specs.Loads.{no_places};
 ghost use Rattle.std.specs.Option.{is_some};
 ghost use Rattle.supervisor.specs.Seen.{left_queues, Becomes, BecomesIf, StaysIf, run_seen};
 
-use schedule_notes::{cause_of, idle_from, leave_consoles, note, note_clock, note_step};
 use crate::state::State;
 use ctss_types::{Cause, Ending, Entry, NoMemory, Service, UserNo};
 use level_queues::{Charge, Queues};
+use schedule_notes::{cause_of, idle_from, leave_consoles, note, note_clock, note_step};
 use user_cores::Plan;
 use user_session::Step;
 

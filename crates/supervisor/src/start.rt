@@ -9,8 +9,8 @@ ghost use Rattle.system_model.specs.Record.{start_of};
 ghost use Rattle.system_model.specs.Sound.{Sound};
 ghost use Rattle.supervisor.specs.Seen.{run_seen};
 
-use accounts::Accounts;
 use crate::state::State;
+use accounts::Accounts;
 use ctss_types::{Account, Console, NoMemory, Script};
 use level_queues::Queues;
 use std::alloc::Global;

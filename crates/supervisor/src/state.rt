@@ -8,10 +8,10 @@ ghost use Rattle.system_model.specs.Cases.{closed};
 ghost use Rattle.supervisor.specs.Seen.{run_seen, bare_of, BecomesIf, StaysIf};
 
 use accounts::Accounts;
-use schedule_notes::{end_note, idle_note, note_some};
 use console_texts::Transcripts;
 use ctss_types::{Console, Entry, Event, Item, NoMemory, Service, Timed};
 use level_queues::Queues;
+use schedule_notes::{end_note, idle_note, note_some};
 use std::collections::VecDeque;
 use user_session::Session;
 

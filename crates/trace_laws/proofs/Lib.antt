@@ -1,0 +1,6 @@
+pub mod Copied
+pub mod Moments
+pub mod Events
+pub mod Queues
+pub mod Texts
+pub mod Whole

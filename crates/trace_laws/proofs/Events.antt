@@ -12,10 +12,9 @@ use Rattle.system_model.specs.World.{asked, check}
 use Rattle.system_model.specs.Run.{Run, next, at_console, by_due, due_of}
 use Rattle.system_model.specs.Cases.{heard, line_taken, login_taken, user_at, with_user}
 use Rattle.system_model.proofs.CaseLaws.{next_due, taken_at, off_dials, on_name, logs_in, in_types}
-use Rattle.trace_laws.specs.Copied.{TracedUser, track_quota, tracer}
+use Rattle.program_trace.specs.Lone.{TracedUser, track_quota, tracer}
 use Rattle.trace_laws.specs.Scripts.{at_once, types_at_once}
 use Rattle.trace_laws.specs.Laws.{IsStateAt}
-use Rattle.trace_laws.proofs.Copied.{opened_lines, typed_lines}
 use Rattle.trace_laws.proofs.Moments.{Reaches, reaches_next, Follows}
 
 -- A moment before any step, at which the one user is this one, the first console so, and these events are to come.
@@ -30,6 +29,11 @@ pub record Hears (limit : ℕ) (start : Run) (seat : Console) (p : User) (es : L
   pub service : r.system.service ≡ None
   pub seats : r.system.consoles ≡ seat ∷ replicate 31 Off
   pub events : r.system.events ≡ es
+
+-- a line more counts as one
+typed_lines : (p : User) (l : Line) → (typed l p).lines ≡ suc p.lines
+unfolding typed
+typed_lines p l = refl
 
 -- what the login asks for, and whose it is
 asks_name : asked (codes "LOGIN TRACER") ≡ Some (name_of (codes "TRACER"))

@@ -1,4 +1,3 @@
-pub mod Copied
 pub mod Moments
 pub mod Events
 pub mod Queues

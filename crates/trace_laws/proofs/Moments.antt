@@ -17,9 +17,9 @@ use Rattle.system_model.specs.Cases.{brought, user_at, with_user, reply_for, com
 use Rattle.system_model.specs.Cases.{stepped as served_step}
 use Rattle.system_model.proofs.RunLaws.{after_next, run_to_next}
 use Rattle.system_model.proofs.CaseLaws.{next_due, begins, goes_on, attended_loads, attended_steps}
-use Rattle.trace_laws.specs.Copied.{TracedUser, track_quota, stepped, common_reply, common_after}
+use Rattle.program_trace.specs.Lone.{TracedUser, track_quota, stepped, common_reply, common_after}
 use Rattle.trace_laws.specs.Laws.{IsStateAt}
-use Rattle.trace_laws.proofs.Copied.{own_rises}
+use Rattle.program_trace.proofs.Sessions.{own_rises}
 
 -- a moment of a run to a limit, from which the rest of the run is that of the whole
 pub record Reaches (limit : ℕ) (start r : Run) : Type 0 where

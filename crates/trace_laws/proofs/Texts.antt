@@ -5,8 +5,10 @@ use Rattle.std.proofs.Math.Seq.{drop-append_seam}
 use Rattle.time_sharing.specs.Machine.{Item}
 use Rattle.time_sharing.specs.Rows.{in_line, out_all, line_of, result_of}
 use Rattle.user_model.specs.User.{User, step}
-use Rattle.trace_laws.specs.Copied.{TracedUser, TracedStep, stepped, goes_on, gone, steps_from, step_between}
-use Rattle.trace_laws.proofs.Copied.{gone_on, gone_still, steps_on, steps_none}
+use Rattle.program_trace.specs.Lone.{TracedUser, stepped, goes_on, gone}
+use Rattle.program_trace.specs.Traces.{steps_from, step_between}
+use Rattle.program_trace.specs.declared.types.TracedStep.{TracedStep}
+use Rattle.program_trace.proofs.States.{gone_on, gone_still, steps_on, steps_none}
 
 abbrev pub items_of : List TracedStep → List Item
 items_of steps = flat_map (λ (s : TracedStep). s.items) steps

@@ -17,10 +17,13 @@ use Rattle.system_model.specs.Cases.{closed}
 use Rattle.system_model.proofs.RunLaws.{after_none, run_to_done}
 use Rattle.system_model.proofs.CaseLaws.{closes}
 use Rattle.fair_laws.specs.Waits.{IsUsual}
-use Rattle.trace_laws.specs.Copied.{TracedUser, tracer, deck_files, begun, stepped, goes_on, gone, loaded, traced, most_lines}
+use Rattle.program_trace.specs.Lone.{TracedUser, tracer, deck_files, begun, stepped, goes_on, gone, loaded}
+use Rattle.program_trace.specs.Programs.{most_lines}
+use Rattle.program_trace.specs.Traces.{traced}
 use Rattle.trace_laws.specs.Scripts.{alone_script, owned_by_first, types_at_once, session_lines}
 use Rattle.trace_laws.specs.Laws.{IsStateAt, TracesAreRuns, TracesAreTranscripts}
-use Rattle.trace_laws.proofs.Copied.{gone_on, gone_still, own_rises, begun_can, begun_own, opened_lines, typed_lines}
+use Rattle.program_trace.proofs.Sessions.{own_rises, begun_can, begun_own, opened_lines}
+use Rattle.program_trace.proofs.States.{gone_on, gone_still}
 use Rattle.trace_laws.proofs.Moments.{Reaches, Follows, HasOne, moves_on}
 use Rattle.trace_laws.proofs.Events.{Hears, dialled, named, logged_in, lines_kept}
 use Rattle.trace_laws.proofs.Queues.{has_one}

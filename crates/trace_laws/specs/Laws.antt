@@ -4,7 +4,10 @@ use Rattle.std.specs.List.{flat_map}
 use Rattle.time_sharing.specs.Machine.{Line, Item}
 use Rattle.system_model.specs.Run.{Run, AfterSteps}
 use Rattle.system_model.specs.Record.{start_of, record_of}
-use Rattle.trace_laws.specs.Copied.{TracedUser, gone, loaded, most_lines, TracedStep, traced}
+use Rattle.program_trace.specs.Lone.{TracedUser, gone, loaded}
+use Rattle.program_trace.specs.Programs.{most_lines}
+use Rattle.program_trace.specs.Traces.{traced}
+use Rattle.program_trace.specs.declared.types.TracedStep.{TracedStep}
 use Rattle.trace_laws.specs.Scripts.{alone_script}
 
 -- says that a moment of a run has the state of a program run alone: its user, its common files, and as many ticks as steps

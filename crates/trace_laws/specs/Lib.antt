@@ -1,3 +1,2 @@
-pub mod Copied
 pub mod Scripts
 pub mod Laws

@@ -7,7 +7,7 @@ use Rattle.ctss_types.specs.declared.file.FileBody.{FileBody}
 use Rattle.ctss_types.specs.declared.file.OwnedFile.{OwnedFile}
 use Rattle.time_sharing.specs.Machine.{Line}
 use Rattle.time_sharing.specs.System.{Event, Dials, Types}
-use Rattle.trace_laws.specs.Copied.{track_quota, tracer, deck_files}
+use Rattle.program_trace.specs.Lone.{track_quota, tracer, deck_files}
 
 -- sets the numbers of PARAM: a load takes no tick, nobody rises, and the common files have the tracks that a trace gives them
 abbrev pub alone_params : (wq quantum : ℕ) → Params

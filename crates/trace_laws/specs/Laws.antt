@@ -1,4 +1,4 @@
--- claim: the trace of a program is the transcript of a script's record, and each of its states is a moment of that script's run.
+-- claim: the trace of a program is the transcript of a script's record, and its states are moments of the script's run.
 use Rattle.std.specs.Prelude.{◌≡◌, ℕ, ◌<◌, ◌≤◌, List, [], ◌∷◌, ◌++◌, length}
 use Rattle.std.specs.List.{flat_map}
 use Rattle.time_sharing.specs.Machine.{Line, Item}
@@ -10,28 +10,32 @@ use Rattle.program_trace.specs.Traces.{traced}
 use Rattle.program_trace.specs.declared.types.TracedStep.{TracedStep}
 use Rattle.trace_laws.specs.Scripts.{alone_script}
 
--- says that a moment of a run has the state of a program run alone: its user, its common files, and as many ticks as steps
+-- says that a run has just this user and these common files, and that as many ticks have passed as the user did steps
 pub record IsStateAt (a : TracedUser) (r : Run) : Type 0 where
   pub users : r.system.users ≡ a.user ∷ []
   pub common : r.system.files ≡ a.common
   pub clock : r.system.clock ≡ a.user.own
 
--- counts the ticks from the login to the end of a trace: each step takes one
+-- counts the ticks from the login to the end of a trace: each step takes one, those of LOADGO too
 abbrev pub ticks_of_trace : ℕ → (deck : List ℕ) → List Line → ℕ
 ticks_of_trace n deck lines = (gone n (loaded deck lines)).user.own
 
--- joins what is read and written until the program is loaded, and what the trace shows of each step
+-- joins what is read and written until the program is loaded, and behind it what the trace shows of each step
 abbrev pub text_of_trace : ℕ → (deck : List ℕ) → List Line → List Item
-text_of_trace n deck lines = (loaded deck lines).user.transcript ++ flat_map (λ (s : TracedStep). s.items) (traced n deck lines).steps
+text_of_trace n deck lines =
+    (loaded deck lines).user.transcript ++ flat_map (λ (s : TracedStep). s.items) (traced n deck lines).steps
 
--- Says that the state after n steps of a program is that of a moment of the script's run, which the script's end must leave time for.
+-- Says that the state of a program after n steps is that of a moment of the script's run, unless the script ends before.
 abbrev pub TracesAreRuns : Type 0
 TracesAreRuns =
-    (wq quantum n end : ℕ) (deck : List ℕ) (lines : List Line) → 0 < quantum → length lines ≤ most_lines → ticks_of_trace n deck lines ≤ end →
-    (r : Run) × AfterSteps end (start_of (alone_script wq quantum deck lines end)) r × IsStateAt (gone n (loaded deck lines)) r
+    (wq quantum n end : ℕ) (deck : List ℕ) (lines : List Line) → 0 < quantum → length lines ≤ most_lines →
+    ticks_of_trace n deck lines ≤ end →
+    let script = alone_script wq quantum deck lines end in
+    (r : Run) × AfterSteps script.end (start_of script) r × IsStateAt (gone n (loaded deck lines)) r
 
--- Says that the record of the script that ends where the trace does has one transcript: what the trace shows.
+-- Says that the script that ends where the trace does has a record with one transcript: what the trace shows.
 abbrev pub TracesAreTranscripts : Type 0
 TracesAreTranscripts =
     (wq quantum n : ℕ) (deck : List ℕ) (lines : List Line) → 0 < quantum → length lines ≤ most_lines →
-    (record_of (alone_script wq quantum deck lines (ticks_of_trace n deck lines))).transcripts ≡ text_of_trace n deck lines ∷ []
+    let script = alone_script wq quantum deck lines (ticks_of_trace n deck lines) in
+    (record_of script).transcripts ≡ text_of_trace n deck lines ∷ []

@@ -65,7 +65,8 @@ module _ (limit : ℕ) (start : Run) (some : 0 < limit) where
 
   -- an event that no session hears
   is_heard : (seat now : Console) (p : User) (e : Event) (es : List Timed) (r : Run) (kind : EventKind)
-      → (more : List Entry) → Hears limit start seat p (at_once e ∷ es) r → at_console 1 seat e r ≡ heard 1 kind now more r
+      → (more : List Entry) → Hears limit start seat p (at_once e ∷ es) r
+      → at_console 1 seat e r ≡ heard 1 kind now more r
       → Hears limit start now p es (heard 1 kind now more r)
   unfolding heard
   is_heard seat now p e es r kind more h is =
@@ -89,7 +90,8 @@ module _ (limit : ℕ) (start : Run) (some : 0 < limit) where
       (heard 1 DialTaken On [] r, is_heard Off On p Dials es r DialTaken [] h is)
 
   pub named : (p : User) (es : List Timed) (r : Run)
-      → Hears limit start On p (types_at_once (codes "LOGIN TRACER") ∷ es) r → (s : Run) × Hears limit start (Password tracer_name) p es s
+      → Hears limit start On p (types_at_once (codes "LOGIN TRACER") ∷ es) r
+      → (s : Run) × Hears limit start (Password tracer_name) p es s
   named p es r h =
       let line = codes "LOGIN TRACER" in
       let now = Password tracer_name in
@@ -123,7 +125,8 @@ module _ (limit : ℕ) (start : Run) (some : 0 < limit) where
 
   -- a line of the session
   line_kept : (l : Line) (p : User) (es : List Timed) (r : Run)
-      → Hears limit start (Session 1) p (types_at_once l ∷ es) r → p.lines < 2048 → Hears limit start (Session 1) (typed l p) es (line_taken 1 1 l r)
+      → Hears limit start (Session 1) p (types_at_once l ∷ es) r → p.lines < 2048
+      → Hears limit start (Session 1) (typed l p) es (line_taken 1 1 l r)
   unfolding line_taken
   line_kept l p es r h few =
       let fits = subst (λ (us : List User). (user_at 1 us).lines < 2048) (sym h.users) few in

@@ -25,7 +25,7 @@ abbrev pub text_of_trace : ℕ → (deck : List ℕ) → List Line → List Item
 text_of_trace n deck lines =
     (loaded deck lines).user.transcript ++ flat_map (λ (s : TracedStep). s.items) (traced n deck lines).steps
 
--- Says that the state of a program after n steps is that of a moment of the script's run, unless the script ends before.
+-- Says that the state of a program after n steps is that of a moment of the script's run, unless it ends before.
 abbrev pub TracesAreRuns : Type 0
 TracesAreRuns =
     (wq quantum n end : ℕ) (deck : List ℕ) (lines : List Line) → 0 < quantum → length lines ≤ most_lines →

@@ -1,0 +1,5 @@
+pub mod Moments
+pub mod Events
+pub mod Queues
+pub mod Texts
+pub mod Whole

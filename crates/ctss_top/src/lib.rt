@@ -3,12 +3,12 @@
 //! What each mode does stands in ctss_modes, with all definitions that the clauses name.
 #![tactic(auto)]
 
-ghost use Rattle.std.specs.Prelude.{◌≡◌, ◌∷◌, [], Some, true};
+ghost use Rattle.std.specs.Prelude.{◌≡◌, ◌≤◌, ◌∷◌, [], ℕ, List, Some, true};
 ghost use Rattle.drum_slots.specs.Kept.{ServesSlots};
 ghost use Rattle.track_store.specs.Tracks.{ServesTracks};
 ghost use Rattle.text_model.specs.Words.{mode_of};
 ghost use Rattle.ctss_modes.specs.Outcomes.{IsOneOf};
-ghost use Rattle.ctss_modes.specs.Modes.{ModeAsked, runs_script};
+ghost use Rattle.ctss_modes.specs.Modes.{ModeAsked, runs_script, turns_asked};
 ghost use Rattle.ctss_modes.specs.Asm.{DeckIsWritten};
 ghost use Rattle.ctss_modes.specs.Devices.{devices_seen};
 ghost use Rattle.ctss_modes.specs.Top.{IsRun, RunIsStopped, RunLosesFiles, IsRefusal, HasCause, LeavesUnasked, IsCutOff, IsSilent, SpendsFor};
@@ -105,3 +105,9 @@ pub fn run_ctss<S: Source, K: Sink, D: Medium, F: Medium, L: Link>(
         Err(_) => Outcome::bare(alloc, 8, 0, 0),
     }
 }
+
+/// Words never ask for more than 100,000 turns. This is a law, and the function does nothing.
+#[tactic(auto, using(crate::proofs::Asked::few_turns))]
+pub fn turns_are_few()
+    ensures { (words : List (List ℕ)) → turns_asked (mode_of words) ≤ 100000 }
+{}

@@ -1,0 +1,5 @@
+pub mod Ready
+pub mod Devices
+pub mod Replays
+pub mod Cards
+pub mod Consoles

@@ -21,7 +21,9 @@ use Rattle.file_tracks.specs.Lying.{LieOn}
 use Rattle.ctss_modes.specs.Top.{IsRun}
 use Rattle.promises.specs.Machines.{IsReady}
 use Rattle.serve_laws.specs.Laws.{LiveScriptsAreRead}
-use Rattle.promises.specs.Sentences.{IsReplayed, AgreesOf, IsServed, WritesItsReplay}
+use Rattle.serve_laws.specs.VisitLaws.{EventsAreVisits}
+use Rattle.promises.proofs.Sent.{served_at}
+use Rattle.promises.specs.Sentences.{IsReplayed, AgreesOf, IsServed, IsServedAt, WritesItsReplay}
 use Rattle.promises.specs.declared.machine.Machine.{Machine}
 use Rattle.promises.specs.declared.replaying.Answered.{Answered}
 use Rattle.ctss_io.specs.Memory.{SourceState, SinkState}
@@ -30,9 +32,9 @@ use Rattle.std.proofs.lemmas.List.{take_min}
 use Rattle.std.proofs.Math.Seq.{take-append_seam, drop-append_seam}
 use Rattle.promises.proofs.Devices.{seen, source, sink, shows, all_read, written, of_made}
 
-pub is_served : (base : List ℕ) (room port turns : ℕ) (old new : Machine) (a : Answered) → IsReady old
+pub is_served : EventsAreVisits → (base : List ℕ) (room port turns : ℕ) (old new : Machine) (a : Answered) → IsReady old
     → IsRun (Serve port turns) (seen (source base []) (sink room []) old) (seen a.input a.output new) a.outcome → IsServed base port turns old new a
-is_served base room port turns old new a ready run =
+is_served law base room port turns old new a ready run =
     let open_records = shows old ready in
     let is = run.run open_records in
     let c = run.comes in
@@ -43,6 +45,10 @@ is_served base room port turns old new a ready run =
       script = run.script;
       script_is = c.script_is;
       talk = subst (λ told. IsTalk c.base told port turns c.events (memory_seen old.link) (memory_seen new.link)) open_records c.talk;
+      people = λ console lowest.
+          subst (λ (s : Script). IsServedAt s turns console (memory_seen new.link)) (sym c.script_is)
+          (served_at law c.base port turns c.events (memory_seen old.link) (memory_seen new.link)
+          (subst (λ told. IsTalk c.base told port turns c.events (memory_seen old.link) (memory_seen new.link)) open_records c.talk) console lowest);
       run =
           record {
             record_is = is;
@@ -55,10 +61,10 @@ is_served base room port turns old new a ready run =
           ∙ ap (λ (r : Record). script_text_of run.script ++ report_of run.script r false) is;
     }
 
-pub serve_done : (base : List ℕ) (room port turns : ℕ) (old new : Machine) (a : Answered) (input : SourceState) (output : SinkState) → input ≡ source base [] → output ≡ sink room [] → IsReady old
+pub serve_done : EventsAreVisits → (base : List ℕ) (room port turns : ℕ) (old new : Machine) (a : Answered) (input : SourceState) (output : SinkState) → input ≡ source base [] → output ≡ sink room [] → IsReady old
     → IsRun (Serve port turns) (seen input output old) (seen a.input a.output new) a.outcome → IsServed base port turns old new a
-serve_done base room port turns old new a input output input_is output_is ready run =
-    is_served base room port turns old new a ready
+serve_done law base room port turns old new a input output input_is output_is ready run =
+    is_served law base room port turns old new a ready
     (of_made input (source base []) output (sink room []) (λ i o. IsRun (Serve port turns) (seen i o old) (seen a.input a.output new) a.outcome) input_is output_is run)
 
 same_ok : (s t : Script) → ◌≡◌ {A = Result Script ScriptRefusal} (Ok s) (Ok t) → s ≡ t

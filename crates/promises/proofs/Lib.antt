@@ -3,3 +3,4 @@ pub mod Devices
 pub mod Replays
 pub mod Cards
 pub mod Consoles
+pub mod Sent

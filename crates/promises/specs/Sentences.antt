@@ -1,5 +1,6 @@
 -- claim: what the product promises of a replay, of cards and of live consoles, in a client's words.
 use Rattle.std.specs.Prelude.{◌≡◌, ◌<◌, ◌≤◌, ◌-◌, ◌*◌, ℕ, true, false, List, [], ◌∷◌, ◌++◌, length, take, drop, get_or, Some, Ok, Err}
+use Rattle.std.specs.List.{All, flat_map}
 use Rattle.faults.specs.Faults.{Rose}
 use Rattle.ctss_types.specs.declared.script.Script.{Script}
 use Rattle.ctss_types.specs.declared.script.Timed.{Timed}
@@ -14,14 +15,17 @@ use Rattle.text_model.specs.Reading.{script_of, max_bytes}
 use Rattle.text_model.specs.Report.{report_of}
 use Rattle.text_model.specs.Words.{script_refused, faults_text}
 use Rattle.script_read.specs.Bases.{base_of}
-use Rattle.system_model.specs.Record.{record_of, first_of_user, EachIsAlone, IsOneList}
+use Rattle.system_model.specs.Record.{start_of, record_of, first_of_user, EachIsAlone, IsOneList}
 use Rattle.supervisor.specs.Counts.{IsCounted, IsCountedToLoad}
 use Rattle.file_tracks.specs.Lying.{LieOn}
 use Rattle.fap_model.specs.Decks.{deck, faulty}
+use Rattle.console_texts.specs.Watching.{texts_to}
+use Rattle.console_link.specs.Links.{LinkSeen}
 use Rattle.console_link.specs.Memory.{memory_seen}
+use Rattle.console_server.specs.Visits.{Visit, events_at, events_of_visit, IsSentFrom}
 use Rattle.live_run.specs.Beginnings.{IsBeginning, IsBeginningOf}
 use Rattle.live_run.specs.Parts.{live_script}
-use Rattle.live_serve.specs.Talks.{IsTalk}
+use Rattle.live_serve.specs.Talks.{IsTalk, silent}
 use Rattle.ctss_modes.specs.Asm.{assembled_from}
 use Rattle.ctss_modes.specs.Devices.{Stands}
 use Rattle.ctss_modes.specs.Outcomes.{IsOneOf}
@@ -146,6 +150,17 @@ AgreesOf u v one other first second =
     first_of_user one u ≡ first_of_user other v → feed_of u one.events first.entries ≡ feed_of v other.events second.entries →
     (get_or first.transcripts (u - 1) [] ≡ get_or second.transcripts (v - 1) []) × (get_or first.files (u - 1) [] ≡ get_or second.files (v - 1) [])
 
+-- What the script has of a console is what its visitors typed, one after another. If the link's bytes are observable, these are all bytes
+-- that were taken from them, and what each was sent is a beginning of the console's text in the run of the script, from where that text
+-- ended when the visitor came.
+pub record IsServedAt (script : Script) (turns console : ℕ) (link : LinkSeen) : Type 0 where
+  pub visits : List Visit
+  pub heard : events_at console script.events ≡ flat_map events_of_visit visits
+  pub taken : link.tells ≡ true → All (λ (v : Visit). (link.passed v.id).taken ≡ v.bytes) visits
+  pub sent :
+      link.tells ≡ true
+      → All (λ (v : Visit). IsSentFrom v.place (get_or (texts_to (1000 * turns) (start_of script) silent) (console - 1) []) (link.passed v.id).sent) visits
+
 -- Status 0 of live consoles: what was written is the script of the base and of what people typed, and its report.
 pub record IsServed (base : List ℕ) (port turns : ℕ) (old new : Machine) (a : Answered) : Type 0 where
   pub first : Script
@@ -154,6 +169,7 @@ pub record IsServed (base : List ℕ) (port turns : ℕ) (old new : Machine) (a 
   pub script : Script
   pub script_is : script ≡ live_script first events (1000 * turns)
   pub talk : IsTalk first true port turns events (memory_seen old.link) (memory_seen new.link)
+  pub people : (console : ℕ) → 1 ≤ console → IsServedAt script turns console (memory_seen new.link)
   pub run : IsRunOf script a.outcome.run old new
   pub text : a.output.held ≡ script_text_of script ++ report_of script (record_of script) false
 

@@ -9,6 +9,7 @@ use crate::replaying::Answered;
 use ctss_io::{MemorySink, MemorySource};
 use ctss_top::{ArgList, run_ctss};
 use faults::NoMemory;
+use serve_laws::events_are_visits;
 use std::alloc::Global;
 use text_model::Mode;
 
@@ -26,6 +27,8 @@ pub fn serve(
     requires asked { mode_of words.now ≡ Some (Mode.Serve port turns) }
     ensures { IfOk result (λ a. a.outcome.status ≡ 0 → IsServed base.now port turns machine.old machine.new a) }
 {
+    // A law, which this client may know.
+    events_are_visits();
     let mut input = MemorySource::new(alloc, base, 4096, &[])?;
     let mut output = MemorySink::new(alloc, room, 4096, &[])?;
     let outcome = run_ctss(
